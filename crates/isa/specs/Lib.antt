@@ -1,0 +1,4 @@
+pub mod Immediate
+pub mod Instr
+pub mod Encode
+pub mod Decode
