@@ -1,0 +1,60 @@
+-- Steps and runs of the machine, and code in memory.
+use mathlib.Core.Path.{_≡_}
+use mathlib.Core.Bool.{cond}
+use mathlib.Core.Option.{Option, some, none, Option·map}
+use mathlib.Core.List.{List, [], _∷_, map}
+use Prim.Native.Nat.{ℕ, zero, suc, _+_, _%_}
+use lib.Dec.{eqb}
+use Rattle.isa.specs.Instr.{Instr, Valid}
+use Rattle.isa.specs.Encode.{encode}
+use Rattle.isa.specs.Decode.{decode}
+use Rattle.machine.specs.Word.{w64, load4}
+use Rattle.machine.specs.Floats.{Floats}
+use Rattle.machine.specs.State.{State}
+use Rattle.machine.specs.Effect.{exec}
+
+-- what f makes of the value, if there is one
+module _ {X Y : Type 0} where
+  abbrev pub and-then : Option X → (X → Option Y) → Option Y
+  and-then (some x) f = f x
+  and-then none f = none
+
+-- The word at pc; none where pc is no multiple of 4.
+unfoldable pub fetch : State → Option ℕ
+fetch s = cond (eqb (s .pc % 4) 0) (some (load4 (s .mem) (s .pc))) none
+
+-- ---- code in memory
+
+-- The words ws stand at a, one behind another, addresses modulo 2^64.
+abbrev pub CodeAt : (ℕ → ℕ) → ℕ → List ℕ → Type 0
+CodeAt m a [] = Unit {0}
+CodeAt m a (w ∷ ws) = (load4 m a ≡ w) × CodeAt m (w64 (a + 4)) ws
+
+abbrev pub words : List Instr → List ℕ
+words is = map encode is
+
+module _ (Q : Floats) where
+  -- One step: no next state where pc is no multiple of 4 or the word there is no instruction.
+  unfoldable pub step : State → Option State
+  step s = Option·map (λ i. exec Q i s) (and-then (fetch s) decode)
+
+  -- n steps lead from one state to another
+  pub data Run : State → ℕ → State → Type 0 where
+    stop : {s : State} → Run s 0 s
+    go : {s t u : State} {n : ℕ} → step s ≡ some t → Run t n u → Run s (suc n) u
+
+  -- the state after n steps
+  unfoldable pub run : ℕ → State → Option State
+  run zero s = some s
+  run (suc n) s = and-then (step s) (run n)
+
+  -- ---- instructions one after another, wherever their words stand
+
+  abbrev pub execs : List Instr → State → State
+  execs [] s = s
+  execs (i ∷ is) s = execs is (exec Q i s)
+
+  -- What the machine asks of instructions done from a state on.
+  abbrev pub Fit : List Instr → State → Type 0
+  Fit [] s = Unit {0}
+  Fit (i ∷ is) s = Valid i × Fit is (exec Q i s)
