@@ -1,0 +1,102 @@
+-- `step` gives what an outside machine gave: one computed test over the rows of `Rows`.
+use mathlib.Core.Bool.{Bool, true, false, _&&_, cond}
+use mathlib.Core.Option.{Option, some, none}
+use mathlib.Core.List.{List, [], _∷_, _++_}
+use Prim.Native.Nat.{ℕ, zero, suc, _+_, _-_, _/_, _%_, _^_}
+use lib.Dec.{T, eqb, ltb, leb}
+use Rattle.isa.specs.Encode.{encode, join, fields}
+use Rattle.isa.specs.Decode.{decode, reading, cut}
+use Rattle.machine.specs.Word.{upd, dist, load4, load8, store8}
+use Rattle.machine.specs.Binary64.{binary64}
+use Rattle.machine.specs.State.{State, setx}
+use Rattle.machine.specs.Effect.{effect, apply}
+use Rattle.machine.specs.Step.{fetch, step}
+use Rattle.machine.proofs.Rows.{Row, row, Change, reg, freg, bytes, whole, shifts, jumps, memory, moves, sums, products, roots, comparisons, conversions, stopped}
+
+-- ---- the state before
+
+-- the value given for k, else d
+abbrev given : List (ℕ × ℕ) → ℕ → ℕ → ℕ
+given [] k d = d
+given (p ∷ ps) k d = cond (eqb (p .0) k) (p .1) (given ps k d)
+
+-- the n bytes of v from a on, and m elsewhere
+abbrev laid : (n a v : ℕ) → (ℕ → ℕ) → ℕ → ℕ
+laid n a v m y = cond (leb a y && ltb y (a + n)) (v / 256 ^ (y - a) % 256) (m y)
+
+-- the word at pc, the cell, and 0 elsewhere
+abbrev bytes-of : (word pc a v : ℕ) → ℕ → ℕ
+bytes-of w pc a v = laid 8 a v (laid 4 pc w (λ y. 0))
+
+-- A register that isn't given holds 7000 plus its number (x0 too: it must read 0), a float register 9000 plus its number.
+abbrev start : Row → State
+start (row w pc rm xs fs c pc′ cs) =
+    record {
+      pc = pc;
+      x = λ r. given xs r (7000 + r);
+      f = λ r. given fs r (9000 + r);
+      rm = rm;
+      mem = bytes-of w pc (c .0) (c .1);
+    }
+
+-- ---- the state after
+
+-- a register, a float register and the cell, where d was before
+abbrev reg-after : List Change → ℕ → ℕ → ℕ
+reg-after [] r d = d
+reg-after (reg k v ∷ cs) r d = cond (eqb k r) v (reg-after cs r d)
+reg-after (freg k v ∷ cs) r d = reg-after cs r d
+reg-after (bytes v ∷ cs) r d = reg-after cs r d
+
+abbrev freg-after : List Change → ℕ → ℕ → ℕ
+freg-after [] r d = d
+freg-after (reg k v ∷ cs) r d = freg-after cs r d
+freg-after (freg k v ∷ cs) r d = cond (eqb k r) v (freg-after cs r d)
+freg-after (bytes v ∷ cs) r d = freg-after cs r d
+
+abbrev cell-after : List Change → ℕ → ℕ
+cell-after [] d = d
+cell-after (reg k v ∷ cs) d = cell-after cs d
+cell-after (freg k v ∷ cs) d = cell-after cs d
+cell-after (bytes v ∷ cs) d = v
+
+-- p holds of all members
+module _ {X : Type 0} where
+  abbrev every : (X → Bool) → List X → Bool
+  every p [] = true
+  every p (x ∷ xs) = p x && every p xs
+
+-- p holds at the n numbers from a on
+abbrev throughout : (n a : ℕ) → (ℕ → Bool) → Bool
+throughout zero a p = true
+throughout (suc n) a p = p a && throughout n (suc a) p
+
+-- There is a next state, with the pc and the changes of the row. Looked at are all 32 registers of both kinds, the mode, the cell with
+-- the eight bytes on either side, and the word with the four on either side.
+abbrev as-made : Row → Option State → Bool
+as-made r none = false
+as-made (row w pc rm xs fs c pc′ cs) (some t) =
+    let m = bytes-of w pc (c .0) (cell-after cs (c .1)) in
+    eqb (t .pc) pc′ && eqb (t .rm) rm && throughout 32 0 (λ r. eqb (t .x r) (reg-after cs r (given xs r (7000 + r))))
+    && throughout 32 0 (λ r. eqb (t .f r) (freg-after cs r (given fs r (9000 + r))))
+    && throughout 24 (c .0 - 8) (λ y. eqb (t .mem y) (m y))
+    && throughout 12 (pc - 4) (λ y. eqb (t .mem y) (m y))
+
+abbrev agrees : Row → Bool
+agrees r = as-made r (step binary64 (start r))
+
+-- Every row: the step is what the outside machine made.
+pub rows-agree : T (every agrees (whole ++ (shifts ++ (jumps ++ (memory ++ (moves ++ (sums ++ (products ++ (roots ++ (comparisons ++ conversions))))))))))
+unfolding whole shifts jumps memory moves sums products roots comparisons conversions step fetch decode reading cut encode join fields effect apply setx upd dist load4 load8 store8 binary64
+rows-agree = tt
+
+-- ---- no next state
+
+abbrev none-after : Option State → Bool
+none-after none = true
+none-after (some t) = false
+
+-- Every word and pc of `stopped`: there is no step.
+pub stopped-stop : T (every (λ p. none-after (step binary64 (start (row (p .0) (p .1) 0 [] [] (0, 0) 0 [])))) stopped)
+unfolding stopped step fetch decode reading cut encode join fields load4
+stopped-stop = tt
