@@ -1,2 +1,9 @@
+pub mod Memory
+pub mod Effects
+pub mod Runs
+pub mod Straight
+pub mod Placed
+pub mod Stores
+pub mod Local
 pub mod Rows
 pub mod Table

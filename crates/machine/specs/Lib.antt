@@ -4,3 +4,4 @@ pub mod Binary64
 pub mod State
 pub mod Effect
 pub mod Step
+pub mod Ends

@@ -3,8 +3,9 @@ use mathlib.Core.Path.{_≡_}
 use mathlib.Core.Bool.{cond}
 use mathlib.Core.Option.{Option, some, none, Option·map}
 use mathlib.Core.List.{List, [], _∷_, map}
-use Prim.Native.Nat.{ℕ, zero, suc, _+_, _%_}
+use Prim.Native.Nat.{ℕ, zero, suc, _+_, _/_, _%_, _^_, _<_}
 use lib.Dec.{eqb}
+use lib.ListN.{length, getD}
 use Rattle.isa.specs.Instr.{Instr, Valid}
 use Rattle.isa.specs.Encode.{encode}
 use Rattle.isa.specs.Decode.{decode}
@@ -32,6 +33,15 @@ CodeAt m a (w ∷ ws) = (load4 m a ≡ w) × CodeAt m (w64 (a + 4)) ws
 
 abbrev pub words : List Instr → List ℕ
 words is = map encode is
+
+-- the bytes bs stand at a
+abbrev pub Loaded : (ℕ → ℕ) → ℕ → List ℕ → Type 0
+Loaded m a bs = (k : ℕ) → k < length bs → m (w64 (a + k)) ≡ getD bs k 0
+
+-- the bytes of words, little-endian
+unfoldable pub bytes-of : List ℕ → List ℕ
+bytes-of [] = []
+bytes-of (w ∷ ws) = w % 256 ∷ w / 2 ^ 8 % 256 ∷ w / 2 ^ 16 % 256 ∷ w / 2 ^ 24 % 256 ∷ bytes-of ws
 
 module _ (Q : Floats) where
   -- One step: no next state where pc is no multiple of 4 or the word there is no instruction.

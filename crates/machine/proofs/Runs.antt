@@ -1,0 +1,57 @@
+-- Laws of steps and runs. Assumes nothing.
+use mathlib.Core.Path.{_≡_, refl, subst, sym, _∙_}
+use mathlib.Core.Bool.{Bool, true, false, cond}
+use mathlib.Core.Option.{Option, some, none, Option·map}
+use Prim.Native.Nat.{ℕ, zero, suc, _+_, _%_}
+use native.Mathlib.Nat.{zero-add, suc-add}
+use native.Mathlib.Omega.{arith}
+use borrow.Author.Tests.{eq-eqb}
+use lib.Dec.{eqb}
+use Rattle.isa.specs.Instr.{Instr, Valid}
+use Rattle.isa.specs.Encode.{encode}
+use Rattle.isa.specs.Decode.{decode}
+use Rattle.isa.proofs.Laws.{decode-encode}
+use Rattle.machine.specs.Word.{load4}
+use Rattle.machine.specs.Floats.{Floats}
+use Rattle.machine.specs.State.{State, Sound}
+use Rattle.machine.specs.Effect.{effect, exec}
+use Rattle.machine.specs.Step.{and-then, fetch, step, Run, stop, go, run}
+use Rattle.machine.proofs.Effects.{apply-sound, effect-fits}
+
+pub fetch-at : (s : State) → s .pc % 4 ≡ 0 → fetch s ≡ some (load4 (s .mem) (s .pc))
+unfolding fetch
+fetch-at s a = rw (eq-eqb (s .pc % 4) 0 a)
+
+some-inj : (s t : State) → some s ≡ some t → s ≡ t
+some-inj s t e = cc
+
+module _ (Q : Floats) where
+  -- A step, where a valid instruction's word stands at a multiple of 4.
+  pub step-at : (i : Instr) (s : State) → Valid i → s .pc % 4 ≡ 0 → load4 (s .mem) (s .pc) ≡ encode i → step Q s ≡ some (exec Q i s)
+  unfolding step
+  step-at i s v a e = rw (fetch-at s a, e, decode-encode i v)
+
+  pub run-of : {s u : State} {n : ℕ} → Run Q s n u → run Q n s ≡ some u
+  unfolding run
+  run-of stop = refl
+  run-of (go e r) = rw e (run-of r)
+
+  pub joined : {s t u : State} {n k : ℕ} → Run Q s n t → Run Q t k u → Run Q s (n + k) u
+  joined {k = k} stop q = rw (zero-add k) q
+  joined {n = suc n} {k = k} (go e r) q = rw (suc-add n k) (go e (joined r q))
+
+  -- Two runs of one length end in the same state.
+  pub run-unique : {s t u : State} {n : ℕ} → Run Q s n t → Run Q s n u → t ≡ u
+  run-unique {t = t} {u = u} p q = some-inj t u (sym (run-of p) ∙ run-of q)
+
+  pub step-sound : (s t : State) → step Q s ≡ some t → Sound s → Sound t
+  unfolding step
+  step-sound s t e w = by (and-then (fetch s) decode) e
+    where
+      by : (o : Option Instr) → Option·map (λ i. exec Q i s) o ≡ some t → Sound t
+      by (some i) q = subst Sound (some-inj (exec Q i s) t q) (apply-sound (effect Q i s) s (effect-fits Q i s w) w)
+      by none q = let z : _≡_ {A = ℕ} 0 1 = cc in absurd (omega arith)
+
+  pub run-sound : {s t : State} {n : ℕ} → Run Q s n t → Sound s → Sound t
+  run-sound stop w = w
+  run-sound (go {s = s} {t = t} e r) w = run-sound r (step-sound s t e w)

@@ -1,0 +1,108 @@
+-- What straight code does, and a path with jumps. Assumes nothing.
+use mathlib.Core.Path.{_≡_, refl, _∙_}
+use mathlib.Core.Bool.{Bool, true, not, _&&_}
+use mathlib.Core.List.{List, [], _∷_}
+use Prim.Native.Nat.{ℕ, _+_, _*_, _%_, _^_, _<_}
+use native.Mathlib.Omega.{arith}
+use lib.Dec.{T}
+use lib.ListN.{length}
+use Rattle.isa.specs.Instr.{Instr, Valid}
+use Rattle.isa.specs.Encode.{encode}
+use Rattle.machine.specs.Word.{w64, load4}
+use Rattle.machine.specs.Floats.{Floats}
+use Rattle.machine.specs.State.{State, Sound, next}
+use Rattle.machine.specs.Effect.{Effect, effect, exec}
+use Rattle.machine.specs.Step.{CodeAt, words, Run, stop, go, execs, Fit}
+use Rattle.machine.specs.Ends.{Does, Ends}
+use Rattle.machine.proofs.Effects.{and-l, and-r, flows, quiet, within, quiet-flows, apply-pc, apply-mem, apply-rm, apply-x}
+use Rattle.machine.proofs.Runs.{step-at}
+
+-- the next word of straight code is at a multiple of 4 too
+pub aligned : (s : State) → s .pc % 4 ≡ 0 → next s % 4 ≡ 0
+aligned s a = omega arith
+
+module _ (Q : Floats) where
+  -- ---- code that neither jumps nor stores before its last word
+
+  abbrev pub lead : List Instr → State → Bool
+  lead [] s = true
+  lead (i ∷ []) s = true
+  lead (i ∷ (j ∷ is)) s = quiet (effect Q i s) && lead (j ∷ is) (exec Q i s)
+
+  pub lead-run : (is : List Instr) (s : State) → Fit Q is s → T (lead is s) → s .pc % 4 ≡ 0 → CodeAt (s .mem) (s .pc) (words is) → Run Q s (length is) (execs Q is s)
+  lead-run [] s w h a c = stop
+  lead-run (i ∷ []) s w h a c = go (step-at Q i s (w .0) a (c .0)) stop
+  lead-run (i ∷ (j ∷ is)) s w h a c =
+      let e : Effect = effect Q i s in
+      let q : T (quiet e) = and-l (quiet e) _ h in
+      let p : (exec Q i s) .pc ≡ next s = apply-pc e s (quiet-flows e q) in
+      go (step-at Q i s (w .0) a (c .0))
+      (lead-run (j ∷ is) (exec Q i s) (w .1) (and-r (quiet e) _ h) (rw p (aligned s a)) (rw (apply-mem e s q, p) (c .1)))
+
+  -- no jump at all
+  abbrev pub flow : List Instr → State → Bool
+  flow [] s = true
+  flow (i ∷ is) s = flows (effect Q i s) && flow is (exec Q i s)
+
+  pub flow-pc : (is : List Instr) (s : State) → T (flow is s) → s .pc < 2 ^ 64 → (execs Q is s) .pc ≡ w64 (s .pc + 4 * length is)
+  flow-pc [] s h l = omega arith
+  flow-pc (i ∷ is) s h l =
+      let e : Effect = effect Q i s in
+      let p : (exec Q i s) .pc ≡ next s = apply-pc e s (and-l (flows e) _ h) in
+      let r = flow-pc is (exec Q i s) (and-r (flows e) _ h) (omega arith) in
+      omega (arith, r)
+
+  -- ---- the rounding mode, and registers outside a set W
+
+  pub execs-rm : (is : List Instr) (s : State) → (execs Q is s) .rm ≡ s .rm
+  execs-rm [] s = refl
+  execs-rm (i ∷ is) s = execs-rm is (exec Q i s) ∙ apply-rm (effect Q i s) s
+
+  module _ (W : ℕ → Bool) where
+    abbrev pub keeps : List Instr → State → Bool
+    keeps [] s = true
+    keeps (i ∷ is) s = within W (effect Q i s) && keeps is (exec Q i s)
+
+    pub execs-x : (is : List Instr) (s : State) (r : ℕ) → T (keeps is s) → T (not (W r)) → (execs Q is s) .x r ≡ s .x r
+    execs-x [] s r h k = refl
+    execs-x (i ∷ is) s r h k =
+        let e : Effect = effect Q i s in
+        execs-x is (exec Q i s) r (and-r (within W e) _ h) k ∙ apply-x W e s r (and-l (within W e) _ h) k
+
+    -- the test of straight code: no jump, only registers of W, no store but the last
+    abbrev pub straight : List Instr → State → Bool
+    straight is s = lead is s && (flow is s && keeps is s)
+
+    pub by-straight : (is : List Instr) (s : State) (f′ m′ : ℕ → ℕ) → Fit Q is s → T (straight is s) → Sound s → s .pc % 4 ≡ 0 → CodeAt (s .mem) (s .pc) (words is) → (execs Q is s) .f ≡ f′ → (execs Q is s) .mem ≡ m′ → Ends Q W s (length is) (w64 (s .pc + 4 * length is)) f′ m′
+    by-straight is s f′ m′ w h o a c p q =
+        let g : T (flow is s && keeps is s) = and-r (lead is s) _ h in
+        record {
+          end = execs Q is s;
+          runs = lead-run is s w (and-l (lead is s) _ h) a c;
+          does =
+              record {
+                pc = flow-pc is s (and-l (flow is s) _ g) (o .pc);
+                f = p;
+                mem = q;
+                rm = execs-rm is s;
+                x = λ r k. execs-x is s r (and-r (flow is s) _ g) k;
+              };
+        }
+
+    -- ---- a path with jumps: each word where the machine then is
+
+    abbrev pub Path : List Instr → State → Type 0
+    Path [] s = Unit {0}
+    Path (i ∷ is) s = (s .pc % 4 ≡ 0) × (load4 (s .mem) (s .pc) ≡ encode i) × Path is (exec Q i s)
+
+    path-run : (is : List Instr) (s : State) → Fit Q is s → Path is s → Run Q s (length is) (execs Q is s)
+    path-run [] s w p = stop
+    path-run (i ∷ is) s w p = go (step-at Q i s (w .0) (p .0) (p .1)) (path-run is (exec Q i s) (w .1) (p .2))
+
+    pub by-path : (is : List Instr) (s : State) (a : ℕ) (f′ m′ : ℕ → ℕ) → Fit Q is s → T (keeps is s) → Path is s → (execs Q is s) .pc ≡ a → (execs Q is s) .f ≡ f′ → (execs Q is s) .mem ≡ m′ → Ends Q W s (length is) a f′ m′
+    by-path is s a f′ m′ w h c e p q =
+        record {
+          end = execs Q is s;
+          runs = path-run is s w c;
+          does = record { pc = e; f = p; mem = q; rm = execs-rm is s; x = λ r k. execs-x is s r h k };
+        }
