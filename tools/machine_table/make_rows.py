@@ -323,6 +323,38 @@ NOT = [
 NOT = [(t, PC) for t in NOT] + [("add x5, x6, x7", PC + k) for k in (1, 2, 3)]
 
 
+# ---------------------------------------------------------------- what float instructions ask of `Floats`
+
+# Not run either. The rows leave open in which mode a sum is asked for (`binary64` has one rounding) and in which order the operands
+# of a sum stand, so these say, by the Manual, which function each instruction applies to what: text, the state's mode, result.
+ASKED = {"f": [], "x": []}
+MODES = ["rne", "rtz", "rdn", "rup", "rmm"]
+
+
+def ask(text, function, modes, shape="w64 ({})"):
+    """modes: a rounding field as it is written, the state's mode, and the mode asked for, if any"""
+    rd, *sources = text.replace(",", "").split()[1:]
+    operands = [str((plain_x if r[0] == "x" else plain_f)(int(r[1:]))) for r in sources]
+    for field, m, mode in modes:
+        call = " ".join([f"Q .{function}", *mode, *operands])
+        ASKED[rd[0]].append((text + field, m, shape.format(call)))
+
+
+NO_FIELD = [("", 3, [])]
+FIXED = [("", 3, ["0"])]
+DYNAMIC = [("", 3, ["3"])]
+FREE = [(f", {name}", (k + 2) % 5, [str(k)]) for k, name in enumerate(MODES)] + [("", m, [str(m)]) for m in range(5)]
+ask("fadd.d f5, f6, f7", "add", FREE)
+for text, function in [("fsub.d f5, f6, f7", "sub"), ("fmul.d f5, f6, f7", "mul"), ("fdiv.d f5, f6, f7", "div"), ("fsqrt.d f5, f6", "sqrt"), ("fmadd.d f5, f6, f7, f8", "mul-add"), ("fmsub.d f5, f6, f7, f8", "mul-sub"), ("fnmsub.d f5, f6, f7, f8", "neg-mul-add"), ("fnmadd.d f5, f6, f7, f8", "neg-mul-sub"), ("fcvt.d.l f5, x6", "of-l")]:
+    ask(text, function, DYNAMIC)
+ask("fcvt.d.w f5, x6", "of-w", FIXED)
+ask("fmin.d f5, f6, f7", "min", NO_FIELD)
+ask("fmax.d f5, f6, f7", "max", NO_FIELD)
+ask("fcvt.w.d x5, f6", "to-w", DYNAMIC, "sext 32 ({})")
+ask("fcvt.l.d x5, f6", "to-l", FREE)
+for text, function in [("fle.d x5, f6, f7", "le"), ("flt.d x5, f6, f7", "lt"), ("feq.d x5, f6, f7", "eq")]:
+    ask(text, function, NO_FIELD, "bit ({})")
+
 # ---------------------------------------------------------------- the tools
 
 # isa's operations, by the names of GNU as
@@ -387,6 +419,9 @@ HEAD = """\
 -- What single instructions do on an outside machine (qemu-riscv64). Made by tools/machine_table/make_rows.py: not to be edited.
 use mathlib.Core.List.{List, [], _∷_}
 use Prim.Native.Nat.{ℕ}
+use Rattle.machine.specs.Word.{w64, sext}
+use Rattle.machine.specs.Floats.{Floats}
+use Rattle.machine.specs.Effect.{bit}
 
 -- The floats of the test, `binary64`, round to nearest even in every mode, so a row whose result is a float that was rounded has mode 0.
 
@@ -411,7 +446,8 @@ def main():
     if "--count" in sys.argv:
         print(" ".join(f"{k} {n}" for k, n in sorted(count.items())), "| total", sum(count.values()))
         return
-    texts = [t.text for t in tests] + [t for t, _ in NOT]
+    asked = [(k, *a) for k in ASKED for a in ASKED[k]]
+    texts = [t.text for t in tests] + [t for t, _ in NOT] + [a[1] for a in asked]
     with tempfile.TemporaryDirectory() as folder:
         words = words_of(texts, pathlib.Path(folder))
         outs = run(tests, words, pathlib.Path(folder))
@@ -427,13 +463,20 @@ def main():
     for k, ((t, pc), w) in enumerate(zip(NOT, words[len(tests) :])):
         text += f"    -- {t}\n    {'∷ ' if k else ''}({w:#010x}, {pc:#x})\n"
     text += "    ∷ []\n"
+    rest = iter(words[len(tests) + len(NOT) :])
+    for kind, name in [("f", "f5"), ("x", "x5")]:
+        text += f"\n-- A word, the state's mode, and what {name} is then for any `Floats`: by the Manual, not by the outside machine.\n"
+        text += f"unfoldable pub asked-{kind} : List (ℕ × ℕ × (Floats → ℕ))\nasked-{kind} =\n"
+        for k, (t, m, result) in enumerate(ASKED[kind]):
+            text += f"    -- {t}\n    {'∷ ' if k else ''}({next(rest):#010x}, {m}, λ Q. {result})\n"
+        text += "    ∷ []\n"
     if "--check" in sys.argv:
         same = TARGET.read_text() == text
         print("Rows.antt is as made" if same else "Rows.antt differs")
         sys.exit(0 if same else 1)
     TARGET.parent.mkdir(parents=True, exist_ok=True)
     TARGET.write_text(text)
-    print(len(tests), "rows,", len(NOT), "without a next state")
+    print(len(tests), "rows,", len(NOT), "without a next state,", len(asked), "for any `Floats`")
 
 
 main()

@@ -1,17 +1,19 @@
 -- `step` gives what an outside machine gave: one computed test over the rows of `Rows`.
+use mathlib.Core.Path.{_≡_, refl}
 use mathlib.Core.Bool.{Bool, true, false, _&&_, cond}
 use mathlib.Core.Option.{Option, some, none}
-use mathlib.Core.List.{List, [], _∷_, _++_}
+use mathlib.Core.List.{List, [], _∷_, _++_, map}
 use Prim.Native.Nat.{ℕ, zero, suc, _+_, _-_, _/_, _%_, _^_}
 use lib.Dec.{T, eqb, ltb, leb}
 use Rattle.isa.specs.Encode.{encode, join, fields}
 use Rattle.isa.specs.Decode.{decode, reading, cut}
 use Rattle.machine.specs.Word.{upd, dist, load4, load8, store8}
+use Rattle.machine.specs.Floats.{Floats}
 use Rattle.machine.specs.Binary64.{binary64}
 use Rattle.machine.specs.State.{State, setx}
 use Rattle.machine.specs.Effect.{effect, apply}
 use Rattle.machine.specs.Step.{fetch, step}
-use Rattle.machine.proofs.Rows.{Row, row, Change, reg, freg, bytes, whole, shifts, jumps, memory, moves, sums, products, roots, comparisons, conversions, stopped}
+use Rattle.machine.proofs.Rows.{Row, row, Change, reg, freg, bytes, whole, shifts, jumps, memory, moves, sums, products, roots, comparisons, conversions, stopped, asked-f, asked-x}
 
 -- ---- the state before
 
@@ -100,3 +102,23 @@ none-after (some t) = false
 pub stopped-stop : T (every (λ p. none-after (step binary64 (start (row (p .0) (p .1) 0 [] [] (0, 0) 0 [])))) stopped)
 unfolding stopped step fetch decode reading cut encode join fields load4
 stopped-stop = tt
+
+-- ---- any `Floats`: the rows leave open which mode and which order of operands a sum is asked with
+
+abbrev after : Option State → (State → ℕ) → ℕ
+after none g = 0
+after (some t) g = g t
+
+module _ (Q : Floats) where
+  -- what g finds after a word, in the mode m
+  abbrev found : (State → ℕ) → (word m : ℕ) → ℕ
+  found g w m = after (step Q (start (row w 0 m [] [] (0x50000000, 0) 0 []))) g
+
+  -- Each float instruction asks the function that the Manual names, with its operands in order and in the mode of its rounding field.
+  pub asked-f-is : map (λ p. found (λ t. t .f 5) (p .0) (p .1)) asked-f ≡ map (λ p. (p .2) Q) asked-f
+  unfolding asked-f step fetch decode reading cut encode join fields effect apply upd load4
+  asked-f-is = refl
+
+  pub asked-x-is : map (λ p. found (λ t. t .x 5) (p .0) (p .1)) asked-x ≡ map (λ p. (p .2) Q) asked-x
+  unfolding asked-x step fetch decode reading cut encode join fields effect apply setx upd load4
+  asked-x-is = refl
