@@ -5,5 +5,6 @@ pub mod Straight
 pub mod Placed
 pub mod Stores
 pub mod Local
+pub mod Closed
 pub mod Rows
 pub mod Table
