@@ -11,7 +11,7 @@ use lib.Dec.{T, eqb, leb, eqb→eq}
 use lib.IntN.{ℤ, pos, negsuc}
 use lib.Signed.{mag}
 use Rattle.isa.specs.Immediate.{twos, signed}
-use Rattle.isa.specs.Instr.{Instr, R, F, C, M, R4, I, Shift, S, B, U, J, ADD, SUB, SLL, XOR, SRL, SRA, OR, AND, FSGNJ-D, FSGNJN-D, FSGNJX-D, FMIN-D, FMAX-D, FLE-D, FLT-D, FEQ-D, FADD-D, FSUB-D, FMUL-D, FDIV-D, FSQRT-D, FCVT-W-D, FCVT-L-D, FCVT-D-W, FCVT-D-L, FMV-X-D, FMV-D-X, FMADD-D, FMSUB-D, FNMSUB-D, FNMADD-D, ADDI, XORI, ORI, ANDI, JALR, LD, FLD, SLLI, SRLI, SRAI, SD, FSD, BEQ, BNE, BLT, BGE, BLTU, BGEU, LUI, AUIPC, JAL, BOp, Holds, offset, unsigned, rounding, Valid, valid}
+use Rattle.isa.specs.Instr.{Instr, R, F, C, M, R4, I, Shift, S, B, U, J, ADD, SUB, SLL, XOR, SRL, SRA, OR, AND, FSGNJ-D, FSGNJN-D, FSGNJX-D, FMIN-D, FMAX-D, FLE-D, FLT-D, FEQ-D, FADD-D, FSUB-D, FMUL-D, FDIV-D, FSQRT-D, FCVT-W-D, FCVT-L-D, FCVT-D-W, FCVT-D-L, FMV-X-D, FMV-D-X, FMADD-D, FMSUB-D, FNMSUB-D, FNMADD-D, ADDI, XORI, ORI, ANDI, JALR, LD, FLD, SLLI, SRLI, SRAI, SD, FSD, BEQ, BNE, BLT, BGE, BLTU, BGEU, LUI, AUIPC, JAL, BOp, Holds, offset, unsigned, rounding, free, Valid, valid}
 use Rattle.isa.specs.Encode.{Fields, join, fields, encode}
 use Rattle.isa.specs.Decode.{cut, i-imm, shamt, s-imm, b-imm, u-imm, j-imm, reading, checked, decode}
 use Rattle.isa.proofs.Validity.{both, valid-Valid, Valid-valid}
@@ -216,7 +216,7 @@ reading-fields (U LUI d z) h = rw (u-back z (h .1 .0))
 reading-fields (U AUIPC d z) h = rw (u-back z (h .1 .0))
 reading-fields (J JAL d z) h = rw (j-back d z (h .1 .0))
 
-rounding-small : (m : ℕ) → Holds (rounding m) → m < 8
+rounding-small : (m : ℕ) → Holds (rounding free m) → m < 8
 rounding-small m h = by (leb m 4) refl h
   where
     by : (b : Bool) → leb m 4 ≡ b → T (b || eqb m 7) → m < 8

@@ -1,2 +1,3 @@
 pub mod Validity
 pub mod Laws
+pub mod Words

@@ -7,7 +7,7 @@ use native.Mathlib.Omega.{arith}
 use borrow.Author.Tests.{ltb-true, eqb-true, lt-ltb, eq-eqb}
 use lib.Dec.{T}
 use lib.IntN.{pos, negsuc}
-use Rattle.isa.specs.Instr.{Instr, Operand, register, signed, offset, unsigned, rounding, fixed, Holds, holds, operands, AllHold, all-hold, registers-hold, Valid, valid}
+use Rattle.isa.specs.Instr.{Instr, Operand, register, signed, offset, unsigned, rounding, free, fixed, Holds, holds, operands, AllHold, all-hold, registers-hold, Valid, valid}
 
 pub true-T : (b : Bool) → b ≡ true → T b
 true-T true e = tt
@@ -24,31 +24,31 @@ both false b e = let z : _≡_ {A = ℕ} 0 1 = cc in absurd (omega arith)
 join : (a b : Bool) → a ≡ true → b ≡ true → (a && b) ≡ true
 join a b p q = rw (p, q)
 
-to : (o : Operand) → holds o ≡ true → Holds o
-to (register r) e = ltb-true _ _ e
-to (signed w z) e = ltb-true _ _ e
-to (offset w z) e = let q = both _ _ e in (ltb-true _ _ (q .0), eqb-true _ _ (q .1))
-to (unsigned w (pos n)) e = ltb-true _ _ e
-to (unsigned w (negsuc n)) e = let z : _≡_ {A = ℕ} 0 1 = cc in absurd (omega arith)
-to (rounding m) e = true-T _ e
-to (fixed m n) e = eqb-true _ _ e
+pub holds-Holds : (o : Operand) → holds o ≡ true → Holds o
+holds-Holds (register r) e = ltb-true _ _ e
+holds-Holds (signed w z) e = ltb-true _ _ e
+holds-Holds (offset w z) e = let q = both _ _ e in (ltb-true _ _ (q .0), eqb-true _ _ (q .1))
+holds-Holds (unsigned w (pos n)) e = ltb-true _ _ e
+holds-Holds (unsigned w (negsuc n)) e = let z : _≡_ {A = ℕ} 0 1 = cc in absurd (omega arith)
+holds-Holds (rounding free m) e = true-T _ e
+holds-Holds (rounding (fixed n) m) e = eqb-true _ _ e
 
-from : (o : Operand) → Holds o → holds o ≡ true
-from (register r) h = lt-ltb _ _ h
-from (signed w z) h = lt-ltb _ _ h
-from (offset w z) h = join _ _ (lt-ltb _ _ (h .0)) (eq-eqb _ _ (h .1))
-from (unsigned w (pos n)) h = lt-ltb _ _ h
-from (unsigned w (negsuc n)) h = absurd h
-from (rounding m) h = T-true _ h
-from (fixed m n) h = eq-eqb _ _ h
+pub Holds-holds : (o : Operand) → Holds o → holds o ≡ true
+Holds-holds (register r) h = lt-ltb _ _ h
+Holds-holds (signed w z) h = lt-ltb _ _ h
+Holds-holds (offset w z) h = join _ _ (lt-ltb _ _ (h .0)) (eq-eqb _ _ (h .1))
+Holds-holds (unsigned w (pos n)) h = lt-ltb _ _ h
+Holds-holds (unsigned w (negsuc n)) h = absurd h
+Holds-holds (rounding free m) h = T-true _ h
+Holds-holds (rounding (fixed n) m) h = eq-eqb _ _ h
 
 all-to : (os : List Operand) → all-hold os ≡ true → AllHold os
 all-to [] e = tt
-all-to (o ∷ os) e = let q = both (holds o) (all-hold os) e in (to o (q .0), all-to os (q .1))
+all-to (o ∷ os) e = let q = both (holds o) (all-hold os) e in (holds-Holds o (q .0), all-to os (q .1))
 
 all-from : (os : List Operand) → AllHold os → all-hold os ≡ true
 all-from [] h = refl
-all-from (o ∷ os) h = join (holds o) (all-hold os) (from o (h .0)) (all-from os (h .1))
+all-from (o ∷ os) h = join (holds o) (all-hold os) (Holds-holds o (h .0)) (all-from os (h .1))
 
 pub valid-Valid : (i : Instr) → valid i ≡ true → Valid i
 valid-Valid i e = all-to (operands i) e
@@ -62,8 +62,7 @@ registers (register r ∷ os) h = join _ _ (lt-ltb _ _ (h .0)) (registers os (h 
 registers (signed w z ∷ os) h = registers os (h .1)
 registers (offset w z ∷ os) h = registers os (h .1)
 registers (unsigned w z ∷ os) h = registers os (h .1)
-registers (rounding m ∷ os) h = registers os (h .1)
-registers (fixed m n ∷ os) h = registers os (h .1)
+registers (rounding k m ∷ os) h = registers os (h .1)
 
 -- a valid instruction's registers are in their fields
 pub Valid-registers : (i : Instr) → Valid i → registers-hold (operands i) ≡ true

@@ -70,13 +70,17 @@ pub data Instr : Type 0 where
 
 -- ---- operands, by the field that holds each (document 01, macros.rs: "Fields")
 
+-- What a rounding field takes.
+pub data Rounding : Type 0 where
+  free : Rounding  -- 0..4 and 7, where `rvv!` has a place for it
+  fixed : ℕ → Rounding  -- this alone, where macros.rs fixes it
+
 pub data Operand : Type 0 where
   register : ℕ → Operand  -- 0..31
   signed : (w : ℕ) → ℤ → Operand  -- w bits with a sign
   offset : (w : ℕ) → ℤ → Operand  -- w bits with a sign, even
   unsigned : (w : ℕ) → ℤ → Operand  -- w bits
-  rounding : ℕ → Operand  -- 0..4 and 7, where `rvv!` has a place for it
-  fixed : (m : ℕ) → ℕ → Operand  -- m alone, where macros.rs fixes the rounding field
+  rounding : Rounding → ℕ → Operand
 
 -- The field holds the operand. `mag z` is n both for n and for -1 - n, so a signed field of w bits holds -2^(w-1)..2^(w-1)-1.
 abbrev pub Holds : Operand → Type 0
@@ -85,8 +89,8 @@ Holds (signed w z) = mag z < 2 ^ (w - 1)
 Holds (offset w z) = (mag z < 2 ^ (w - 1)) × (twos w z % 2 ≡ 0)
 Holds (unsigned w (pos n)) = n < 2 ^ w
 Holds (unsigned w (negsuc n)) = ⊥
-Holds (rounding m) = T (leb m 4 || eqb m 7)
-Holds (fixed m n) = n ≡ m
+Holds (rounding free m) = T (leb m 4 || eqb m 7)
+Holds (rounding (fixed n) m) = m ≡ n
 
 -- The same as a test.
 abbrev pub holds : Operand → Bool
@@ -95,29 +99,29 @@ holds (signed w z) = ltb (mag z) (2 ^ (w - 1))
 holds (offset w z) = ltb (mag z) (2 ^ (w - 1)) && eqb (twos w z % 2) 0
 holds (unsigned w (pos n)) = ltb n (2 ^ w)
 holds (unsigned w (negsuc n)) = false
-holds (rounding m) = leb m 4 || eqb m 7
-holds (fixed m n) = eqb n m
+holds (rounding free m) = leb m 4 || eqb m 7
+holds (rounding (fixed n) m) = eqb m n
 
 -- The rounding field: free in `fadd.d` and `fcvt.l.d`, 0 in `fcvt.d.w`, 7 in all others.
-abbrev pub f-rounding : FOp → ℕ → Operand
-f-rounding FADD-D m = rounding m
-f-rounding FSUB-D m = fixed 7 m
-f-rounding FMUL-D m = fixed 7 m
-f-rounding FDIV-D m = fixed 7 m
+abbrev pub f-rounding : FOp → Rounding
+f-rounding FADD-D = free
+f-rounding FSUB-D = fixed 7
+f-rounding FMUL-D = fixed 7
+f-rounding FDIV-D = fixed 7
 
-abbrev pub c-rounding : COp → ℕ → Operand
-c-rounding FSQRT-D m = fixed 7 m
-c-rounding FCVT-W-D m = fixed 7 m
-c-rounding FCVT-L-D m = rounding m
-c-rounding FCVT-D-W m = fixed 0 m
-c-rounding FCVT-D-L m = fixed 7 m
+abbrev pub c-rounding : COp → Rounding
+c-rounding FSQRT-D = fixed 7
+c-rounding FCVT-W-D = fixed 7
+c-rounding FCVT-L-D = free
+c-rounding FCVT-D-W = fixed 0
+c-rounding FCVT-D-L = fixed 7
 
 abbrev pub operands : Instr → List Operand
 operands (R k rd rs1 rs2) = register rd ∷ register rs1 ∷ register rs2 ∷ []
-operands (F k rd rs1 rs2 rm) = register rd ∷ register rs1 ∷ register rs2 ∷ f-rounding k rm ∷ []
-operands (C k rd rs1 rm) = register rd ∷ register rs1 ∷ c-rounding k rm ∷ []
+operands (F k rd rs1 rs2 rm) = register rd ∷ register rs1 ∷ register rs2 ∷ rounding (f-rounding k) rm ∷ []
+operands (C k rd rs1 rm) = register rd ∷ register rs1 ∷ rounding (c-rounding k) rm ∷ []
 operands (M k rd rs1) = register rd ∷ register rs1 ∷ []
-operands (R4 k rd rs1 rs2 rs3 rm) = register rd ∷ register rs1 ∷ register rs2 ∷ register rs3 ∷ fixed 7 rm ∷ []
+operands (R4 k rd rs1 rs2 rs3 rm) = register rd ∷ register rs1 ∷ register rs2 ∷ register rs3 ∷ rounding (fixed 7) rm ∷ []
 operands (I k rd rs1 imm) = register rd ∷ register rs1 ∷ signed 12 imm ∷ []
 operands (Shift k rd rs1 shamt) = register rd ∷ register rs1 ∷ unsigned 6 shamt ∷ []
 operands (S k rs1 rs2 imm) = register rs1 ∷ register rs2 ∷ signed 12 imm ∷ []
@@ -148,5 +152,4 @@ registers-hold (register r ∷ os) = ltb r 32 && registers-hold os
 registers-hold (signed w z ∷ os) = registers-hold os
 registers-hold (offset w z ∷ os) = registers-hold os
 registers-hold (unsigned w z ∷ os) = registers-hold os
-registers-hold (rounding m ∷ os) = registers-hold os
-registers-hold (fixed m n ∷ os) = registers-hold os
+registers-hold (rounding k m ∷ os) = registers-hold os
