@@ -1,12 +1,12 @@
--- A closed run, fetched from memory word by word: it computes.
+-- A closed run, fetched from memory word by word, and closed conversions: they compute.
 use mathlib.Core.Path.{_≡_, refl}
 use mathlib.Core.Bool.{cond}
 use mathlib.Core.Option.{some, none, Option·map}
-use mathlib.Core.List.{List, [], _∷_}
-use Prim.Native.Nat.{ℕ}
+use mathlib.Core.List.{List, [], _∷_, map}
+use Prim.Native.Nat.{ℕ, _-_, _^_}
 use lib.Dec.{eqb}
 use lib.IntN.{pos, negsuc}
-use lib.ListN.{getD}
+use lib.ListN.{getD, replicate}
 use Rattle.isa.specs.Instr.{Instr, F, C, I, S, B, U, FADD-D, FCVT-D-W, FCVT-D-L, ADDI, JALR, LD, FSD, BNE, LUI, AUIPC}
 use Rattle.isa.specs.Encode.{encode, join, fields}
 use Rattle.isa.specs.Decode.{decode, reading, cut}
@@ -59,3 +59,12 @@ ran = refl
 pub stuck : run binary64 30 begin ≡ none
 unfolding begin run step fetch decode reading cut encode join fields effect apply setx upd dist load4 load8 store8 binary64
 stuck = refl
+
+-- -3.0, 0.0 and 3.0 to whole numbers, in the mode m
+abbrev converted : ℕ → List ℕ
+converted m = binary64 .to-l m 0xc008000000000000 ∷ binary64 .to-l m 0 ∷ binary64 .to-w m 0x4008000000000000 ∷ []
+
+-- nothing is rounded, whatever the mode
+pub exact : map converted (0 ∷ 1 ∷ 2 ∷ 3 ∷ 4 ∷ []) ≡ replicate 5 ((2 ^ 64 - 3) ∷ 0 ∷ 3 ∷ [])
+unfolding binary64
+exact = refl
