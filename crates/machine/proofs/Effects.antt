@@ -4,6 +4,7 @@ use mathlib.Core.Logic.{_≢_}
 use mathlib.Core.Bool.{Bool, true, false, not, _&&_, _||_, cond}
 use Prim.Native.Nat.{ℕ, _^_, _<_}
 use native.Mathlib.Omega.{arith}
+use borrow.Author.Tests.{ne-eqb, eqb-false}
 use lib.Dec.{T, eqb, ltb, T-not, lit<}
 use lib.Bits.{and-lt, or-lt, xor-lt}
 use lib.IntN.{ℤ, pos, negsuc}
@@ -13,7 +14,7 @@ use Rattle.machine.specs.Word.{upd, store8, dist}
 use Rattle.machine.specs.Floats.{Floats}
 use Rattle.machine.specs.State.{State, getx, setx, next, Sound}
 use Rattle.machine.specs.Effect.{Effect, write-x, write-f, store, jump, apply, bit, taken, effect}
-use Rattle.machine.proofs.Memory.{upd-other, load8-small}
+use Rattle.machine.proofs.Memory.{upd-same, upd-other, upd-twice, load8-small}
 
 -- ---- two tests in one
 
@@ -82,6 +83,27 @@ setx-other x d v r h = by (eqb d 0)
 pub setx-zero : (x : ℕ → ℕ) (d v : ℕ) → eqb d 0 ≡ true → setx x d v ≡ x
 unfolding setx
 setx-zero x d v e = rw e
+
+pub setx-same : (x : ℕ → ℕ) (d v : ℕ) → d ≢ 0 → setx x d v d ≡ v
+unfolding setx
+setx-same x d v h = rw (ne-eqb d 0 h) (upd-same x d v)
+
+-- what `getx` reads of a register just written, x0 too
+pub getx-same : (x : ℕ → ℕ) (d v : ℕ) → cond (eqb d 0) 0 (setx x d v d) ≡ cond (eqb d 0) 0 v
+getx-same x d v = by (eqb d 0) refl
+  where
+    by : (b : Bool) → eqb d 0 ≡ b → cond b 0 (setx x d v d) ≡ cond b 0 v
+    by true e = refl
+    by false e = setx-same x d v (eqb-false d 0 e)
+
+-- the last write counts
+pub setx-twice : (x : ℕ → ℕ) (d u v : ℕ) → setx (setx x d u) d v ≡ setx x d v
+unfolding setx
+setx-twice x d u v = by (eqb d 0)
+  where
+    by : (b : Bool) → cond b (cond b x (upd x d u)) (upd (cond b x (upd x d u)) d v) ≡ cond b x (upd x d v)
+    by true = refl
+    by false = upd-twice x d u v
 
 -- registers outside a set W
 module _ (W : ℕ → Bool) where

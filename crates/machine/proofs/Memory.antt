@@ -1,11 +1,11 @@
 -- Laws of 64-bit numbers, of functions changed at one place, and of loads and stores. Assumes nothing.
-use mathlib.Core.Path.{_≡_, refl, _∙_}
+use mathlib.Core.Path.{_≡_, refl, _∙_, fun-ext}
 use mathlib.Core.Logic.{_≢_}
 use mathlib.Core.Bool.{Bool, true, false, cond}
 use Prim.Native.Nat.{ℕ, _+_, _-_, _*_, _/_, _%_, _^_, _≤_, _<_}
 use native.Mathlib.Omega.{arith}
 use borrow.Author.Tests.{lt-ltb, le-ltb, eq-eqb, ne-eqb, ltb-true, ltb-false}
-use lib.Dec.{ltb, lit<}
+use lib.Dec.{eqb, ltb, lit<}
 use lib.IntN.{pos, negsuc}
 use Rattle.isa.specs.Immediate.{twos, signed}
 use Rattle.machine.specs.Word.{w64, sext, upd, dist, byte, load4, load8, store8}
@@ -35,6 +35,14 @@ upd-same g k v = rw (eq-eqb k k refl)
 pub upd-other : (g : ℕ → ℕ) (k v j : ℕ) → j ≢ k → upd g k v j ≡ g j
 unfolding upd
 upd-other g k v j h = rw (ne-eqb j k h)
+
+pub upd-twice : (g : ℕ → ℕ) (k u v : ℕ) → upd (upd g k u) k v ≡ upd g k v
+unfolding upd
+upd-twice g k u v = fun-ext (λ j. by (eqb j k) (g j))
+  where
+    by : (b : Bool) (w : ℕ) → cond b v (cond b u w) ≡ cond b v w
+    by true w = refl
+    by false w = refl
 
 -- ---- distances
 

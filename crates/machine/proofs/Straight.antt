@@ -15,7 +15,7 @@ use Rattle.machine.specs.Effect.{Effect, effect, exec}
 use Rattle.machine.specs.Step.{CodeAt, words, Run, stop, go, execs, Fit}
 use Rattle.machine.specs.Ends.{Ends}
 use Rattle.machine.proofs.Effects.{and-l, and-r, flows, quiet, within, quiet-flows, apply-pc, apply-mem, apply-rm, apply-x}
-use Rattle.machine.proofs.Runs.{step-at}
+use Rattle.machine.proofs.Runs.{step-at, joined}
 
 -- the next word of straight code is at a multiple of 4 too
 pub aligned : (s : State) → s .pc % 4 ≡ 0 → next s % 4 ≡ 0
@@ -116,3 +116,36 @@ module _ (Q : Floats) where
           runs = path-run is s w c;
           does = record { pc = e; f = p; mem = q; rm = execs-rm is s; x = λ r k. execs-x is s r h k };
         }
+
+-- ---- one end behind another, and with more registers spared
+
+module _ {Q : Floats} {s : State} {k p : ℕ} {f m : ℕ → ℕ} where
+  pub ends-join : {W : ℕ → Bool} {n p′ : ℕ} {f′ m′ : ℕ → ℕ} (e : Ends Q W s k p f m) → Ends Q W (e .end) n p′ f′ m′ → Ends Q W s (k + n) p′ f′ m′
+  ends-join e g =
+      record {
+        end = g .end;
+        runs = joined Q (e .runs) (g .runs);
+        does =
+            record {
+              pc = g .does .pc;
+              f = g .does .f;
+              mem = g .does .mem;
+              rm = g .does .rm ∙ e .does .rm;
+              x = λ r h. g .does .x r h ∙ e .does .x r h;
+            };
+      }
+
+  pub ends-wider : {W W′ : ℕ → Bool} → ((r : ℕ) → T (not (W′ r)) → T (not (W r))) → Ends Q W s k p f m → Ends Q W′ s k p f m
+  ends-wider h e =
+      record {
+        end = e .end;
+        runs = e .runs;
+        does =
+            record {
+              pc = e .does .pc;
+              f = e .does .f;
+              mem = e .does .mem;
+              rm = e .does .rm;
+              x = λ r g. e .does .x r (h r g);
+            };
+      }
