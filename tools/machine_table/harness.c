@@ -100,6 +100,30 @@ static void look(void) {
       if (*(uint32_t *)(regions[k].at + i) != regions[k].fill) fail("memory changed");
 }
 
+static void run(uint64_t word) {
+  test.pc = number();
+  test.frm = number();
+  uint64_t at = test.pc, cell = number(), value = number(), before;
+  for (int r = 1; r < 32; r++) test.x[r] = number();
+  for (int r = 0; r < 32; r++) test.f[r] = number();
+  *(uint32_t *)at = word;
+  memcpy(&before, (void *)cell, 8);
+  memcpy((void *)cell, &value, 8);
+  __builtin___clear_cache((void *)at, (void *)(at + 4));
+  phase = 0;
+  __asm__ volatile(".option push\n\t.option norvc\n\tebreak\n\t.option pop" ::: "memory");
+  if (phase != 2) fail("no end");
+  if (*(uint32_t *)at != (uint32_t)word) fail("word changed");
+  *(uint32_t *)at = EBREAK;
+  memcpy(&value, (void *)cell, 8);
+  memcpy((void *)cell, &before, 8);
+  look();
+  printf("%" PRIx64 " %" PRIx64 " %" PRIx64 " %" PRIx64, test.pc, test.frm, cell, value);
+  for (int r = 1; r < 32; r++) printf(" %" PRIx64, test.x[r]);
+  for (int r = 0; r < 32; r++) printf(" %" PRIx64, test.f[r]);
+  printf("\n");
+}
+
 int main(void) {
   static char stack[1 << 16];
   __asm__ volatile("sd gp, %0\n\tsd tp, %1" : "=m"(home_gp), "=m"(home_tp));
@@ -115,28 +139,6 @@ int main(void) {
       fail("mmap");
   fill();
   uint64_t word;
-  while (scanf("%" SCNx64, &word) == 1) {
-    test.pc = number();
-    test.frm = number();
-    uint64_t at = test.pc, cell = number(), value = number(), before;
-    for (int r = 1; r < 32; r++) test.x[r] = number();
-    for (int r = 0; r < 32; r++) test.f[r] = number();
-    *(uint32_t *)at = word;
-    memcpy(&before, (void *)cell, 8);
-    memcpy((void *)cell, &value, 8);
-    __builtin___clear_cache((void *)at, (void *)(at + 4));
-    phase = 0;
-    __asm__ volatile(".option push\n\t.option norvc\n\tebreak\n\t.option pop" ::: "memory");
-    if (phase != 2) fail("no end");
-    if (*(uint32_t *)at != (uint32_t)word) fail("word changed");
-    *(uint32_t *)at = EBREAK;
-    memcpy(&value, (void *)cell, 8);
-    memcpy((void *)cell, &before, 8);
-    look();
-    printf("%" PRIx64 " %" PRIx64 " %" PRIx64 " %" PRIx64, test.pc, test.frm, cell, value);
-    for (int r = 1; r < 32; r++) printf(" %" PRIx64, test.x[r]);
-    for (int r = 0; r < 32; r++) printf(" %" PRIx64, test.f[r]);
-    printf("\n");
-  }
+  while (scanf("%" SCNx64, &word) == 1) run(word);
   return 0;
 }

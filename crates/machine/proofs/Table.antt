@@ -11,9 +11,9 @@ use Rattle.machine.specs.Word.{upd, dist, load4, load8, store8}
 use Rattle.machine.specs.Floats.{Floats}
 use Rattle.machine.specs.Binary64.{binary64}
 use Rattle.machine.specs.State.{State, setx}
-use Rattle.machine.specs.Effect.{effect, apply}
-use Rattle.machine.specs.Step.{fetch, step}
-use Rattle.machine.proofs.Rows.{Row, row, Change, reg, freg, bytes, whole, shifts, jumps, memory, moves, sums, products, roots, comparisons, conversions, stopped, asked-f, asked-x}
+use Rattle.machine.specs.Effect.{access, effect, apply}
+use Rattle.machine.specs.Step.{and-then, fetch, step}
+use Rattle.machine.proofs.Rows.{Row, row, Change, reg, freg, bytes, whole, shifts, jumps, memory, parts, moves, sums, products, roots, comparisons, conversions, stopped, asked-f, asked-x}
 
 -- ---- the state before
 
@@ -62,8 +62,12 @@ cell-after (reg k v ∷ cs) d = cell-after cs d
 cell-after (freg k v ∷ cs) d = cell-after cs d
 cell-after (bytes v ∷ cs) d = v
 
--- p holds of all members
 module _ {X : Type 0} where
+  abbrev is-none : Option X → Bool
+  is-none none = true
+  is-none (some x) = false
+
+  -- p holds of all members
   abbrev every : (X → Bool) → List X → Bool
   every p [] = true
   every p (x ∷ xs) = p x && every p xs
@@ -87,19 +91,38 @@ as-made (row w pc rm xs fs c pc′ cs) (some t) =
 abbrev agrees : Row → Bool
 agrees r = as-made r (step binary64 (start r))
 
+-- the rows of instructions that neither read nor write memory
+abbrev inner : List Row
+inner = whole ++ (shifts ++ (jumps ++ (moves ++ (sums ++ (products ++ (roots ++ (comparisons ++ conversions)))))))
+
 -- Every row: the step is what the outside machine made.
-pub rows-agree : T (every agrees (whole ++ (shifts ++ (jumps ++ (memory ++ (moves ++ (sums ++ (products ++ (roots ++ (comparisons ++ conversions))))))))))
-unfolding whole shifts jumps memory moves sums products roots comparisons conversions step fetch decode reading cut encode join fields effect apply setx upd dist load4 load8 store8 binary64
+pub rows-agree : T (every agrees (memory ++ (parts ++ inner)))
+unfolding memory parts whole shifts jumps moves sums products roots comparisons conversions step fetch decode reading cut encode join fields effect apply setx upd dist load4 load8 store8 binary64
 rows-agree = tt
+
+-- ---- what is accessed
+
+-- the address that the row's instruction reads or writes, if any
+abbrev accessed : Row → Option ℕ
+accessed r = and-then (and-then (fetch (start r)) decode) (λ i. access i (start r))
+
+abbrev at-cell : Row → Option ℕ → Bool
+at-cell r none = false
+at-cell (row w pc rm xs fs c pc′ cs) (some a) = eqb a (c .0)
+
+-- `access` names the cell in every load and store, and nothing in the other rows.
+pub cells-accessed : T (every (λ r. at-cell r (accessed r)) memory)
+unfolding memory access fetch decode reading cut encode join fields load4
+cells-accessed = tt
+
+pub nothing-accessed : T (every (λ r. is-none (accessed r)) inner)
+unfolding whole shifts jumps moves sums products roots comparisons conversions access fetch decode reading cut encode join fields load4
+nothing-accessed = tt
 
 -- ---- no next state
 
-abbrev none-after : Option State → Bool
-none-after none = true
-none-after (some t) = false
-
 -- Every word and pc of `stopped`: there is no step.
-pub stopped-stop : T (every (λ p. none-after (step binary64 (start (row (p .0) (p .1) 0 [] [] (0, 0) 0 [])))) stopped)
+pub stopped-stop : T (every (λ p. is-none (step binary64 (start (row (p .0) (p .1) 0 [] [] (0, 0) 0 [])))) stopped)
 unfolding stopped step fetch decode reading cut encode join fields load4
 stopped-stop = tt
 
