@@ -1,0 +1,4 @@
+pub mod Table
+pub mod Signs
+pub mod Fields
+pub mod Answers

@@ -1,0 +1,41 @@
+use borrow.Author.Needs.{needs}
+use borrow.Author.Tests.{not-true, not-false}
+use mathlib.Core.Path.{_≡_, sym, _∙_}
+use mathlib.Core.Bool.{true, false}
+use lib.Dec.{ltb}
+use lib.ListN.{getD}
+use mathlib.Core.List.{[], _∷_}
+use Rattle.isa.specs.Instr.{register, registers-hold, C, FSQRT-D, valid, rounding, c-rounding}
+use Rattle.isa.specs.Decode.{c-ops}
+use Rattle.isa.proofs.Validity.{Holds-holds}
+use Rattle.encoder.proofs.Answers.{bad-register, small, good, word-C, inside}
+use Rattle.encoder.proofs.ctype.Statement.{statement}
+use Rattle.encoder.proofs.ctype.Tie as tie
+
+passed : (c : tie.Else1) → registers-hold (register (c .before .before .args .rd) ∷ register (c .before .before .args .rs1) ∷ []) ≡ true
+passed c = sym (c .before .registers .ensures) ∙ not-false _ (c .if1 .left)
+
+rounded : (c : tie.Else1) → valid (C (getD c-ops (c .before .before .args .op) FSQRT-D) (c .before .before .args .rd) (c .before .before .args .rs1) (c .before .before .args .rm)) ≡ true
+rounded c = inside (ltb (c .before .before .args .rd) 32) (ltb (c .before .before .args .rs1) 32) _ (Holds-holds (rounding (c-rounding (getD c-ops (c .before .before .args .op) FSQRT-D)) (c .before .before .args .rm)) (c .before .before .pre .1)) (passed c)
+
+registers-requires : tie.Need-registers-requires
+registers-requires c κs = search needs
+
+returns : tie.Need-returns
+returns c = bad-register _ (sym (c .before .registers .ensures) ∙ not-true _ (c .if1 .taken))
+
+add-base : tie.Need-add-base
+add-base c = search needs
+
+base-requires : tie.Need-base-requires
+base-requires c κs = search needs
+
+pack-requires : tie.Need-pack-requires
+pack-requires c κs = small _ (rounded (c .before)) _ (word-C _ _ (c .before .before .before .pre .0) (c .base .ensures) _ _ _)
+
+returns-2 : tie.Need-returns-2
+returns-2 c =
+    good _ (rounded (c .before .before)) _ (c .pack .ensures ∙ word-C _ _ (c .before .before .before .before .pre .0) (c .before .base .ensures) _ _ _) (passed (c .before .before))
+
+pub ctype-spec : {M : Type 1} → statement M
+ctype-spec = tie.close (tie.spec registers-requires returns add-base base-requires pack-requires returns-2)

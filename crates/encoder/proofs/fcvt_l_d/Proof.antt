@@ -1,0 +1,30 @@
+use borrow.Author.Needs.{needs}
+use mathlib.Core.Path.{_≡_, sym, _∙_}
+use lib.Dec.{lit<, ltb}
+use Rattle.isa.proofs.Validity.{true-T}
+use Rattle.encoder.proofs.Answers.{bad-register, bad-value, outside}
+use Rattle.encoder.proofs.fcvt_l_d.Statement.{statement}
+use Rattle.encoder.proofs.fcvt_l_d.Tie as tie
+
+rounding-requires : tie.Need-rounding-requires
+rounding-requires c κs = search needs
+
+ctype-requires : tie.Need-ctype-requires
+ctype-requires c κs = (lit< tt, true-T _ (sym (c .before .rounding .ensures) ∙ c .if1 .taken))
+
+returns : tie.Need-returns
+returns c = search needs
+
+registers-requires : tie.Need-registers-requires
+registers-requires c κs = search needs
+
+returns-2 : tie.Need-returns-2
+returns-2 c =
+    bad-value _ (sym (c .before .registers .ensures) ∙ c .if2 .taken)
+    (outside (ltb (c .before .before .before .before .args .rd) 32) (ltb (c .before .before .before .before .args .rs1) 32) _ (sym (c .before .before .before .rounding .ensures) ∙ c .before .before .if1 .left))
+
+returns-3 : tie.Need-returns-3
+returns-3 c = bad-register _ (sym (c .before .registers .ensures) ∙ c .if2 .left)
+
+pub fcvt-l-d-spec : {M : Type 1} → statement M
+fcvt-l-d-spec = tie.close (tie.spec rounding-requires ctype-requires returns registers-requires returns-2 returns-3)

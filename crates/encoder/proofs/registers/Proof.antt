@@ -1,0 +1,26 @@
+use mathlib.Core.Path.{sym}
+use mathlib.Core.Bool.{and-true}
+use borrow.Author.Tests.{lt-ltb, le-ltb}
+use Rattle.encoder.proofs.registers.Statement.{statement}
+use Rattle.encoder.proofs.registers.Tie as tie
+use Rattle.encoder.proofs.registers.Reads as reads
+use Rattle.encoder.proofs.registers.Lts as lts
+
+-- src/lib.rt:229:9
+returns : tie.Need-returns
+returns c = simp (le-ltb _ _ (c .if1 .taken))
+
+-- src/lib.rt:232:9
+returns-2 : tie.Need-returns-2
+returns-2 c = simp (lt-ltb _ _ (c .before .if1 .left), le-ltb _ _ (c .if2 .taken))
+
+-- src/lib.rt:235:9
+returns-3 : tie.Need-returns-3
+returns-3 c = simp (lt-ltb _ _ (c .before .before .if1 .left), lt-ltb _ _ (c .before .if2 .left), le-ltb _ _ (c .if3 .taken))
+
+-- src/lib.rt:225:1
+returns-4 : tie.Need-returns-4
+returns-4 c = simp (lt-ltb _ _ (c .before .before .if1 .left), lt-ltb _ _ (c .before .if2 .left), lt-ltb _ _ (c .if3 .left)) (sym (and-true _))
+
+pub registers-spec : {M : Type 1} → statement M
+registers-spec = tie.close (tie.spec returns returns-2 returns-3 returns-4)

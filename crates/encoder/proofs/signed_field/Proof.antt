@@ -1,0 +1,45 @@
+use borrow.Author.Needs.{needs}
+use mathlib.Core.Path.{_≡_, sym, _∙_}
+use Rattle.encoder.specs.Field.{sign-of}
+use Rattle.encoder.proofs.Signs.{handed}
+use Rattle.encoder.proofs.Fields.{low, high, below, deep}
+use Rattle.encoder.proofs.signed_field.Statement.{statement}
+use Rattle.encoder.proofs.signed_field.Tie as tie
+
+-- what `split` answered is the number's own sign
+came : (c : tie.After-split) → c .split .result ≡ sign-of (c .before .args .imm)
+came c = handed sign-of (c .before .args .imm) (c .before .fits .imm) (c .split .ensures)
+
+split-requires : tie.Need-split-requires
+split-requires c κs = search needs
+
+enum-known-s : tie.Need-enum-known-s
+enum-known-s c = search needs
+
+enum-known-s-2 : tie.Need-enum-known-s-2
+enum-known-s-2 c = search needs
+
+add-t11 : tie.Need-add-t11
+add-t11 c = search needs
+
+sub-t12 : tie.Need-sub-t12
+sub-t12 c = search needs
+
+sub-t13 : tie.Need-sub-t13
+sub-t13 c = search needs
+
+returns : tie.Need-returns
+returns c = (low _ _ _ (sym (came (c .before .before .before .before)) ∙ c .before .before .s .given .1) (c .if1 .taken)) .0
+
+returns-2 : tie.Need-returns-2
+returns-2 c = (high _ _ _ (sym (came (c .before .before .before .before)) ∙ c .before .before .s .given .1) (c .if1 .left)) .0
+
+returns-3 : tie.Need-returns-3
+returns-3 c = below _ _ _ (sym (came (c .before .before .before .before)) ∙ c .before .before .s2 .given .1) (c .if2 .taken)
+
+returns-4 : tie.Need-returns-4
+returns-4 c = deep _ _ _ (sym (came (c .before .before .before .before)) ∙ c .before .before .s2 .given .1) (c .if2 .left)
+
+pub signed-field-spec : {M : Type 1} → statement M
+signed-field-spec =
+    tie.close (tie.spec split-requires enum-known-s enum-known-s-2 add-t11 sub-t12 sub-t13 returns returns-2 returns-3 returns-4)

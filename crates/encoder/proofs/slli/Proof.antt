@@ -1,0 +1,16 @@
+use borrow.Author.Needs.{needs}
+use lib.IntN.{ℤ}
+use Rattle.isa.specs.Instr.{Shift, SLLI}
+use Rattle.encoder.specs.Answer.{encoded}
+use Rattle.encoder.proofs.Signs.{handed}
+use Rattle.encoder.proofs.slli.Statement.{statement}
+use Rattle.encoder.proofs.slli.Tie as tie
+
+shift-requires : tie.Need-shift-requires
+shift-requires c κs = search needs
+
+returns : tie.Need-returns
+returns c = handed (λ (z : ℤ). encoded (Shift SLLI (c .before .args .rd) (c .before .args .rs1) z)) _ (c .before .fits .shamt) (c .shift .ensures)
+
+pub slli-spec : {M : Type 1} → statement M
+slli-spec = tie.close (tie.spec shift-requires returns)
