@@ -52,6 +52,16 @@ module _ (Q : Floats) where
       let r = flow-pc is (exec Q i s) (and-r (flows e) _ h) (omega arith) in
       omega (arith, r)
 
+  -- ---- a path with jumps: each word where the machine then is
+
+  abbrev pub Path : List Instr → State → Type 0
+  Path [] s = Unit {0}
+  Path (i ∷ is) s = (s .pc % 4 ≡ 0) × (load4 (s .mem) (s .pc) ≡ encode i) × Path is (exec Q i s)
+
+  pub path-run : (is : List Instr) (s : State) → Fit Q is s → Path is s → Run Q s (length is) (execs Q is s)
+  path-run [] s w p = stop
+  path-run (i ∷ is) s w p = go (step-at Q i s (w .0) (p .0) (p .1)) (path-run is (exec Q i s) (w .1) (p .2))
+
   -- ---- one list behind another
 
   pub execs-append : (is js : List Instr) (s : State) → execs Q (is ++ js) s ≡ execs Q js (execs Q is s)
@@ -98,16 +108,6 @@ module _ (Q : Floats) where
                 x = λ r k. execs-x is s r (and-r (flow is s) _ g) k;
               };
         }
-
-    -- ---- a path with jumps: each word where the machine then is
-
-    abbrev pub Path : List Instr → State → Type 0
-    Path [] s = Unit {0}
-    Path (i ∷ is) s = (s .pc % 4 ≡ 0) × (load4 (s .mem) (s .pc) ≡ encode i) × Path is (exec Q i s)
-
-    path-run : (is : List Instr) (s : State) → Fit Q is s → Path is s → Run Q s (length is) (execs Q is s)
-    path-run [] s w p = stop
-    path-run (i ∷ is) s w p = go (step-at Q i s (w .0) (p .0) (p .1)) (path-run is (exec Q i s) (w .1) (p .2))
 
     pub by-path : (is : List Instr) (s : State) (a : ℕ) (f′ m′ : ℕ → ℕ) → Fit Q is s → T (keeps is s) → Path is s → (execs Q is s) .pc ≡ a → (execs Q is s) .f ≡ f′ → (execs Q is s) .mem ≡ m′ → Ends Q W s (length is) a f′ m′
     by-path is s a f′ m′ w h c e p q =
