@@ -2,10 +2,10 @@
 use mathlib.Core.Path.{_≡_, refl, _∙_}
 use mathlib.Core.Bool.{Bool, true, not, _&&_}
 use mathlib.Core.List.{List, [], _∷_, _++_}
-use Prim.Native.Nat.{ℕ, _+_, _*_, _%_, _^_, _<_}
+use Prim.Native.Nat.{ℕ, zero, suc, _+_, _*_, _%_, _^_, _<_}
 use native.Mathlib.Omega.{arith}
 use lib.Dec.{T}
-use lib.ListN.{length}
+use lib.ListN.{length, take, drop}
 use Rattle.isa.specs.Instr.{Instr}
 use Rattle.isa.specs.Encode.{encode}
 use Rattle.machine.specs.Word.{w64, load4}
@@ -71,6 +71,12 @@ module _ (Q : Floats) where
   pub fit-join : (is js : List Instr) (s : State) → Fit Q is s → Fit Q js (execs Q is s) → Fit Q (is ++ js) s
   fit-join [] js s v w = w
   fit-join (i ∷ is) js s v w = (v .0, fit-join is js (exec Q i s) (v .1) w)
+
+  -- in two parts, where `omega` finds the whole too long
+  pub fit-cut : (k : ℕ) (is : List Instr) (s : State) → Fit Q (take k is) s → Fit Q (drop k is) (execs Q (take k is) s) → Fit Q is s
+  fit-cut zero is s v w = w
+  fit-cut (suc k) [] s v w = tt
+  fit-cut (suc k) (i ∷ is) s v w = (v .0, fit-cut k is (exec Q i s) (v .1) w)
 
   -- ---- the rounding mode, and registers outside a set W
 
