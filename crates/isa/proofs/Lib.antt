@@ -1,3 +1,4 @@
 pub mod Validity
 pub mod Laws
 pub mod Words
+pub mod HiLo
