@@ -10,6 +10,7 @@ ghost use Rattle.encoder.specs.Answer.{told, encoded};
 ghost use Rattle.encoder.specs.Table.{row-of};
 ghost use Rattle.encoder.specs.Field.{packed, sign-of, signed-field, even-field, unsigned-field};
 ghost use Rattle.isa.specs.Instr.{R, F, C, M, R4, I, Shift, S, B, U, J, ADD, SUB, SLL, XOR, SRL, SRA, OR, AND, FSGNJ-D, FSGNJN-D, FSGNJX-D, FMIN-D, FMAX-D, FLE-D, FLT-D, FEQ-D, FADD-D, FSUB-D, FMUL-D, FDIV-D, FSQRT-D, FCVT-W-D, FCVT-L-D, FCVT-D-W, FCVT-D-L, FMV-X-D, FMV-D-X, FMADD-D, FMSUB-D, FNMSUB-D, FNMADD-D, ADDI, XORI, ORI, ANDI, JALR, LD, FLD, SLLI, SRLI, SRAI, SD, FSD, BEQ, BNE, BLT, BGE, BLTU, BGEU, LUI, AUIPC, JAL, rounding as rounding-field, free, Holds, holds, f-rounding, c-rounding, register, registers-hold};
+ghost use Rattle.isa.specs.Immediate.{hi as hi-part, lo as lo-part};
 ghost use Rattle.isa.specs.Encode.{encode};
 ghost use Rattle.isa.specs.Decode.{r-ops, f-ops, c-ops, m-ops, r4-ops, i-ops, shift-ops, s-ops, b-ops, u-ops, j-ops};
 use refusal::Refusal;
@@ -317,6 +318,26 @@ fn unsigned_field(imm: i32, limit: u32) -> Field
         },
         Sign::Neg(_) => Field::Outside,
     }
+}
+
+// ---- the parts of a 32-bit number that `lui` or `auipc` and the word behind it take (mod.rs)
+
+pub fn hi(x: u32) -> i32
+    ensures { λ r. ⌜ r ≡ pos (hi-part x) ⌝ }
+{
+    ((x / 2048 + 1) / 2 % 1048576) as i32
+}
+
+pub fn lo(x: u32) -> i32
+    ensures { λ r. ⌜ r ≡ lo-part x ⌝ }
+{
+    let l = x % 4096;
+    if l < 2048 {
+        return l as i32;
+    }
+    let m = 4095 - l;
+    let s = m as i32;
+    -1 - s
 }
 
 // ---- formats
