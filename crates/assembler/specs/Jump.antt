@@ -1,0 +1,25 @@
+-- The six kinds of jump (document 01, "What changes shape"): their numbers in jump memory, and the instruction that finishing writes.
+use Prim.Native.Nat.{ℕ, _+_}
+use lib.IntN.{ℤ, pos}
+use Rattle.isa.specs.Immediate.{twos, hi, lo}
+use Rattle.isa.specs.Instr.{Instr, I, B, U, LD, JALR, FLD, BEQ, BNE, AUIPC}
+use Rattle.assembler.specs.declared.Kind.{Kind}
+use Rattle.assembler.specs.declared.Kind.the-variants.{Auipc, Ld, Jalr, Fld, Beq, Bne}
+
+abbrev pub kind-number : Kind → ℕ
+kind-number Auipc = 0
+kind-number Ld = 1
+kind-number Jalr = 2
+kind-number Fld = 3
+kind-number Beq = 4
+kind-number Bne = 5
+
+-- The instruction of a jump: r is its register, z the offset from its word to its label's place, in bytes.
+-- The second word of a pair takes its low part from its own offset plus 4. t0 is x5, t2 x7, s2 x18.
+abbrev pub jump-instr : Kind → ℕ → ℤ → Instr
+jump-instr Auipc r z = U AUIPC 5 (pos (hi (twos 32 z)))
+jump-instr Ld r z = I LD r 5 (lo (twos 32 z + 4))
+jump-instr Jalr r z = I JALR r 5 (lo (twos 32 z + 4))
+jump-instr Fld r z = I FLD r 5 (lo (twos 32 z + 4))
+jump-instr Beq r z = B BEQ 18 0 z
+jump-instr Bne r z = B BNE 7 0 z
