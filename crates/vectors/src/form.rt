@@ -20,31 +20,23 @@ pub fn unknown() -> Encoded {
     Encoded::Refused(Refusal::Line, 1)
 }
 
-// The name is the one that names, of nine bytes each, have for the form; the first of them is that of form `first`.
+// The name is the form's in a list of names, ten bytes each, that starts with the name of form `first`.
 fn named(names: &[u8], first: u32, form: u32, name: &[u8]) -> bool {
     if form < first {
         return false;
     }
-    if names.len() < 9 {
+    if names.len() < 10 {
         return false;
     }
-    let at = (form - first) as usize * 9;
-    if at > names.len() - 9 {
+    let at = (form - first) as usize * 10;
+    if at > names.len() - 10 {
         return false;
     }
-    check::same(&names[at..at + 9], name)
+    check::same(&names[at..at + 10], name)
 }
 
 // Whole-number arithmetic on registers.
-fn arithmetic(form: u32, name: &[u8], a: u32, b: u32, c: u32) -> Encoded {
-    if !named(
-        b"add      mv       sub      neg      and      or       xor      sll      srl      sra      ",
-        0x00,
-        form,
-        name,
-    ) {
-        return unknown();
-    }
+fn arithmetic(form: u32, a: u32, b: u32, c: u32) -> Encoded {
     match form {
         0x00 => encoder::add(a, b, c),
         0x01 => encoder::mv(a, b),
@@ -61,64 +53,42 @@ fn arithmetic(form: u32, name: &[u8], a: u32, b: u32, c: u32) -> Encoded {
 }
 
 // Whole-number arithmetic with an immediate, `ld` and `sd`.
-fn immediate(form: u32, name: &[u8], a: u32, b: u32, c: u32) -> Encoded {
-    if !named(
-        b"addi     nop      andi     ori      xori     not      slli     srli     srai     ld       sd       ",
-        0x0a,
-        form,
-        name,
-    ) {
-        return unknown();
-    }
+fn immediate(form: u32, a: u32, b: u32, c: u32) -> Encoded {
+    let z = signed(c);
     match form {
-        0x0a => encoder::addi(a, b, signed(c)),
+        0x0a => encoder::addi(a, b, z),
         0x0b => encoder::nop(),
-        0x0c => encoder::andi(a, b, signed(c)),
-        0x0d => encoder::ori(a, b, signed(c)),
-        0x0e => encoder::xori(a, b, signed(c)),
+        0x0c => encoder::andi(a, b, z),
+        0x0d => encoder::ori(a, b, z),
+        0x0e => encoder::xori(a, b, z),
         0x0f => encoder::not(a, b),
-        0x10 => encoder::slli(a, b, signed(c)),
-        0x11 => encoder::srli(a, b, signed(c)),
-        0x12 => encoder::srai(a, b, signed(c)),
-        0x13 => encoder::ld(a, b, signed(c)),
-        0x14 => encoder::sd(a, b, signed(c)),
+        0x10 => encoder::slli(a, b, z),
+        0x11 => encoder::srli(a, b, z),
+        0x12 => encoder::srai(a, b, z),
+        0x13 => encoder::ld(a, b, z),
+        0x14 => encoder::sd(a, b, z),
         _ => unknown(),
     }
 }
 
 // Branches.
-fn branch(form: u32, name: &[u8], a: u32, b: u32, c: u32) -> Encoded {
-    if !named(
-        b"beq      bne      blt      ble      bgt      bge      bltu     bgeu     ",
-        0x15,
-        form,
-        name,
-    ) {
-        return unknown();
-    }
+fn branch(form: u32, a: u32, b: u32, c: u32) -> Encoded {
+    let z = signed(c);
     match form {
-        0x15 => encoder::beq(a, b, signed(c)),
-        0x16 => encoder::bne(a, b, signed(c)),
-        0x17 => encoder::blt(a, b, signed(c)),
-        0x18 => encoder::ble(a, b, signed(c)),
-        0x19 => encoder::bgt(a, b, signed(c)),
-        0x1a => encoder::bge(a, b, signed(c)),
-        0x1b => encoder::bltu(a, b, signed(c)),
-        0x1c => encoder::bgeu(a, b, signed(c)),
+        0x15 => encoder::beq(a, b, z),
+        0x16 => encoder::bne(a, b, z),
+        0x17 => encoder::blt(a, b, z),
+        0x18 => encoder::ble(a, b, z),
+        0x19 => encoder::bgt(a, b, z),
+        0x1a => encoder::bge(a, b, z),
+        0x1b => encoder::bltu(a, b, z),
+        0x1c => encoder::bgeu(a, b, z),
         _ => unknown(),
     }
 }
 
 // Jumps and upper immediates.
-fn jump(form: u32, name: &[u8], a: u32, b: u32, c: u32) -> Encoded {
-    if !named(
-        b"jal      j        jalr     jr       ret      lui      auipc    ",
-        0x1d,
-        form,
-        name,
-    ) {
-        return unknown();
-    }
+fn jump(form: u32, a: u32, b: u32, c: u32) -> Encoded {
     match form {
         0x1d => encoder::jal(a, signed(b)),
         0x1e => encoder::j(signed(a)),
@@ -132,15 +102,7 @@ fn jump(form: u32, name: &[u8], a: u32, b: u32, c: u32) -> Encoded {
 }
 
 // Float arithmetic, sign injection, minimum and maximum.
-fn float(form: u32, name: &[u8], a: u32, b: u32, c: u32, d: u32) -> Encoded {
-    if !named(
-        b"fadd_d   fadd_d_rmfsub_d   fmul_d   fdiv_d   fsqrt_d  fsgnj_d  fsgnjn_d fsgnjx_d fmin_d   fmax_d   ",
-        0x24,
-        form,
-        name,
-    ) {
-        return unknown();
-    }
+fn float(form: u32, a: u32, b: u32, c: u32, d: u32) -> Encoded {
     match form {
         0x24 => encoder::fadd_d(a, b, c),
         0x25 => encoder::fadd_d_rm(a, b, c, d),
@@ -158,15 +120,7 @@ fn float(form: u32, name: &[u8], a: u32, b: u32, c: u32, d: u32) -> Encoded {
 }
 
 // Comparisons, `fld`, `fsd` and moves between float registers.
-fn compare(form: u32, name: &[u8], a: u32, b: u32, c: u32) -> Encoded {
-    if !named(
-        b"feq_d    flt_d    fle_d    fgt_d    fge_d    fld      fsd      fabs_d   fmv_d    fneg_d   ",
-        0x2f,
-        form,
-        name,
-    ) {
-        return unknown();
-    }
+fn compare(form: u32, a: u32, b: u32, c: u32) -> Encoded {
     match form {
         0x2f => encoder::feq_d(a, b, c),
         0x30 => encoder::flt_d(a, b, c),
@@ -183,15 +137,7 @@ fn compare(form: u32, name: &[u8], a: u32, b: u32, c: u32) -> Encoded {
 }
 
 // Conversions, moves of bits and the fused.
-fn convert(form: u32, name: &[u8], a: u32, b: u32, c: u32, d: u32) -> Encoded {
-    if !named(
-        b"fcvt_w_d fcvt_d_w fcvt_l_d fcvt_d_l fmv_x_d  fmv_d_x  fmadd_d  fmsub_d  fnmadd_d fnmsub_d ",
-        0x39,
-        form,
-        name,
-    ) {
-        return unknown();
-    }
+fn convert(form: u32, a: u32, b: u32, c: u32, d: u32) -> Encoded {
     match form {
         0x39 => encoder::fcvt_w_d(a, b),
         0x3a => encoder::fcvt_d_w(a, b),
@@ -207,16 +153,75 @@ fn convert(form: u32, name: &[u8], a: u32, b: u32, c: u32, d: u32) -> Encoded {
     }
 }
 
-// The encoder's answer to a form and its operands. The name is the number's.
-pub fn encoded(form: u32, name: &[u8], a: u32, b: u32, c: u32, d: u32) -> Encoded {
+// The number is that of a whole-number form, and the name is its name.
+fn whole_number(form: u32, name: &[u8]) -> bool {
     match form {
-        0x00..=0x09 => arithmetic(form, name, a, b, c),
-        0x0a..=0x14 => immediate(form, name, a, b, c),
-        0x15..=0x1c => branch(form, name, a, b, c),
-        0x1d..=0x23 => jump(form, name, a, b, c),
-        0x24..=0x2e => float(form, name, a, b, c, d),
-        0x2f..=0x38 => compare(form, name, a, b, c),
-        0x39..=0x42 => convert(form, name, a, b, c, d),
+        0x00..=0x09 => named(
+            b"add       mv        sub       neg       and       or        xor       sll       srl       sra       ",
+            0x00,
+            form,
+            name,
+        ),
+        0x0a..=0x14 => named(
+            b"addi      nop       andi      ori       xori      not       slli      srli      srai      ld        sd        ",
+            0x0a,
+            form,
+            name,
+        ),
+        0x15..=0x1c => named(
+            b"beq       bne       blt       ble       bgt       bge       bltu      bgeu      ",
+            0x15,
+            form,
+            name,
+        ),
+        0x1d..=0x23 => named(
+            b"jal       j         jalr      jr        ret       lui       auipc     ",
+            0x1d,
+            form,
+            name,
+        ),
+        _ => false,
+    }
+}
+
+// The number is that of a float form, and the name is its name.
+fn floating(form: u32, name: &[u8]) -> bool {
+    match form {
+        0x24..=0x2e => named(
+            b"fadd_d    fadd_d_rm fsub_d    fmul_d    fdiv_d    fsqrt_d   fsgnj_d   fsgnjn_d  fsgnjx_d  fmin_d    fmax_d    ",
+            0x24,
+            form,
+            name,
+        ),
+        0x2f..=0x38 => named(
+            b"feq_d     flt_d     fle_d     fgt_d     fge_d     fld       fsd       fabs_d    fmv_d     fneg_d    ",
+            0x2f,
+            form,
+            name,
+        ),
+        0x39..=0x42 => named(
+            b"fcvt_w_d  fcvt_d_w  fcvt_l_d  fcvt_d_l  fmv_x_d   fmv_d_x   fmadd_d   fmsub_d   fnmadd_d  fnmsub_d  ",
+            0x39,
+            form,
+            name,
+        ),
+        _ => false,
+    }
+}
+
+// The encoder's answer to a form and its operands.
+pub fn encoded(form: u32, name: &[u8], a: u32, b: u32, c: u32, d: u32) -> Encoded {
+    if !whole_number(form, name) && !floating(form, name) {
+        return unknown();
+    }
+    match form {
+        0x00..=0x09 => arithmetic(form, a, b, c),
+        0x0a..=0x14 => immediate(form, a, b, c),
+        0x15..=0x1c => branch(form, a, b, c),
+        0x1d..=0x23 => jump(form, a, b, c),
+        0x24..=0x2e => float(form, a, b, c, d),
+        0x2f..=0x38 => compare(form, a, b, c),
+        0x39..=0x42 => convert(form, a, b, c, d),
         _ => unknown(),
     }
 }

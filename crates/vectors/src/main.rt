@@ -108,17 +108,12 @@ fn agrees(got: Encoded, e: Expected) -> bool
     }
 }
 
-// Spaces part the columns.
+// Spaces part the columns. (The name, with the space behind it, is compared whole.)
 fn spaced(s: &[u8]) -> bool {
     if s.len() < 49 {
         return false;
     }
-    s[2] == b' '
-        && s[12] == b' '
-        && s[21] == b' '
-        && s[30] == b' '
-        && s[39] == b' '
-        && s[48] == b' '
+    s[2] == b' ' && s[21] == b' ' && s[30] == b' ' && s[39] == b' ' && s[48] == b' '
 }
 
 // The encoder's answer to a row's form and operands. A row that cannot be read is no form's.
@@ -144,7 +139,7 @@ fn answer(s: &[u8]) -> Encoded {
     let Hex::Is(d) = number(&s[40..48]) else {
         return form::unknown();
     };
-    form::encoded(f, &s[3..12], a, b, c, d)
+    form::encoded(f, &s[3..13], a, b, c, d)
 }
 
 // Rows so far: those whose word came, those whose refusal came, and the others.
@@ -190,42 +185,23 @@ fn mismatch(t: Tally, got: Encoded, s: &[u8]) -> Tally {
     if t.mismatches < SHOWN {
         show(t.rows, got, s);
     }
-    Tally {
-        rows: t.rows,
-        words: t.words,
-        refusals: t.refusals,
-        mismatches: more(t.mismatches),
-        ended: t.ended,
-    }
+    let mut u = t;
+    u.mismatches = more(t.mismatches);
+    u
 }
 
 fn matched(t: Tally, got: Encoded) -> Tally {
+    let mut u = t;
     match got {
-        Encoded::Word(_) => Tally {
-            rows: t.rows,
-            words: more(t.words),
-            refusals: t.refusals,
-            mismatches: t.mismatches,
-            ended: t.ended,
-        },
-        Encoded::Refused(_, _) => Tally {
-            rows: t.rows,
-            words: t.words,
-            refusals: more(t.refusals),
-            mismatches: t.mismatches,
-            ended: t.ended,
-        },
+        Encoded::Word(_) => u.words = more(t.words),
+        Encoded::Refused(_, _) => u.refusals = more(t.refusals),
     }
+    u
 }
 
 fn row(before: Tally, s: &[u8]) -> Tally {
-    let t = Tally {
-        rows: more(before.rows),
-        words: before.words,
-        refusals: before.refusals,
-        mismatches: before.mismatches,
-        ended: false,
-    };
+    let mut t = before;
+    t.rows = more(before.rows);
     let got = answer(s);
     if s.len() < 49 {
         return mismatch(t, got, s);
@@ -256,14 +232,9 @@ fn rows(t: Tally, s: &[u8]) -> Tally {
 fn block(t: Tally) -> Tally {
     let mut buf = [0u8; BLOCK];
     let n = io::read_full(0, &mut buf);
-    let sum = rows(t, &buf[..n]);
-    Tally {
-        rows: sum.rows,
-        words: sum.words,
-        refusals: sum.refusals,
-        mismatches: sum.mismatches,
-        ended: n < BLOCK,
-    }
+    let mut u = rows(t, &buf[..n]);
+    u.ended = n < BLOCK;
+    u
 }
 
 // The whole of standard input. Nothing says that it ends, so the loop counts its turns down.
