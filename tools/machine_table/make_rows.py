@@ -331,6 +331,7 @@ NOT = [(t, PC) for t in NOT] + [("add x5, x6, x7", PC + k) for k in (1, 2, 3)]
 
 # Not run either. The rows leave open in which mode a sum is asked for (`binary64` has one rounding) and in which order the operands
 # of a sum stand, so these say, by the Manual, which function each instruction applies to what: text, the state's mode, result.
+# No register's number is a rounding field or a mode.
 ASKED = {"f": [], "x": []}
 MODES = ["rne", "rtz", "rdn", "rup", "rmm"]
 
@@ -348,15 +349,15 @@ NO_FIELD = [("", 3, [])]
 FIXED = [("", 3, ["0"])]
 DYNAMIC = [("", 3, ["3"])]
 FREE = [(f", {name}", (k + 2) % 5, [str(k)]) for k, name in enumerate(MODES)] + [("", m, [str(m)]) for m in range(5)]
-ask("fadd.d f5, f6, f7", "add", FREE)
-for text, function in [("fsub.d f5, f6, f7", "sub"), ("fmul.d f5, f6, f7", "mul"), ("fdiv.d f5, f6, f7", "div"), ("fsqrt.d f5, f6", "sqrt"), ("fmadd.d f5, f6, f7, f8", "mul-add"), ("fmsub.d f5, f6, f7, f8", "mul-sub"), ("fnmsub.d f5, f6, f7, f8", "neg-mul-add"), ("fnmadd.d f5, f6, f7, f8", "neg-mul-sub"), ("fcvt.d.l f5, x6", "of-l")]:
+ask("fadd.d f5, f12, f13", "add", FREE)
+for text, function in [("fsub.d f5, f12, f13", "sub"), ("fmul.d f5, f12, f13", "mul"), ("fdiv.d f5, f12, f13", "div"), ("fsqrt.d f5, f12", "sqrt"), ("fmadd.d f5, f12, f13, f14", "mul-add"), ("fmsub.d f5, f12, f13, f14", "mul-sub"), ("fnmsub.d f5, f12, f13, f14", "neg-mul-add"), ("fnmadd.d f5, f12, f13, f14", "neg-mul-sub"), ("fcvt.d.l f5, x12", "of-l")]:
     ask(text, function, DYNAMIC)
-ask("fcvt.d.w f5, x6", "of-w", FIXED)
-ask("fmin.d f5, f6, f7", "min", NO_FIELD)
-ask("fmax.d f5, f6, f7", "max", NO_FIELD)
-ask("fcvt.w.d x5, f6", "to-w", DYNAMIC, "sext 32 ({})")
-ask("fcvt.l.d x5, f6", "to-l", FREE)
-for text, function in [("fle.d x5, f6, f7", "le"), ("flt.d x5, f6, f7", "lt"), ("feq.d x5, f6, f7", "eq")]:
+ask("fcvt.d.w f5, x12", "of-w", FIXED)
+ask("fmin.d f5, f12, f13", "min", NO_FIELD)
+ask("fmax.d f5, f12, f13", "max", NO_FIELD)
+ask("fcvt.w.d x5, f12", "to-w", DYNAMIC, "sext 32 ({})")
+ask("fcvt.l.d x5, f12", "to-l", FREE)
+for text, function in [("fle.d x5, f12, f13", "le"), ("flt.d x5, f12, f13", "lt"), ("feq.d x5, f12, f13", "eq")]:
     ask(text, function, NO_FIELD, "bit ({})")
 
 # ---------------------------------------------------------------- the tools

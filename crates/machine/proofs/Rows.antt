@@ -1871,81 +1871,81 @@ stopped =
 -- A word, the state's mode, and what f5 is then for any `Floats`: by the Manual, not by the outside machine.
 unfoldable pub asked-f : List (ℕ × ℕ × (Floats → ℕ))
 asked-f =
-    -- fadd.d f5, f6, f7, rne
-    (0x027302d3, 2, λ Q. w64 (Q .add 0 9006 9007))
-    -- fadd.d f5, f6, f7, rtz
-    ∷ (0x027312d3, 3, λ Q. w64 (Q .add 1 9006 9007))
-    -- fadd.d f5, f6, f7, rdn
-    ∷ (0x027322d3, 4, λ Q. w64 (Q .add 2 9006 9007))
-    -- fadd.d f5, f6, f7, rup
-    ∷ (0x027332d3, 0, λ Q. w64 (Q .add 3 9006 9007))
-    -- fadd.d f5, f6, f7, rmm
-    ∷ (0x027342d3, 1, λ Q. w64 (Q .add 4 9006 9007))
-    -- fadd.d f5, f6, f7
-    ∷ (0x027372d3, 0, λ Q. w64 (Q .add 0 9006 9007))
-    -- fadd.d f5, f6, f7
-    ∷ (0x027372d3, 1, λ Q. w64 (Q .add 1 9006 9007))
-    -- fadd.d f5, f6, f7
-    ∷ (0x027372d3, 2, λ Q. w64 (Q .add 2 9006 9007))
-    -- fadd.d f5, f6, f7
-    ∷ (0x027372d3, 3, λ Q. w64 (Q .add 3 9006 9007))
-    -- fadd.d f5, f6, f7
-    ∷ (0x027372d3, 4, λ Q. w64 (Q .add 4 9006 9007))
-    -- fsub.d f5, f6, f7
-    ∷ (0x0a7372d3, 3, λ Q. w64 (Q .sub 3 9006 9007))
-    -- fmul.d f5, f6, f7
-    ∷ (0x127372d3, 3, λ Q. w64 (Q .mul 3 9006 9007))
-    -- fdiv.d f5, f6, f7
-    ∷ (0x1a7372d3, 3, λ Q. w64 (Q .div 3 9006 9007))
-    -- fsqrt.d f5, f6
-    ∷ (0x5a0372d3, 3, λ Q. w64 (Q .sqrt 3 9006))
-    -- fmadd.d f5, f6, f7, f8
-    ∷ (0x427372c3, 3, λ Q. w64 (Q .mul-add 3 9006 9007 9008))
-    -- fmsub.d f5, f6, f7, f8
-    ∷ (0x427372c7, 3, λ Q. w64 (Q .mul-sub 3 9006 9007 9008))
-    -- fnmsub.d f5, f6, f7, f8
-    ∷ (0x427372cb, 3, λ Q. w64 (Q .neg-mul-add 3 9006 9007 9008))
-    -- fnmadd.d f5, f6, f7, f8
-    ∷ (0x427372cf, 3, λ Q. w64 (Q .neg-mul-sub 3 9006 9007 9008))
-    -- fcvt.d.l f5, x6
-    ∷ (0xd22372d3, 3, λ Q. w64 (Q .of-l 3 7006))
-    -- fcvt.d.w f5, x6
-    ∷ (0xd20302d3, 3, λ Q. w64 (Q .of-w 0 7006))
-    -- fmin.d f5, f6, f7
-    ∷ (0x2a7302d3, 3, λ Q. w64 (Q .min 9006 9007))
-    -- fmax.d f5, f6, f7
-    ∷ (0x2a7312d3, 3, λ Q. w64 (Q .max 9006 9007))
+    -- fadd.d f5, f12, f13, rne
+    (0x02d602d3, 2, λ Q. w64 (Q .add 0 9012 9013))
+    -- fadd.d f5, f12, f13, rtz
+    ∷ (0x02d612d3, 3, λ Q. w64 (Q .add 1 9012 9013))
+    -- fadd.d f5, f12, f13, rdn
+    ∷ (0x02d622d3, 4, λ Q. w64 (Q .add 2 9012 9013))
+    -- fadd.d f5, f12, f13, rup
+    ∷ (0x02d632d3, 0, λ Q. w64 (Q .add 3 9012 9013))
+    -- fadd.d f5, f12, f13, rmm
+    ∷ (0x02d642d3, 1, λ Q. w64 (Q .add 4 9012 9013))
+    -- fadd.d f5, f12, f13
+    ∷ (0x02d672d3, 0, λ Q. w64 (Q .add 0 9012 9013))
+    -- fadd.d f5, f12, f13
+    ∷ (0x02d672d3, 1, λ Q. w64 (Q .add 1 9012 9013))
+    -- fadd.d f5, f12, f13
+    ∷ (0x02d672d3, 2, λ Q. w64 (Q .add 2 9012 9013))
+    -- fadd.d f5, f12, f13
+    ∷ (0x02d672d3, 3, λ Q. w64 (Q .add 3 9012 9013))
+    -- fadd.d f5, f12, f13
+    ∷ (0x02d672d3, 4, λ Q. w64 (Q .add 4 9012 9013))
+    -- fsub.d f5, f12, f13
+    ∷ (0x0ad672d3, 3, λ Q. w64 (Q .sub 3 9012 9013))
+    -- fmul.d f5, f12, f13
+    ∷ (0x12d672d3, 3, λ Q. w64 (Q .mul 3 9012 9013))
+    -- fdiv.d f5, f12, f13
+    ∷ (0x1ad672d3, 3, λ Q. w64 (Q .div 3 9012 9013))
+    -- fsqrt.d f5, f12
+    ∷ (0x5a0672d3, 3, λ Q. w64 (Q .sqrt 3 9012))
+    -- fmadd.d f5, f12, f13, f14
+    ∷ (0x72d672c3, 3, λ Q. w64 (Q .mul-add 3 9012 9013 9014))
+    -- fmsub.d f5, f12, f13, f14
+    ∷ (0x72d672c7, 3, λ Q. w64 (Q .mul-sub 3 9012 9013 9014))
+    -- fnmsub.d f5, f12, f13, f14
+    ∷ (0x72d672cb, 3, λ Q. w64 (Q .neg-mul-add 3 9012 9013 9014))
+    -- fnmadd.d f5, f12, f13, f14
+    ∷ (0x72d672cf, 3, λ Q. w64 (Q .neg-mul-sub 3 9012 9013 9014))
+    -- fcvt.d.l f5, x12
+    ∷ (0xd22672d3, 3, λ Q. w64 (Q .of-l 3 7012))
+    -- fcvt.d.w f5, x12
+    ∷ (0xd20602d3, 3, λ Q. w64 (Q .of-w 0 7012))
+    -- fmin.d f5, f12, f13
+    ∷ (0x2ad602d3, 3, λ Q. w64 (Q .min 9012 9013))
+    -- fmax.d f5, f12, f13
+    ∷ (0x2ad612d3, 3, λ Q. w64 (Q .max 9012 9013))
     ∷ []
 
 -- A word, the state's mode, and what x5 is then for any `Floats`: by the Manual, not by the outside machine.
 unfoldable pub asked-x : List (ℕ × ℕ × (Floats → ℕ))
 asked-x =
-    -- fcvt.w.d x5, f6
-    (0xc20372d3, 3, λ Q. sext 32 (Q .to-w 3 9006))
-    -- fcvt.l.d x5, f6, rne
-    ∷ (0xc22302d3, 2, λ Q. w64 (Q .to-l 0 9006))
-    -- fcvt.l.d x5, f6, rtz
-    ∷ (0xc22312d3, 3, λ Q. w64 (Q .to-l 1 9006))
-    -- fcvt.l.d x5, f6, rdn
-    ∷ (0xc22322d3, 4, λ Q. w64 (Q .to-l 2 9006))
-    -- fcvt.l.d x5, f6, rup
-    ∷ (0xc22332d3, 0, λ Q. w64 (Q .to-l 3 9006))
-    -- fcvt.l.d x5, f6, rmm
-    ∷ (0xc22342d3, 1, λ Q. w64 (Q .to-l 4 9006))
-    -- fcvt.l.d x5, f6
-    ∷ (0xc22372d3, 0, λ Q. w64 (Q .to-l 0 9006))
-    -- fcvt.l.d x5, f6
-    ∷ (0xc22372d3, 1, λ Q. w64 (Q .to-l 1 9006))
-    -- fcvt.l.d x5, f6
-    ∷ (0xc22372d3, 2, λ Q. w64 (Q .to-l 2 9006))
-    -- fcvt.l.d x5, f6
-    ∷ (0xc22372d3, 3, λ Q. w64 (Q .to-l 3 9006))
-    -- fcvt.l.d x5, f6
-    ∷ (0xc22372d3, 4, λ Q. w64 (Q .to-l 4 9006))
-    -- fle.d x5, f6, f7
-    ∷ (0xa27302d3, 3, λ Q. bit (Q .le 9006 9007))
-    -- flt.d x5, f6, f7
-    ∷ (0xa27312d3, 3, λ Q. bit (Q .lt 9006 9007))
-    -- feq.d x5, f6, f7
-    ∷ (0xa27322d3, 3, λ Q. bit (Q .eq 9006 9007))
+    -- fcvt.w.d x5, f12
+    (0xc20672d3, 3, λ Q. sext 32 (Q .to-w 3 9012))
+    -- fcvt.l.d x5, f12, rne
+    ∷ (0xc22602d3, 2, λ Q. w64 (Q .to-l 0 9012))
+    -- fcvt.l.d x5, f12, rtz
+    ∷ (0xc22612d3, 3, λ Q. w64 (Q .to-l 1 9012))
+    -- fcvt.l.d x5, f12, rdn
+    ∷ (0xc22622d3, 4, λ Q. w64 (Q .to-l 2 9012))
+    -- fcvt.l.d x5, f12, rup
+    ∷ (0xc22632d3, 0, λ Q. w64 (Q .to-l 3 9012))
+    -- fcvt.l.d x5, f12, rmm
+    ∷ (0xc22642d3, 1, λ Q. w64 (Q .to-l 4 9012))
+    -- fcvt.l.d x5, f12
+    ∷ (0xc22672d3, 0, λ Q. w64 (Q .to-l 0 9012))
+    -- fcvt.l.d x5, f12
+    ∷ (0xc22672d3, 1, λ Q. w64 (Q .to-l 1 9012))
+    -- fcvt.l.d x5, f12
+    ∷ (0xc22672d3, 2, λ Q. w64 (Q .to-l 2 9012))
+    -- fcvt.l.d x5, f12
+    ∷ (0xc22672d3, 3, λ Q. w64 (Q .to-l 3 9012))
+    -- fcvt.l.d x5, f12
+    ∷ (0xc22672d3, 4, λ Q. w64 (Q .to-l 4 9012))
+    -- fle.d x5, f12, f13
+    ∷ (0xa2d602d3, 3, λ Q. bit (Q .le 9012 9013))
+    -- flt.d x5, f12, f13
+    ∷ (0xa2d612d3, 3, λ Q. bit (Q .lt 9012 9013))
+    -- feq.d x5, f12, f13
+    ∷ (0xa2d622d3, 3, λ Q. bit (Q .eq 9012 9013))
     ∷ []
