@@ -1,0 +1,56 @@
+-- The instructions of li, of loads and stores, and of stack sizes (document 01, "mod.rs, accesses"). sp is x2, t0 x5, s5 x21.
+use mathlib.Core.Bool.{cond}
+use mathlib.Core.List.{List, [], _∷_, _++_}
+use Prim.Native.Nat.{ℕ, _+_}
+use lib.Dec.{ltb}
+use lib.IntN.{ℤ, pos, negℤ}
+use lib.Signed.{mag}
+use Rattle.isa.specs.Immediate.{twos, hi, lo}
+use Rattle.isa.specs.Instr.{Instr, R, I, S, U, ADD, SUB, ADDI, LD, FLD, FSD, LUI}
+
+-- One `addi` for -2048..2047, else `lui`, `addi`. (`mag z` is n both for n and for -1 - n.)
+unfoldable pub li-code : (d : ℕ) → ℤ → List Instr
+li-code d z =
+    cond (ltb (mag z) 2048) (I ADDI d 0 z ∷ []) (U LUI d (pos (hi (twos 32 z))) ∷ I ADDI d d (lo (twos 32 z)) ∷ [])
+
+-- Offsets below `near` go into the access itself; for others t0 is base + offset.
+unfoldable pub access-code : (near : ℕ) → (ℕ → ℕ → List Instr) → (base offset : ℕ) → List Instr
+access-code near is base n = cond (ltb n near) (is base n) (li-code 5 (pos n) ++ (R ADD 5 5 base ∷ is 5 0))
+
+-- single accesses are direct below this offset, pairs below the other
+abbrev pub near-one : ℕ
+near-one = 2048
+
+abbrev pub near-pair : ℕ
+near-pair = 2040
+
+abbrev pub load-float-code : (d base offset : ℕ) → List Instr
+load-float-code d = access-code near-one (λ b n. I FLD d b (pos n) ∷ [])
+
+abbrev pub save-float-code : (s base offset : ℕ) → List Instr
+save-float-code s = access-code near-one (λ b n. S FSD b s (pos n) ∷ [])
+
+abbrev pub load-int-code : (d base offset : ℕ) → List Instr
+load-int-code d = access-code near-one (λ b n. I LD d b (pos n) ∷ [])
+
+-- A pair is float registers d and d + 1, with the cells at offset and offset + 8.
+abbrev pub load-complex-code : (d base offset : ℕ) → List Instr
+load-complex-code d = access-code near-pair (λ b n. I FLD d b (pos n) ∷ I FLD (d + 1) b (pos (n + 8)) ∷ [])
+
+abbrev pub save-complex-code : (s base offset : ℕ) → List Instr
+save-complex-code s = access-code near-pair (λ b n. S FSD b s (pos n) ∷ S FSD b (s + 1) (pos (n + 8)) ∷ [])
+
+-- ---- the stack
+
+unfoldable pub sub-stack-code : (size : ℕ) → List Instr
+sub-stack-code n =
+    cond (ltb n 2048) (I ADDI 2 2 (negℤ (pos n)) ∷ []) (li-code 5 (negℤ (pos n)) ++ (R ADD 2 2 5 ∷ []))
+
+unfoldable pub add-stack-code : (size : ℕ) → List Instr
+add-stack-code n = cond (ltb n 2048) (I ADDI 2 2 (pos n) ∷ []) (li-code 5 (pos n) ++ (R ADD 2 2 5 ∷ []))
+
+-- and s5 is then sp
+unfoldable pub allocate-stack-code : (size : ℕ) → List Instr
+allocate-stack-code n =
+    cond (ltb n 2048) (I ADDI 2 2 (negℤ (pos n)) ∷ []) (li-code 5 (pos n) ++ (R SUB 2 2 5 ∷ []))
+    ++ (R ADD 21 2 0 ∷ [])

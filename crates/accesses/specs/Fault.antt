@@ -1,0 +1,39 @@
+-- What the accesses refuse (document 01, "Numbers of refusal"): the number, or 0.
+use mathlib.Core.Bool.{Bool, not, _&&_, _||_, cond}
+use Prim.Native.Nat.{ℕ, _^_}
+use lib.Dec.{eqb, ltb, leb}
+use lib.IntN.{ℤ, pos, negsuc}
+use Rattle.refusal.specs.Number.{number-of}
+use Rattle.refusal.specs.declared.Refusal.the-variants.{Register, Value, Base}
+use Rattle.accesses.specs.Code.{near-one, near-pair}
+
+-- offsets and stack sizes go to this
+abbrev pub offset-limit : ℕ
+offset-limit = 0x7FFFF7FF
+
+-- what li takes: 32 bits with a sign, but for 0x7FFFF800..0x7FFFFFFF
+abbrev pub li-takes : ℤ → Bool
+li-takes (pos n) = leb n offset-limit
+li-takes (negsuc n) = ltb n (2 ^ 31)
+
+abbrev pub li-fault : (d : ℕ) → ℤ → ℕ
+li-fault d z = cond (ltb d 32) (cond (li-takes z) 0 (number-of Value)) (number-of Register)
+
+-- t0 can't be the base where t0 is computed
+abbrev pub access-fault : (near : ℕ) → (registers : Bool) → (base offset : ℕ) → ℕ
+access-fault near registers base n =
+    cond registers
+    (cond (leb n offset-limit) (cond (ltb n near || not (eqb base 5)) 0 (number-of Base)) (number-of Value))
+    (number-of Register)
+
+-- `load_float`, `save_float`, `load_int`
+abbrev pub one-fault : (r base offset : ℕ) → ℕ
+one-fault r base = access-fault near-one (ltb r 32 && ltb base 32) base
+
+-- `load_complex`, `save_complex`: r + 1 is a register too
+abbrev pub pair-fault : (r base offset : ℕ) → ℕ
+pair-fault r base = access-fault near-pair (ltb r 31 && ltb base 32) base
+
+-- `sub_stack`, `add_stack`, `allocate_stack`
+abbrev pub stack-fault : (size : ℕ) → ℕ
+stack-fault n = cond (leb n offset-limit) 0 (number-of Value)

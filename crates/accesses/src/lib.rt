@@ -1,0 +1,1 @@
+// mod.rs, accesses: li, loads, stores, pairs and stack sizes.
