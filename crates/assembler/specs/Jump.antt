@@ -1,6 +1,8 @@
 -- The six kinds of jump (document 01, "What changes shape"): their numbers in jump memory, and the instruction that finishing writes.
+use mathlib.Core.List.{[], _∷_}
 use Prim.Native.Nat.{ℕ, _+_}
 use lib.IntN.{ℤ, pos}
+use lib.ListN.{getD}
 use Rattle.isa.specs.Immediate.{twos, hi, lo}
 use Rattle.isa.specs.Instr.{Instr, I, B, U, LD, JALR, FLD, BEQ, BNE, AUIPC}
 use Rattle.assembler.specs.declared.Kind.{Kind}
@@ -23,3 +25,7 @@ jump-instr Jalr r z = I JALR r 5 (lo (twos 32 z + 4))
 jump-instr Fld r z = I FLD r 5 (lo (twos 32 z + 4))
 jump-instr Beq r z = B BEQ 18 0 z
 jump-instr Bne r z = B BNE 7 0 z
+
+-- the kind with a number below 6
+abbrev pub kind-of : ℕ → Kind
+kind-of n = getD (Auipc ∷ Ld ∷ Jalr ∷ Fld ∷ Beq ∷ Bne ∷ []) n Bne

@@ -1,2 +1,10 @@
 pub mod Item
 pub mod Jump
+pub mod Bytes
+pub mod Label
+pub mod State
+pub mod Put
+pub mod Finish
+pub mod Plan
+pub mod Constant
+pub mod Resolved
