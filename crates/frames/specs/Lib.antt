@@ -1,0 +1,4 @@
+pub mod Size
+pub mod Mask
+pub mod Items
+pub mod Fault

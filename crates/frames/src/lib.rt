@@ -1,0 +1,1 @@
+// mod.rs, frames: prologues, epilogues, saves and reloads.
