@@ -13,9 +13,13 @@ unfoldable pub li-code : (d : ℕ) → ℤ → List Instr
 li-code d z =
     cond (ltb (mag z) 2048) (I ADDI d 0 z ∷ []) (U LUI d (pos (hi (twos 32 z))) ∷ I ADDI d d (lo (twos 32 z)) ∷ [])
 
--- Offsets below `near` go into the access itself; for others t0 is base + offset.
+-- t0 is base + offset
+unfoldable pub point-code : (base offset : ℕ) → List Instr
+point-code base n = li-code 5 (pos n) ++ (R ADD 5 5 base ∷ [])
+
+-- Offsets below `near` go into the access itself; others through t0.
 unfoldable pub access-code : (near : ℕ) → (ℕ → ℕ → List Instr) → (base offset : ℕ) → List Instr
-access-code near is base n = cond (ltb n near) (is base n) (li-code 5 (pos n) ++ (R ADD 5 5 base ∷ is 5 0))
+access-code near is base n = cond (ltb n near) (is base n) (point-code base n ++ is 5 0)
 
 -- single accesses are direct below this offset, pairs below the other
 abbrev pub near-one : ℕ

@@ -1,0 +1,162 @@
+-- Accepted loads and stores: their instructions are valid, and what they do, for any base, register and offset. Assumes nothing.
+use mathlib.Core.Path.{_≡_, refl, _∙_}
+use mathlib.Core.Bool.{Bool, true, false, _&&_, cond}
+use mathlib.Core.List.{List, [], _∷_, _++_}
+use Prim.Native.Nat.{ℕ, _+_, _-_, _*_, _%_, _^_, _≤_, _<_}
+use native.Mathlib.Omega.{arith}
+use borrow.Author.Tests.{ltb-true, lt-ltb, le-ltb}
+use lib.Dec.{T, ltb, ltb→lt}
+use lib.IntN.{pos}
+use lib.ListN.{length, length-append}
+use Rattle.isa.specs.Immediate.{hi, lo}
+use Rattle.isa.specs.Instr.{Instr, R, I, S, U, ADD, ADDI, LD, FLD, FSD, LUI}
+use Rattle.machine.specs.Word.{w64, upd, dist, load8, store8}
+use Rattle.machine.specs.Floats.{Floats}
+use Rattle.machine.specs.State.{State, getx, setx, next}
+use Rattle.machine.specs.Step.{Run}
+use Rattle.machine.proofs.Effects.{and-l, and-r}
+use Rattle.machine.proofs.Memory.{Apart, dist-ahead}
+use Rattle.machine.proofs.Placed.{Valids}
+use Rattle.accesses.specs.Code.{li-code, point-code, access-code, near-one, near-pair, load-float-code, save-float-code, load-int-code, load-complex-code, save-complex-code}
+use Rattle.accesses.specs.Fault.{offset-limit, one-fault, pair-fault}
+use Rattle.accesses.specs.Stands.{Stands, behind, cell-at, with-t0}
+use Rattle.accesses.proofs.Then.{valids-join}
+use Rattle.accesses.proofs.Li.{li-valid}
+use Rattle.accesses.proofs.Access.{Accepted, accepted, pointed, access-runs, load-float-direct, load-int-direct, save-float-direct, load-pair-direct, save-pair-direct}
+
+-- ---- validity
+
+access-valid : (near : ℕ) (is : ℕ → ℕ → List Instr) (b n : ℕ) → b < 32 → (n < near → Valids (is b n)) → Valids (is 5 0) → Valids (access-code near is b n)
+unfolding access-code point-code
+access-valid near is b n hb v w = by (ltb n near) refl
+  where
+    by : (t : Bool) → ltb n near ≡ t → Valids (cond t (is b n) (point-code b n ++ is 5 0))
+    by true e = v (ltb-true n near e)
+    by false e =
+        valids-join (point-code b n) (is 5 0) (valids-join (li-code 5 (pos n)) (R ADD 5 5 b ∷ []) (li-valid 5 (pos n) (omega arith)) (omega arith)) w
+
+-- ---- the registers that are accepted
+
+both : (d k b : ℕ) → T (ltb d k && ltb b 32) → (d < k) × (b < 32)
+both d k b h = (ltb→lt d k (and-l (ltb d k) (ltb b 32) h), ltb→lt b 32 (and-r (ltb d k) (ltb b 32) h))
+
+-- an address that t0 holds
+at-zero : (u n : ℕ) → w64 (w64 (u + n) + 0) ≡ w64 (u + n)
+at-zero u n = omega arith
+
+at-eight : (u n : ℕ) → w64 (w64 (u + n) + 8) ≡ w64 (u + (n + 8))
+at-eight u n = omega arith
+
+-- bytes apart from code are apart from its last word
+last-word : (a p k : ℕ) → 4 * k + 4 < 2 ^ 64 → Apart a 8 p (4 * k + 4) → Apart a 8 (w64 (p + 4 * k)) 4
+last-word a p k l h x g u v = h x g u (omega (arith, dist-ahead p (4 * k) x (omega arith)))
+
+-- ---- single accesses
+
+module _ (d b n : ℕ) (h : one-fault d b n ≡ 0) where
+  one-ok : Accepted near-one (ltb d 32 && ltb b 32) b n
+  one-ok = accepted near-one (ltb d 32 && ltb b 32) b n h
+
+  one-fits : (d < 32) × (b < 32)
+  one-fits = both d 32 b (one-ok .registers-fit)
+
+  pub load-float-valid : Valids (load-float-code d b n)
+  load-float-valid = let p = one-fits in access-valid near-one _ b n (p .1) (λ l. omega arith) (omega arith)
+
+  pub save-float-valid : Valids (save-float-code d b n)
+  save-float-valid = let p = one-fits in access-valid near-one _ b n (p .1) (λ l. omega arith) (omega arith)
+
+  pub load-int-valid : Valids (load-int-code d b n)
+  load-int-valid = let p = one-fits in access-valid near-one _ b n (p .1) (λ l. omega arith) (omega arith)
+
+  module _ (Q : Floats) (s : State) where
+    -- the float register holds the cell
+    pub load-float-runs : Stands (load-float-code d b n) s → Run Q s (length (load-float-code d b n)) (behind (load-float-code d b n) s (with-t0 near-one b n s) (upd (s .f) d (load8 (s .mem) (cell-at s b n))) (s .mem))
+    unfolding setx upd
+    load-float-runs =
+        let p = one-fits in
+        access-runs Q s b n (one-ok .within-limit) near-one _ (λ x. x) _ _ (p .1) (one-ok .base-free)
+        (λ l. load-float-direct Q s b n _ (p .1) l refl d (p .0))
+        (λ l. load-float-direct Q _ 5 0 _ (omega arith) (omega arith) (at-zero (getx s b) n) d (p .0))
+
+    -- the register holds the cell; x0 stays 0
+    pub load-int-runs : Stands (load-int-code d b n) s → Run Q s (length (load-int-code d b n)) (behind (load-int-code d b n) s (setx (with-t0 near-one b n s) d (load8 (s .mem) (cell-at s b n))) (s .f) (s .mem))
+    unfolding setx upd
+    load-int-runs =
+        let p = one-fits in
+        access-runs Q s b n (one-ok .within-limit) near-one _ (λ x. setx x d (load8 (s .mem) (cell-at s b n))) _ _ (p .1) (one-ok .base-free)
+        (λ l. load-int-direct Q s b n _ (p .1) l refl d (p .0))
+        (λ l. load-int-direct Q _ 5 0 _ (omega arith) (omega arith) (at-zero (getx s b) n) d (p .0))
+
+    -- the cell holds the float register
+    pub save-float-runs : Stands (save-float-code d b n) s → Run Q s (length (save-float-code d b n)) (behind (save-float-code d b n) s (with-t0 near-one b n s) (s .f) (store8 (s .mem) (cell-at s b n) (s .f d)))
+    unfolding setx upd
+    save-float-runs =
+        let p = one-fits in
+        access-runs Q s b n (one-ok .within-limit) near-one _ (λ x. x) _ _ (p .1) (one-ok .base-free)
+        (λ l. save-float-direct Q s b n _ (p .1) l refl d (p .0))
+        (λ l. save-float-direct Q _ 5 0 _ (omega arith) (omega arith) (at-zero (getx s b) n) d (p .0))
+
+-- ---- pairs
+
+point-length : (b n : ℕ) → length (point-code b n) ≤ 3
+unfolding point-code li-code
+point-length b n = by (ltb n 2048)
+  where
+    by : (t : Bool) → length (cond t (I ADDI 5 0 (pos n) ∷ []) (U LUI 5 (pos (hi (n % 2 ^ 32))) ∷ I ADDI 5 5 (lo (n % 2 ^ 32)) ∷ []) ++ (R ADD 5 5 b ∷ [])) ≤ 3
+    by true = omega arith
+    by false = omega arith
+
+near-form : (near : ℕ) (is : ℕ → ℕ → List Instr) (b n : ℕ) → n < near → access-code near is b n ≡ is b n
+unfolding access-code
+near-form near is b n l = rw (lt-ltb n near l)
+
+far-form : (near : ℕ) (is : ℕ → ℕ → List Instr) (b n : ℕ) → near ≤ n → access-code near is b n ≡ point-code b n ++ is 5 0
+unfolding access-code
+far-form near is b n l = rw (le-ltb n near l)
+
+module _ (d b n : ℕ) (h : pair-fault d b n ≡ 0) where
+  pair-ok : Accepted near-pair (ltb d 31 && ltb b 32) b n
+  pair-ok = accepted near-pair (ltb d 31 && ltb b 32) b n h
+
+  pair-fits : (d < 31) × (b < 32)
+  pair-fits = both d 31 b (pair-ok .registers-fit)
+
+  pub load-complex-valid : Valids (load-complex-code d b n)
+  load-complex-valid = let p = pair-fits in access-valid near-pair _ b n (p .1) (λ l. omega arith) (omega arith)
+
+  pub save-complex-valid : Valids (save-complex-code d b n)
+  save-complex-valid = let p = pair-fits in access-valid near-pair _ b n (p .1) (λ l. omega arith) (omega arith)
+
+  module _ (Q : Floats) (s : State) where
+    -- both float registers hold their cells
+    pub load-complex-runs : Stands (load-complex-code d b n) s → Run Q s (length (load-complex-code d b n)) (behind (load-complex-code d b n) s (with-t0 near-pair b n s) (upd (upd (s .f) d (load8 (s .mem) (cell-at s b n))) (d + 1) (load8 (s .mem) (cell-at s b (n + 8)))) (s .mem))
+    unfolding setx upd
+    load-complex-runs =
+        let p = pair-fits in
+        access-runs Q s b n (pair-ok .within-limit) near-pair _ (λ x. x) _ _ (p .1) (pair-ok .base-free)
+        (λ l. load-pair-direct Q s b n _ _ (p .1) l refl refl d (p .0))
+        (λ l. load-pair-direct Q _ 5 0 _ _ (omega arith) (omega arith) (at-zero (getx s b) n) (at-eight (getx s b) n) d (p .0))
+
+    -- the first cell and the code have no byte in common
+    abbrev pub Away : Type 0
+    Away = Apart (cell-at s b n) 8 (s .pc) (4 * length (save-complex-code d b n))
+
+    last-near : n < 2040 → Away → Apart (cell-at s b n) 8 (next s) 4
+    last-near l a = last-word (cell-at s b n) (s .pc) 1 (omega arith) (rw (near-form near-pair _ b n l) at a)
+
+    last-far : 2040 ≤ n → Away → Apart (cell-at s b n) 8 (w64 (w64 (s .pc + 4 * length (point-code b n)) + 4)) 4
+    last-far l a =
+        let k : ℕ = length (point-code b n) in
+        let e : w64 (w64 (s .pc + 4 * k) + 4) ≡ w64 (s .pc + 4 * (k + 1)) = omega arith in
+        let g : 4 * (k + 2) ≡ 4 * (k + 1) + 4 = omega arith in
+        rw e (last-word (cell-at s b n) (s .pc) (k + 1) (omega (arith, point-length b n)) (rw (far-form near-pair _ b n l, length-append (point-code b n) _, g) at a))
+
+    -- both cells hold their float registers, where the first misses the code
+    pub save-complex-runs : Away → Stands (save-complex-code d b n) s → Run Q s (length (save-complex-code d b n)) (behind (save-complex-code d b n) s (with-t0 near-pair b n s) (s .f) (store8 (store8 (s .mem) (cell-at s b n) (s .f d)) (cell-at s b (n + 8)) (s .f (d + 1))))
+    unfolding setx upd
+    save-complex-runs away =
+        let p = pair-fits in
+        access-runs Q s b n (pair-ok .within-limit) near-pair _ (λ x. x) _ _ (p .1) (pair-ok .base-free)
+        (λ l. save-pair-direct Q s b n _ _ (p .1) l refl refl d (p .0) (last-near l away))
+        (λ l. save-pair-direct Q _ 5 0 _ _ (omega arith) (omega arith) (at-zero (getx s b) n) (at-eight (getx s b) n) d (p .0) (last-far l away))

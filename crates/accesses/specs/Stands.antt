@@ -1,0 +1,35 @@
+-- A machine at the words of a list of instructions, and behind them: the form in which the accesses' theorems are stated.
+use mathlib.Core.Path.{_≡_}
+use mathlib.Core.Bool.{cond}
+use mathlib.Core.List.{List}
+use Prim.Native.Nat.{ℕ, _+_, _*_, _%_}
+use lib.Dec.{ltb}
+use lib.IntN.{ℤ}
+use lib.ListN.{length}
+use Rattle.isa.specs.Immediate.{twos}
+use Rattle.isa.specs.Instr.{Instr}
+use Rattle.machine.specs.Word.{w64}
+use Rattle.machine.specs.State.{State, Sound, getx, setx}
+use Rattle.machine.specs.Step.{CodeAt, words}
+
+-- s is a machine's state, and the words stand at its pc, a multiple of 4
+pub record Stands (is : List Instr) (s : State) : Type 0 where
+  pub sound : Sound s
+  pub aligned : s .pc % 4 ≡ 0
+  pub code : CodeAt (s .mem) (s .pc) (words is)
+
+-- behind the words, with registers x, float registers f and memory m; the rounding mode is kept
+abbrev pub behind : List Instr → State → (x f m : ℕ → ℕ) → State
+behind is s x f m = record { pc = w64 (s .pc + 4 * length is); x = x; f = f; rm = s .rm; mem = m }
+
+-- where an access reads or writes
+abbrev pub cell-at : State → (base offset : ℕ) → ℕ
+cell-at s base n = w64 (getx s base + n)
+
+-- registers as before, but t0 where an access computes it
+abbrev pub with-t0 : (near base offset : ℕ) → State → ℕ → ℕ
+with-t0 near base n s = cond (ltb n near) (s .x) (setx (s .x) 5 (cell-at s base n))
+
+-- registers as before, but t0 where a stack size is loaded into it
+abbrev pub with-size : (size : ℕ) → ℤ → State → ℕ → ℕ
+with-size n z s = cond (ltb n 2048) (s .x) (setx (s .x) 5 (twos 64 z))
