@@ -1,0 +1,1 @@
+// mod.rs, orders: the words of each order.
