@@ -10,6 +10,8 @@ use Rattle.refusal.specs.declared.Refusal.the-variants.{Value, Count}
 use Rattle.order.specs.declared.Constant.{Constant}
 use Rattle.order.specs.declared.Constant.the-variants.{Float, Bits}
 use Rattle.assembler.specs.Item.{Item, raw, label}
+use Rattle.assembler.specs.declared.Aligned.{Aligned}
+use Rattle.assembler.specs.declared.Aligned.the-variants.{Size, Refused}
 
 -- a NaN is 0x7ff8000000000000
 abbrev pub constant-bits : Constant → ℕ
@@ -33,6 +35,10 @@ constant-fault k = cond (leb k 1007) 0 (number-of Count)
 -- the largest size that `align_stack` takes
 abbrev pub align-limit : ℕ
 align-limit = 0x7FFFF7FF
+
+abbrev pub told-size : Aligned → Answer ℕ
+told-size (Size n) = accepted n
+told-size (Refused r place) = refused (number-of r) place
 
 unfoldable pub aligned : ℕ → Answer ℕ
 aligned n = cond (leb n align-limit) (accepted (n + 16 - n % 16)) (refused (number-of Value) 0)

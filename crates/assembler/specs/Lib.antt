@@ -4,7 +4,7 @@ pub mod Bytes
 pub mod Label
 pub mod State
 pub mod Put
-pub mod Finish
+pub mod Memory
 pub mod Plan
 pub mod Constant
 pub mod Resolved

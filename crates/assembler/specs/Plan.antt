@@ -18,8 +18,11 @@ use Rattle.assembler.specs.declared.Plan.{Plan}
 -- ---- faults
 
 -- where a number stands in document 01's order 12, 8, 1, 3, 2, 9, 10, 11, 4, 7 (then 5, 6; 0, no fault, is last)
+abbrev pub ranks : List ℕ
+ranks = 12 ∷ 2 ∷ 4 ∷ 3 ∷ 8 ∷ 10 ∷ 11 ∷ 9 ∷ 1 ∷ 5 ∷ 6 ∷ 7 ∷ 0 ∷ []
+
 abbrev pub rank : ℕ → ℕ
-rank n = getD (12 ∷ 2 ∷ 4 ∷ 3 ∷ 8 ∷ 10 ∷ 11 ∷ 9 ∷ 1 ∷ 5 ∷ 6 ∷ 7 ∷ 0 ∷ []) n 13
+rank n = getD ranks n 13
 
 -- the one of two faults that comes first
 abbrev pub earlier : ℕ → ℕ → ℕ
@@ -37,9 +40,13 @@ fault-from f (i ∷ is) = fault-from (earlier f (instr-fault i)) is
 abbrev pub fault-of : List Instr → ℕ
 fault-of is = fault-from 0 is
 
--- a jump's: 1 a register above 31, else 2 a label above 2,038
+-- a label's: 2 above 2,038
+abbrev pub label-fault : ℕ → ℕ
+label-fault l = cond (ltb l 2039) 0 (number-of Value)
+
+-- a jump's: 1 a register above 31, else its label's
 abbrev pub jump-fault : (label reg : ℕ) → ℕ
-jump-fault l r = cond (ltb r 32) (cond (ltb l 2039) 0 (number-of Value)) (number-of Register)
+jump-fault l r = cond (ltb r 32) (label-fault l) (number-of Register)
 
 -- ---- plans
 

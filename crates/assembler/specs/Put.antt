@@ -14,6 +14,7 @@ use Rattle.assembler.specs.Jump.{kind-number}
 use Rattle.assembler.specs.Bytes.{written}
 use Rattle.assembler.specs.Label.{is-set, with-place}
 use Rattle.assembler.specs.State.{State, Outcome, sound, fits}
+use Rattle.assembler.specs.declared.Asm.{Asm}
 
 -- ---- what the items ask for
 
@@ -93,18 +94,21 @@ placed tag (i ∷ is) s = placed tag is (place tag i s)
 
 -- ---- all or nothing
 
--- The number of the refusal, 0 for none, in document 01's order. `fault` is what is wrong with an operand: a number, 0 for nothing.
-unfoldable pub put-number : ℕ → List Item → State → ℕ
-put-number fault is s =
-    cond (s .asm .closed) (number-of Closed)
+-- The number of the refusal, 0 for none, in document 01's order, over a buffer of `size` bytes. `fault` is what is wrong with an operand: a number, 0 for nothing.
+unfoldable pub verdict : (fault : ℕ) → (taken : Bool) → (words jumps size : ℕ) → Asm → ℕ
+verdict fault taken words jumps size asm =
+    cond (asm .closed) (number-of Closed)
     (cond (eqb fault (number-of Register)) (number-of Register)
     (cond (eqb fault (number-of Label)) (number-of Label)
-    (cond (sound (length (s .buf)) (s .asm))
+    (cond (sound size asm)
     (cond (eqb fault 0)
-    (cond (twice (s .labels) (labels is)) (number-of Twice)
-    (cond (fits (length (s .buf)) (s .asm) (length (words is)) (jumps is)) 0 (number-of Full)))
+    (cond taken (number-of Twice) (cond (fits size asm words jumps) 0 (number-of Full)))
     fault)
     (number-of Value))))
+
+abbrev pub put-number : ℕ → List Item → State → ℕ
+put-number fault is s =
+    verdict fault (twice (s .labels) (labels is)) (length (words is)) (jumps is) (length (s .buf)) (s .asm)
 
 -- refused with this number and place 0, or done where the number is 0
 unfoldable pub settled : ℕ → State → State → Outcome

@@ -1,0 +1,5 @@
+pub mod Tests
+pub mod Checks
+pub mod Writes
+pub mod Items
+pub mod Steps

@@ -1,0 +1,89 @@
+-- An order refused, an order done; and the numbers of those that a function places. Assumes nothing.
+use mathlib.Core.Path.{_≡_, refl, sym, ap, _∙_}
+use mathlib.Core.Bool.{Bool, false, or-false}
+use mathlib.Core.List.{List, [], _∷_, map}
+use Prim.Native.Nat.{ℕ, zero, suc, _+_, _*_, _/_, _%_, _^_, _<_, _≤_, min}
+use native.Mathlib.Nat.{zero-add}
+use native.Mathlib.Omega.{arith}
+use borrow.Author.Tests.{lt-ltb, le-ltb, le-leb, lt-leb, ne-eqb}
+use lib.ListN.{length, getD, set, take, length-append}
+use lib.Seq.{length-take-le}
+use Rattle.order.specs.declared.Constant.{Constant}
+use Rattle.refusal.specs.Answer.{accepted, refused}
+use Rattle.assembler.specs.Item.{Item, raw, label}
+use Rattle.assembler.specs.Label.{is-set, with-place}
+use Rattle.assembler.specs.Bytes.{written}
+use Rattle.assembler.specs.State.{State, Outcome, state, told, outcome}
+use Rattle.assembler.specs.Put.{words, jumps, labels, among, twice, with-label, place, placed, verdict, put-number, settled, put}
+use Rattle.assembler.specs.Constant.{constant-bits, constant-items, constant-fault}
+use Rattle.assembler.specs.Plan.{label-fault, tail-items, plan-words, plan-items}
+use Rattle.assembler.specs.declared.Asm.{Asm}
+use Rattle.assembler.specs.declared.Done.{Done}
+use Rattle.assembler.specs.declared.Plan.{Plan}
+use Rattle.assembler.specs.declared.Tail.{Tail}
+use Rattle.assembler.proofs.Items.{placed-append, placed-raw, words-append, jumps-append, labels-append, words-raw, jumps-raw, labels-raw, words-tail, jumps-tail, labels-tail}
+
+pub settled-no : (k : ℕ) (s t : State) → (k ≡ 0 → ⊥) → settled k s t ≡ record { answer = refused k 0; state = s }
+unfolding settled
+settled-no zero s t h = absurd (h refl)
+settled-no (suc n) s t h = refl
+
+pub settled-yes : (s t : State) → settled 0 s t ≡ record { answer = accepted tt; state = t }
+unfolding settled
+settled-yes s t = refl
+
+module _ (tag fault : ℕ) (is : List Item) (s : State) where
+  pub put-refused : (d : Done) (k : ℕ) → k ≡ put-number fault is s → (k ≡ 0 → ⊥) → (d .asm ≡ s .asm) × (told (d .answer) ≡ refused k 0) → outcome d (s .labels) (s .jumps) (s .buf) ≡ put tag fault is s
+  unfolding put
+  put-refused d k e h g = rw (← e, g .0, g .1) (sym (settled-no k s (placed tag is s) h))
+
+  pub put-done : (t : State) → put-number fault is s ≡ 0 → t ≡ placed tag is s → _≡_ {A = Outcome} (record { answer = accepted tt; state = t }) (put tag fault is s)
+  unfolding put
+  put-done t e g = rw (e, g) (sym (settled-yes s (placed tag is s)))
+
+-- with a fault it doesn't matter whether the label is set
+pub fault-first : (fault : ℕ) (t u : Bool) (w j n : ℕ) (a : Asm) → (fault ≡ 0 → ⊥) → verdict fault t w j n a ≡ verdict fault u w j n a
+unfolding verdict
+fault-first fault t u w j n a h = simp (ne-eqb fault 0 h)
+
+module _ (l : ℕ) (s : State) where
+  pub label-refused : (k : ℕ) → 2039 ≤ l → k ≡ verdict 2 false 0 0 (length (s .buf)) (s .asm) → k ≡ put-number (label-fault l) (label l ∷ []) s
+  unfolding words jumps labels
+  label-refused k h e = rw (le-ltb l 2039 h) (e ∙ fault-first 2 _ _ _ _ _ _ (λ z. omega arith))
+
+  pub label-number : l < 2039 → put-number (label-fault l) (label l ∷ []) s ≡ verdict 0 (is-set (getD (s .labels) l 0)) 0 0 (length (s .buf)) (s .asm)
+  unfolding words jumps labels twice among
+  label-number h = rw (lt-ltb l 2039 h, or-false)
+
+module _ (k : ℕ) (c : Constant) (s : State) where
+  pub constant-refused : (n : ℕ) → 1007 < k → n ≡ verdict 9 false 2 0 (length (s .buf)) (s .asm) → n ≡ put-number (constant-fault k) (constant-items k c) s
+  unfolding words jumps labels
+  constant-refused n h e = rw (lt-leb k 1007 h) (e ∙ fault-first 9 _ _ _ _ _ _ (λ z. omega arith))
+
+  pub constant-number : k ≤ 1007 → put-number (constant-fault k) (constant-items k c) s ≡ verdict 0 (is-set (getD (s .labels) (1024 + k) 0)) 2 0 (length (s .buf)) (s .asm)
+  unfolding words jumps labels twice among
+  constant-number h = rw (le-leb k 1007 h, or-false)
+
+  -- the label set, then the two words
+  pub constant-placed : (ls b : List ℕ) → ls ≡ set (s .labels) (1024 + k) (with-place (getD (s .labels) (1024 + k) 0) (s .asm .len))
+      → b ≡ written (s .buf) (s .asm .len) (constant-bits c % 2 ^ 32 ∷ constant-bits c / 2 ^ 32 ∷ [])
+      → state (record { len = s .asm .len + 8; jumps = s .asm .jumps; closed = s .asm .closed }) ls (s .jumps) b ≡ placed 0 (constant-items k c) s
+  unfolding placed place with-label
+  constant-placed ls b e g = rw (e, g) (sym (placed-raw 0 (constant-bits c % 2 ^ 32 ∷ constant-bits c / 2 ^ 32 ∷ []) (place 0 (label (1024 + k)) s)))
+
+pub plan-number : (f : ℕ) (p : Plan) (t : Tail) (s : State) → length (p .w) ≡ 12
+    → put-number f (plan-items p t) s ≡ verdict f false (min (p .n) 12 + length (tail-items t)) (length (tail-items t)) (length (s .buf)) (s .asm)
+unfolding twice
+plan-number f p t s e =
+    let n : length (plan-words p) ≡ min (p .n) 12 = length-take-le (min (p .n) 12) (p .w) (omega arith) in
+    rw (words-append, jumps-append, labels-append, words-raw, jumps-raw, labels-raw, labels-tail, jumps-tail, length-append, words-tail, n, zero-add)
+
+-- the words written, then the tail
+pub plan-placed : (p : Plan) (t : Tail) (tag : ℕ) (s : State) → length (p .w) ≡ 12 → (n : ℕ) (b : List ℕ) (u : State) → n ≡ min (p .n) 12
+    → b ≡ written (s .buf) (s .asm .len) (take n (p .w))
+    → u ≡ placed tag (tail-items t) (state (record { len = s .asm .len + 4 * n; jumps = s .asm .jumps; closed = s .asm .closed }) (s .labels) (s .jumps) b)
+    → u ≡ placed tag (plan-items p t) s
+plan-placed p t tag s k n b u e g h =
+    let m : length (plan-words p) ≡ min (p .n) 12 = length-take-le (min (p .n) 12) (p .w) (omega arith) in
+    h ∙ rw (g, e) (sym (placed-append tag (map raw (plan-words p)) (tail-items t) s
+    ∙ ap (placed tag (tail-items t)) (placed-raw tag (plan-words p) s ∙ rw m)))

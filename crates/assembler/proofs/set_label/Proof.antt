@@ -1,0 +1,68 @@
+use denote.Ref.{now}
+use native.Mathlib.Omega.{arith}
+use mathlib.Core.Path.{_≡_, sym, _∙_}
+use borrow.Author.Needs.{needs}
+use Rattle.assembler.specs.State.{state}
+use Rattle.assembler.specs.Put.{jumps, labels, with-label, place, placed}
+use Rattle.assembler.proofs.Steps.{put-refused, put-done, label-refused, label-number}
+use Rattle.assembler.proofs.set_label.Statement.{statement}
+use Rattle.assembler.proofs.set_label.Tie as tie
+
+number-requires : tie.Need-number-requires
+number-requires c κs = search needs
+
+refused-with-requires : tie.Need-refused-with-requires
+refused-with-requires c κs =
+    let nz : c .number .result ≡ 0 → ⊥ = λ e. omega (arith, c .number .ensures .2 e) in
+    (omega arith, c .number .ensures .1)
+
+returns : tie.Need-returns
+returns c =
+    let a = c .before .before .before .before .args in
+    put-refused _ _ _ _ (c .refused-with .result) _ (label-refused (a .l) (state (a .asm) (now (a .labels)) (now (a .jumps)) (now (a .buf))) _ (c .before .before .if1 .taken) (c .before .number .ensures .0)) (λ e. omega (arith, c .before .number .ensures .2 e)) (c .refused-with .ensures)
+
+mul-label-set : tie.Need-mul-label-set
+mul-label-set c = search needs
+
+element-copy-out-label-set : tie.Need-element-copy-out-label-set
+element-copy-out-label-set c = search needs
+
+label-set-requires : tie.Need-label-set-requires
+label-set-requires c κs = search needs
+
+number-requires-2 : tie.Need-number-requires-2
+number-requires-2 c κs = search needs
+
+refused-with-requires-2 : tie.Need-refused-with-requires-2
+refused-with-requires-2 c κs = search needs
+
+returns-2 : tie.Need-returns-2
+returns-2 c =
+    let e = c .before .before .before .label-set .ensures in
+    put-refused _ _ _ _ (c .refused-with2 .result) _ (rw (label-number _ _ (c .before .before .before .before .before .if1 .left), ← e) (c .before .before .number2 .ensures .0)) (c .before .if2 .taken) (c .refused-with2 .ensures)
+
+mark-requires : tie.Need-mark-requires
+mark-requires c κs =
+    omega (arith, c .before .before .number2 .ensures .2 (c .before .if2 .left))
+
+returns-3 : tie.Need-returns-3
+unfolding placed place with-label
+returns-3 c =
+    let e = c .before .before .before .before .label-set .ensures in
+    put-done _ _ _ _ _ (rw (label-number _ _ (c .before .before .before .before .before .before .if1 .left), ← e) (sym (c .before .before .before .number2 .ensures .0) ∙ c .before .before .if2 .left)) (rw (c .mark .ensures))
+
+pub set-label-spec : {M : Type 1} → statement M
+set-label-spec =
+    tie.close
+    (tie.spec
+    number-requires
+    refused-with-requires
+    returns
+    mul-label-set
+    element-copy-out-label-set
+    label-set-requires
+    number-requires-2
+    refused-with-requires-2
+    returns-2
+    mark-requires
+    returns-3)
