@@ -1,26 +1,24 @@
 -- What loads and stores do. Assumes nothing.
-use mathlib.Core.Path.{_≡_, refl, _∙_, ap}
-use mathlib.Core.Bool.{Bool, true, false, not, _&&_, _||_, cond}
+use mathlib.Core.Path.{_≡_, refl, _∙_}
+use mathlib.Core.Bool.{Bool, true, false, not, _||_, cond}
 use mathlib.Core.List.{List, [], _∷_, _++_}
-use Prim.Native.Nat.{ℕ, _+_, _*_, _%_, _^_, _≤_, _<_}
+use Prim.Native.Nat.{ℕ, _+_, _%_, _^_, _≤_, _<_}
 use native.Mathlib.Omega.{arith}
 use borrow.Author.Tests.{ltb-true, ltb-false}
-use lib.Dec.{T, eqb, ltb, leb, ltb→lt, leb→le, le→leb}
-use lib.IntN.{ℤ, pos}
+use lib.Dec.{T, eqb, ltb, leb, leb→le, le→leb}
+use lib.IntN.{pos}
 use lib.ListN.{length}
-use Rattle.isa.specs.Immediate.{twos}
 use Rattle.isa.specs.Instr.{Instr, R, I, S, ADD, LD, FLD, FSD}
 use Rattle.machine.specs.Word.{w64, upd, load8, store8}
 use Rattle.machine.specs.Floats.{Floats}
 use Rattle.machine.specs.State.{State, getx, setx, next}
 use Rattle.machine.specs.Effect.{effect, apply}
 use Rattle.machine.specs.Step.{Run, execs}
-use Rattle.machine.proofs.Effects.{and-l, and-r, setx-twice}
-use Rattle.machine.proofs.Memory.{wrap-l, wrap-r, Apart, load4-store}
+use Rattle.machine.proofs.Effects.{setx-twice}
+use Rattle.machine.proofs.Memory.{wrap-r, Apart, load4-store}
 use Rattle.machine.proofs.Straight.{aligned, path-run}
-use Rattle.machine.proofs.Placed.{Valids}
-use Rattle.accesses.specs.Code.{li-code, point-code, access-code, near-one, near-pair, load-float-code, save-float-code, load-int-code, load-complex-code, save-complex-code}
-use Rattle.accesses.specs.Fault.{offset-limit, access-fault, one-fault, pair-fault}
+use Rattle.accesses.specs.Code.{li-code, point-code, access-code}
+use Rattle.accesses.specs.Fault.{offset-limit, access-fault}
 use Rattle.accesses.specs.Stands.{Stands, behind, cell-at, with-t0}
 use Rattle.accesses.proofs.Then.{passed, leads, through, behind-both}
 use Rattle.accesses.proofs.Li.{eight, li-runs}

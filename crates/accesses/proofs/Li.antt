@@ -1,26 +1,25 @@
 -- What li does. Assumes nothing.
-use mathlib.Core.Path.{_≡_, refl, _∙_, ap}
+use mathlib.Core.Path.{_≡_, refl}
 use mathlib.Core.Bool.{Bool, true, false, cond}
 use mathlib.Core.List.{List, [], _∷_}
-use Prim.Native.Nat.{ℕ, _+_, _*_, _%_, _^_, _<_}
+use Prim.Native.Nat.{ℕ, _+_, _<_}
 use native.Mathlib.Omega.{arith}
 use borrow.Author.Tests.{ltb-true, eqb-false}
 use lib.Dec.{T, eqb, ltb, ltb→lt}
-use lib.IntN.{ℤ, pos, negsuc}
+use lib.IntN.{ℤ, pos}
 use lib.ListN.{length}
 use lib.Signed.{mag}
 use Rattle.isa.specs.Immediate.{twos, hi, lo}
 use Rattle.isa.specs.Instr.{Instr, I, U, ADDI, LUI}
 use Rattle.isa.proofs.HiLo.{lo-fits, hi-fits}
-use Rattle.machine.specs.Word.{w64, upd}
+use Rattle.machine.specs.Word.{w64}
 use Rattle.machine.specs.Floats.{Floats}
-use Rattle.machine.specs.State.{State, Sound, getx, setx}
-use Rattle.machine.specs.Effect.{effect, apply, upper}
+use Rattle.machine.specs.State.{State, setx}
+use Rattle.machine.specs.Effect.{effect, apply}
 use Rattle.machine.specs.Step.{Run}
 use Rattle.machine.proofs.Effects.{setx-zero, setx-same, setx-twice, twos-small}
-use Rattle.machine.proofs.Memory.{wrap-l}
 use Rattle.machine.proofs.Placed.{Valids}
-use Rattle.accesses.specs.Code.{li-code}
+use Rattle.accesses.specs.Code.{near-li, li-code}
 use Rattle.accesses.specs.Fault.{li-takes, li-fault}
 use Rattle.accesses.specs.Stands.{Stands, behind}
 use Rattle.accesses.proofs.Parts.{parts}
@@ -49,17 +48,17 @@ module _ (d : ℕ) (z : ℤ) (hd : d < 32) where
 
   pub li-valid : Valids (li-code d z)
   unfolding li-code
-  li-valid = by (ltb (mag z) 2048) refl
+  li-valid = by (ltb (mag z) near-li) refl
     where
-      by : (b : Bool) → ltb (mag z) 2048 ≡ b → Valids (form b)
-      by true e = let h : mag z < 2048 = ltb-true _ _ e in omega arith
+      by : (b : Bool) → ltb (mag z) near-li ≡ b → Valids (form b)
+      by true e = let h : mag z < near-li = ltb-true _ _ e in omega arith
       by false e = ((hd, (hi-fits (twos 32 z), tt)), ((hd, (hd, (lo-fits (twos 32 z), tt))), tt))
 
   module _ (t : T (li-takes z)) (Q : Floats) (s : State) where
     -- The register holds the number, sign-extended to 64 bits; nothing else changes.
     pub li-runs : Stands (li-code d z) s → Run Q s (length (li-code d z)) (behind (li-code d z) s (setx (s .x) d (twos 64 z)) (s .f) (s .mem))
     unfolding li-code effect apply
-    li-runs = by (ltb (mag z) 2048) li-valid
+    li-runs = by (ltb (mag z) near-li) li-valid
       where
         by : (b : Bool) → Valids (form b) → Stands (form b) s → Run Q s (length (form b)) (behind (form b) s (setx (s .x) d (twos 64 z)) (s .f) (s .mem))
         by true v o = let e : w64 (0 + twos 64 z) ≡ twos 64 z = omega (arith, twos-small z) in leads Q (form true) s _ v tt (rw e) o

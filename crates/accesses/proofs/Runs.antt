@@ -1,28 +1,28 @@
 -- Accepted loads and stores: their instructions are valid, and what they do, for any base, register and offset. Assumes nothing.
-use mathlib.Core.Path.{_≡_, refl, _∙_}
+use mathlib.Core.Path.{_≡_, refl}
 use mathlib.Core.Bool.{Bool, true, false, _&&_, cond}
 use mathlib.Core.List.{List, [], _∷_, _++_}
-use Prim.Native.Nat.{ℕ, _+_, _-_, _*_, _%_, _^_, _≤_, _<_}
+use Prim.Native.Nat.{ℕ, _+_, _*_, _%_, _^_, _≤_, _<_}
 use native.Mathlib.Omega.{arith}
 use borrow.Author.Tests.{ltb-true, lt-ltb, le-ltb}
 use lib.Dec.{T, ltb, ltb→lt}
 use lib.IntN.{pos}
 use lib.ListN.{length, length-append}
 use Rattle.isa.specs.Immediate.{hi, lo}
-use Rattle.isa.specs.Instr.{Instr, R, I, S, U, ADD, ADDI, LD, FLD, FSD, LUI}
-use Rattle.machine.specs.Word.{w64, upd, dist, load8, store8}
+use Rattle.isa.specs.Instr.{Instr, R, I, U, ADD, ADDI, LUI}
+use Rattle.machine.specs.Word.{w64, upd, load8, store8}
 use Rattle.machine.specs.Floats.{Floats}
 use Rattle.machine.specs.State.{State, getx, setx, next}
 use Rattle.machine.specs.Step.{Run}
 use Rattle.machine.proofs.Effects.{and-l, and-r}
 use Rattle.machine.proofs.Memory.{Apart, dist-ahead}
 use Rattle.machine.proofs.Placed.{Valids}
-use Rattle.accesses.specs.Code.{li-code, point-code, access-code, near-one, near-pair, load-float-code, save-float-code, load-int-code, load-complex-code, save-complex-code}
-use Rattle.accesses.specs.Fault.{offset-limit, one-fault, pair-fault}
+use Rattle.accesses.specs.Code.{near-li, li-code, point-code, access-code, near-one, near-pair, load-float-code, save-float-code, load-int-code, load-complex-code, save-complex-code}
+use Rattle.accesses.specs.Fault.{one-fault, pair-fault}
 use Rattle.accesses.specs.Stands.{Stands, behind, cell-at, with-t0}
 use Rattle.accesses.proofs.Then.{valids-join}
 use Rattle.accesses.proofs.Li.{li-valid}
-use Rattle.accesses.proofs.Access.{Accepted, accepted, pointed, access-runs, load-float-direct, load-int-direct, save-float-direct, load-pair-direct, save-pair-direct}
+use Rattle.accesses.proofs.Access.{Accepted, accepted, access-runs, load-float-direct, load-int-direct, save-float-direct, load-pair-direct, save-pair-direct}
 
 -- ---- validity
 
@@ -34,6 +34,24 @@ access-valid near is b n hb v w = by (ltb n near) refl
     by true e = v (ltb-true n near e)
     by false e =
         valids-join (point-code b n) (is 5 0) (valids-join (li-code 5 (pos n)) (R ADD 5 5 b ∷ []) (li-valid 5 (pos n) (omega arith)) (omega arith)) w
+
+-- ---- how many words
+
+point-length : (b n : ℕ) → length (point-code b n) ≤ 3
+unfolding point-code li-code
+point-length b n = by (ltb n near-li)
+  where
+    by : (t : Bool) → length (cond t (I ADDI 5 0 (pos n) ∷ []) (U LUI 5 (pos (hi (n % 2 ^ 32))) ∷ I ADDI 5 5 (lo (n % 2 ^ 32)) ∷ []) ++ (R ADD 5 5 b ∷ [])) ≤ 3
+    by true = omega arith
+    by false = omega arith
+
+pub access-length : (near : ℕ) (is : ℕ → ℕ → List Instr) (b n k : ℕ) → length (is b n) ≤ k → length (is 5 0) ≤ k → length (access-code near is b n) ≤ 3 + k
+unfolding access-code
+access-length near is b n k h l = by (ltb n near)
+  where
+    by : (t : Bool) → length (cond t (is b n) (point-code b n ++ is 5 0)) ≤ 3 + k
+    by true = omega arith
+    by false = omega (arith, point-length b n, length-append (point-code b n) (is 5 0))
 
 -- ---- the registers that are accepted
 
@@ -99,14 +117,6 @@ module _ (d b n : ℕ) (h : one-fault d b n ≡ 0) where
 
 -- ---- pairs
 
-point-length : (b n : ℕ) → length (point-code b n) ≤ 3
-unfolding point-code li-code
-point-length b n = by (ltb n 2048)
-  where
-    by : (t : Bool) → length (cond t (I ADDI 5 0 (pos n) ∷ []) (U LUI 5 (pos (hi (n % 2 ^ 32))) ∷ I ADDI 5 5 (lo (n % 2 ^ 32)) ∷ []) ++ (R ADD 5 5 b ∷ [])) ≤ 3
-    by true = omega arith
-    by false = omega arith
-
 near-form : (near : ℕ) (is : ℕ → ℕ → List Instr) (b n : ℕ) → n < near → access-code near is b n ≡ is b n
 unfolding access-code
 near-form near is b n l = rw (lt-ltb n near l)
@@ -142,10 +152,10 @@ module _ (d b n : ℕ) (h : pair-fault d b n ≡ 0) where
     abbrev pub Away : Type 0
     Away = Apart (cell-at s b n) 8 (s .pc) (4 * length (save-complex-code d b n))
 
-    last-near : n < 2040 → Away → Apart (cell-at s b n) 8 (next s) 4
+    last-near : n < near-pair → Away → Apart (cell-at s b n) 8 (next s) 4
     last-near l a = last-word (cell-at s b n) (s .pc) 1 (omega arith) (rw (near-form near-pair _ b n l) at a)
 
-    last-far : 2040 ≤ n → Away → Apart (cell-at s b n) 8 (w64 (w64 (s .pc + 4 * length (point-code b n)) + 4)) 4
+    last-far : near-pair ≤ n → Away → Apart (cell-at s b n) 8 (w64 (w64 (s .pc + 4 * length (point-code b n)) + 4)) 4
     last-far l a =
         let k : ℕ = length (point-code b n) in
         let e : w64 (w64 (s .pc + 4 * k) + 4) ≡ w64 (s .pc + 4 * (k + 1)) = omega arith in

@@ -1,23 +1,23 @@
 -- What the stack's sizes do. Assumes nothing.
-use mathlib.Core.Path.{_≡_, refl, _∙_, ap}
+use mathlib.Core.Path.{_≡_, refl}
 use mathlib.Core.Bool.{Bool, true, false, cond}
 use mathlib.Core.List.{List, [], _∷_, _++_}
-use Prim.Native.Nat.{ℕ, zero, suc, _+_, _-_, _*_, _%_, _^_, _≤_, _<_}
+use Prim.Native.Nat.{ℕ, zero, suc, _+_, _%_, _^_, _≤_, _<_}
 use native.Mathlib.Omega.{arith}
-use borrow.Author.Tests.{ltb-true, ltb-false}
+use borrow.Author.Tests.{ltb-true}
 use lib.Dec.{T, ltb, leb, leb→le, le→leb, lt→ltb}
-use lib.IntN.{ℤ, pos, negsuc, negℤ}
+use lib.IntN.{ℤ, pos, negℤ}
 use lib.ListN.{length}
 use lib.Signed.{mag}
 use Rattle.isa.specs.Immediate.{twos}
 use Rattle.isa.specs.Instr.{Instr, Valid, R, I, ADD, SUB, ADDI}
 use Rattle.machine.specs.Word.{w64, upd}
 use Rattle.machine.specs.Floats.{Floats}
-use Rattle.machine.specs.State.{State, getx, setx}
-use Rattle.machine.specs.Effect.{Effect, write-x, minus, effect, apply, exec}
+use Rattle.machine.specs.State.{State, setx}
+use Rattle.machine.specs.Effect.{write-x, minus, effect, apply}
 use Rattle.machine.specs.Step.{Run}
 use Rattle.machine.proofs.Placed.{Valids}
-use Rattle.accesses.specs.Code.{li-code, sub-stack-code, add-stack-code, allocate-stack-code}
+use Rattle.accesses.specs.Code.{near-size, li-code, sub-stack-code, add-stack-code, allocate-stack-code}
 use Rattle.accesses.specs.Fault.{offset-limit, li-takes, stack-fault}
 use Rattle.accesses.specs.Stands.{Stands, behind, with-size}
 use Rattle.accesses.proofs.Then.{passed, leads, valids-join, through, behind-both}
@@ -31,7 +31,7 @@ takes-minus : (n : ℕ) → n ≤ offset-limit → T (li-takes (negℤ (pos n)))
 takes-minus zero h = tt
 takes-minus (suc n) h = lt→ltb n (2 ^ 31) (omega arith)
 
-mag-minus : (n : ℕ) → n < 2048 → mag (negℤ (pos n)) < 2048
+mag-minus : (n : ℕ) → n < near-size → mag (negℤ (pos n)) < 2048
 mag-minus zero h = h
 mag-minus (suc n) h = omega arith
 
@@ -41,12 +41,12 @@ sum-minus u (suc n) h = omega arith
 
 module _ (Q : Floats) (s : State) (n : ℕ) (z : ℤ) (t : T (li-takes z)) (i j : Instr) (v : ℕ) where
   -- sp set to v: directly, or from t0 that holds z
-  pub size-runs : (n < 2048 → Valid i) → (n < 2048 → effect Q i s ≡ write-x 2 v) → Valid j → effect Q j (behind (li-code 5 z) s (setx (s .x) 5 (twos 64 z)) (s .f) (s .mem)) ≡ write-x 2 v → Stands (cond (ltb n 2048) (i ∷ []) (li-code 5 z ++ (j ∷ []))) s → Run Q s (length (cond (ltb n 2048) (i ∷ []) (li-code 5 z ++ (j ∷ [])))) (behind (cond (ltb n 2048) (i ∷ []) (li-code 5 z ++ (j ∷ []))) s (setx (with-size n z s) 2 v) (s .f) (s .mem))
+  pub size-runs : (n < near-size → Valid i) → (n < near-size → effect Q i s ≡ write-x 2 v) → Valid j → effect Q j (behind (li-code 5 z) s (setx (s .x) 5 (twos 64 z)) (s .f) (s .mem)) ≡ write-x 2 v → Stands (cond (ltb n near-size) (i ∷ []) (li-code 5 z ++ (j ∷ []))) s → Run Q s (length (cond (ltb n near-size) (i ∷ []) (li-code 5 z ++ (j ∷ [])))) (behind (cond (ltb n near-size) (i ∷ []) (li-code 5 z ++ (j ∷ []))) s (setx (with-size n z s) 2 v) (s .f) (s .mem))
   unfolding apply
-  size-runs vi hi vj hj = by (ltb n 2048) refl
+  size-runs vi hi vj hj = by (ltb n near-size) refl
     where
-      by : (b : Bool) → ltb n 2048 ≡ b → Stands (cond b (i ∷ []) (li-code 5 z ++ (j ∷ []))) s → Run Q s (length (cond b (i ∷ []) (li-code 5 z ++ (j ∷ [])))) (behind (cond b (i ∷ []) (li-code 5 z ++ (j ∷ []))) s (setx (cond b (s .x) (setx (s .x) 5 (twos 64 z))) 2 v) (s .f) (s .mem))
-      by true e o = let l : n < 2048 = ltb-true n 2048 e in leads Q (i ∷ []) s _ (vi l, tt) tt (rw (hi l)) o
+      by : (b : Bool) → ltb n near-size ≡ b → Stands (cond b (i ∷ []) (li-code 5 z ++ (j ∷ []))) s → Run Q s (length (cond b (i ∷ []) (li-code 5 z ++ (j ∷ [])))) (behind (cond b (i ∷ []) (li-code 5 z ++ (j ∷ []))) s (setx (cond b (s .x) (setx (s .x) 5 (twos 64 z))) 2 v) (s .f) (s .mem))
+      by true e o = let l : n < near-size = ltb-true n near-size e in leads Q (i ∷ []) s _ (vi l, tt) tt (rw (hi l)) o
       by false e o =
           let x : ℕ → ℕ = setx (s .x) 5 (twos 64 z) in
           through Q (li-code 5 z) (j ∷ []) s x (s .f) _
@@ -56,14 +56,14 @@ module _ (Q : Floats) (s : State) (n : ℕ) (z : ℤ) (t : T (li-takes z)) (i j 
 
 -- ---- validity
 
-size-valid : (n : ℕ) (z : ℤ) (i j : Instr) → (n < 2048 → Valid i) → Valid j → Valids (cond (ltb n 2048) (i ∷ []) (li-code 5 z ++ (j ∷ [])))
-size-valid n z i j v w = by (ltb n 2048) refl
+size-valid : (n : ℕ) (z : ℤ) (i j : Instr) → (n < near-size → Valid i) → Valid j → Valids (cond (ltb n near-size) (i ∷ []) (li-code 5 z ++ (j ∷ [])))
+size-valid n z i j v w = by (ltb n near-size) refl
   where
-    by : (b : Bool) → ltb n 2048 ≡ b → Valids (cond b (i ∷ []) (li-code 5 z ++ (j ∷ [])))
-    by true e = (v (ltb-true n 2048 e), tt)
+    by : (b : Bool) → ltb n near-size ≡ b → Valids (cond b (i ∷ []) (li-code 5 z ++ (j ∷ [])))
+    by true e = (v (ltb-true n near-size e), tt)
     by false e = valids-join (li-code 5 z) (j ∷ []) (li-valid 5 z (omega arith)) (w, tt)
 
-less-valid : (n : ℕ) → n < 2048 → Valid (I ADDI 2 2 (negℤ (pos n)))
+less-valid : (n : ℕ) → n < near-size → Valid (I ADDI 2 2 (negℤ (pos n)))
 less-valid n h = omega (arith, mag-minus n h)
 
 -- whatever the size
@@ -78,7 +78,7 @@ add-stack-valid n = size-valid n (pos n) (I ADDI 2 2 (pos n)) (R ADD 2 2 5) (λ 
 pub allocate-stack-valid : (n : ℕ) → Valids (allocate-stack-code n)
 unfolding allocate-stack-code
 allocate-stack-valid n =
-    let is : List Instr = cond (ltb n 2048) (I ADDI 2 2 (negℤ (pos n)) ∷ []) (li-code 5 (pos n) ++ (R SUB 2 2 5 ∷ [])) in
+    let is : List Instr = cond (ltb n near-size) (I ADDI 2 2 (negℤ (pos n)) ∷ []) (li-code 5 (pos n) ++ (R SUB 2 2 5 ∷ [])) in
     valids-join is (R ADD 21 2 0 ∷ []) (size-valid n (pos n) (I ADDI 2 2 (negℤ (pos n))) (R SUB 2 2 5) (less-valid n) (omega arith)) (omega arith)
 
 -- ---- what they do
@@ -107,7 +107,7 @@ module _ (Q : Floats) (s : State) (n : ℕ) (h : stack-fault n ≡ 0) where
       let l : n ≤ offset-limit = size-fits n h in
       let e : w64 (s .x 2 + twos 64 (negℤ (pos n))) ≡ minus (s .x 2) n = sum-minus (s .x 2) n l in
       let g : n % 2 ^ 64 ≡ n = omega arith in
-      let is : List Instr = cond (ltb n 2048) (I ADDI 2 2 (negℤ (pos n)) ∷ []) (li-code 5 (pos n) ++ (R SUB 2 2 5 ∷ [])) in
+      let is : List Instr = cond (ltb n near-size) (I ADDI 2 2 (negℤ (pos n)) ∷ []) (li-code 5 (pos n) ++ (R SUB 2 2 5 ∷ [])) in
       let x : ℕ → ℕ = setx (with-size n (pos n) s) 2 (minus (s .x 2) n) in
       let k : w64 (minus (s .x 2) n + 0) ≡ minus (s .x 2) n = omega arith in
       through Q is (R ADD 21 2 0 ∷ []) s x (s .f) _

@@ -13,7 +13,7 @@ use Rattle.refusal.specs.Answer.{Answer, accepted, refused}
 use Rattle.assembler.specs.Jump.{jump-instr}
 use Rattle.assembler.specs.declared.Kind.the-variants.{Auipc, Jalr}
 use Rattle.accesses.specs.Code.{li-code, point-code, access-code, load-float-code, load-complex-code, sub-stack-code}
-use Rattle.accesses.specs.Fault.{li-fault, one-fault, pair-fault, stack-fault}
+use Rattle.accesses.specs.Fault.{li-fault, one-fault, stack-fault}
 
 -- the words, or the number
 abbrev pub answer : (fault : ℕ) → List Instr → Answer (List ℕ)

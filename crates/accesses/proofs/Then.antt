@@ -1,8 +1,8 @@
 -- One list of instructions behind another, from states that stand at their words. Assumes nothing.
-use mathlib.Core.Path.{_≡_, refl, subst}
+use mathlib.Core.Path.{_≡_}
 use mathlib.Core.Bool.{Bool, true, false, cond}
 use mathlib.Core.List.{List, [], _∷_, _++_, map-append}
-use Prim.Native.Nat.{ℕ, suc, _+_, _*_, _%_, _^_, _<_}
+use Prim.Native.Nat.{ℕ, suc, _+_, _*_, _%_}
 use native.Mathlib.Omega.{arith}
 use lib.Dec.{T}
 use lib.ListN.{length, length-append, length-map}
@@ -10,8 +10,8 @@ use Rattle.isa.specs.Instr.{Instr}
 use Rattle.isa.specs.Encode.{encode}
 use Rattle.machine.specs.Word.{w64}
 use Rattle.machine.specs.Floats.{Floats}
-use Rattle.machine.specs.State.{State, Sound}
-use Rattle.machine.specs.Step.{CodeAt, words, Run, execs, Fit}
+use Rattle.machine.specs.State.{State}
+use Rattle.machine.specs.Step.{words, Run, execs, Fit}
 use Rattle.machine.proofs.Runs.{joined, run-sound}
 use Rattle.machine.proofs.Straight.{lead, lead-run}
 use Rattle.machine.proofs.Placed.{Valids, code-left, code-right}
@@ -49,7 +49,7 @@ module _ (Q : Floats) where
           code = code-left (s .mem) (s .pc) (words is) (words js) (rw (map-append encode is js) at (o .code));
         }
 
-    stands-second : Stands (is ++ js) s → Run Q s (length is) half → Stands js half
+    pub stands-second : Stands (is ++ js) s → Run Q s (length is) half → Stands js half
     stands-second o r =
         record {
           sound = run-sound Q r (o .sound);

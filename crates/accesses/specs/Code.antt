@@ -8,10 +8,14 @@ use lib.Signed.{mag}
 use Rattle.isa.specs.Immediate.{twos, hi, lo}
 use Rattle.isa.specs.Instr.{Instr, R, I, S, U, ADD, SUB, ADDI, LD, FLD, FSD, LUI}
 
--- One `addi` for -2048..2047, else `lui`, `addi`. (`mag z` is n both for n and for -1 - n.)
+-- What one `addi` holds is below this. (`mag z` is n both for n and for -1 - n.)
+abbrev pub near-li : ℕ
+near-li = 2048
+
+-- One `addi` for -2048..2047, else `lui`, `addi`.
 unfoldable pub li-code : (d : ℕ) → ℤ → List Instr
 li-code d z =
-    cond (ltb (mag z) 2048) (I ADDI d 0 z ∷ []) (U LUI d (pos (hi (twos 32 z))) ∷ I ADDI d d (lo (twos 32 z)) ∷ [])
+    cond (ltb (mag z) near-li) (I ADDI d 0 z ∷ []) (U LUI d (pos (hi (twos 32 z))) ∷ I ADDI d d (lo (twos 32 z)) ∷ [])
 
 -- t0 is base + offset
 unfoldable pub point-code : (base offset : ℕ) → List Instr
@@ -46,15 +50,18 @@ save-complex-code s = access-code near-pair (λ b n. S FSD b s (pos n) ∷ S FSD
 
 -- ---- the stack
 
+abbrev pub near-size : ℕ
+near-size = 2048
+
 unfoldable pub sub-stack-code : (size : ℕ) → List Instr
 sub-stack-code n =
-    cond (ltb n 2048) (I ADDI 2 2 (negℤ (pos n)) ∷ []) (li-code 5 (negℤ (pos n)) ++ (R ADD 2 2 5 ∷ []))
+    cond (ltb n near-size) (I ADDI 2 2 (negℤ (pos n)) ∷ []) (li-code 5 (negℤ (pos n)) ++ (R ADD 2 2 5 ∷ []))
 
 unfoldable pub add-stack-code : (size : ℕ) → List Instr
-add-stack-code n = cond (ltb n 2048) (I ADDI 2 2 (pos n) ∷ []) (li-code 5 (pos n) ++ (R ADD 2 2 5 ∷ []))
+add-stack-code n = cond (ltb n near-size) (I ADDI 2 2 (pos n) ∷ []) (li-code 5 (pos n) ++ (R ADD 2 2 5 ∷ []))
 
 -- and s5 is then sp
 unfoldable pub allocate-stack-code : (size : ℕ) → List Instr
 allocate-stack-code n =
-    cond (ltb n 2048) (I ADDI 2 2 (negℤ (pos n)) ∷ []) (li-code 5 (pos n) ++ (R SUB 2 2 5 ∷ []))
+    cond (ltb n near-size) (I ADDI 2 2 (negℤ (pos n)) ∷ []) (li-code 5 (pos n) ++ (R SUB 2 2 5 ∷ []))
     ++ (R ADD 21 2 0 ∷ [])

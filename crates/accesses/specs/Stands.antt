@@ -11,6 +11,7 @@ use Rattle.isa.specs.Instr.{Instr}
 use Rattle.machine.specs.Word.{w64}
 use Rattle.machine.specs.State.{State, Sound, getx, setx}
 use Rattle.machine.specs.Step.{CodeAt, words}
+use Rattle.accesses.specs.Code.{near-size}
 
 -- s is a machine's state, and the words stand at its pc, a multiple of 4
 pub record Stands (is : List Instr) (s : State) : Type 0 where
@@ -32,4 +33,4 @@ with-t0 near base n s = cond (ltb n near) (s .x) (setx (s .x) 5 (cell-at s base 
 
 -- registers as before, but t0 where a stack size is loaded into it
 abbrev pub with-size : (size : ℕ) → ℤ → State → ℕ → ℕ
-with-size n z s = cond (ltb n 2048) (s .x) (setx (s .x) 5 (twos 64 z))
+with-size n z s = cond (ltb n near-size) (s .x) (setx (s .x) 5 (twos 64 z))

@@ -4,7 +4,7 @@ use mathlib.Core.List.{List, [], _∷_, _++_, map}
 use Prim.Native.Nat.{ℕ, _+_, _*_}
 use lib.Dec.{eqb}
 use lib.IntN.{pos, negsuc, subℕ}
-use Rattle.isa.specs.Instr.{Instr, R, F, C, M, R4, I, B, SUB, XOR, OR, AND, FSGNJ-D, FLT-D, FEQ-D, FSUB-D, FMUL-D, FDIV-D, FCVT-L-D, FCVT-D-W, FCVT-D-L, FMV-X-D, FMV-D-X, R4Op, FMADD-D, FMSUB-D, FNMSUB-D, FNMADD-D, ADDI, XORI, BEQ, BNE}
+use Rattle.isa.specs.Instr.{Instr, R, F, C, M, R4, I, B, SUB, XOR, OR, AND, FSGNJ-D, FLT-D, FEQ-D, FSUB-D, FMUL-D, FDIV-D, FCVT-L-D, FCVT-D-W, FCVT-D-L, FMV-X-D, FMV-D-X, R4Op, FMADD-D, FMSUB-D, FNMSUB-D, FNMADD-D, ADDI, XORI, BOp, BEQ, BNE}
 use Rattle.order.specs.declared.Place.{Place}
 use Rattle.order.specs.declared.Place.the-variants.{Mem, Stack, Param}
 use Rattle.order.specs.declared.Unary as U
@@ -76,6 +76,10 @@ choose-code d a b =
 abbrev pub const-label : ℕ → ℕ
 const-label k = 1024 + k
 
+-- the branch over a jump that is not taken: `beq` with is_else
+abbrev pub skip : (is-else : Bool) → BOp
+skip e = cond e BEQ BNE
+
 unfoldable pub code : Order → List Item
 code (Unary k d s) = map instr (unary-code k d s)
 code (Scratched k d s t) = map instr (scratched-code k d s t)
@@ -85,9 +89,8 @@ code (Ifelse d a b i) = map instr (load-int-code 5 (base Stack) (8 * i) ++ choos
 code (LoadConst d k) = jump Auipc (const-label k) 0 ∷ jump Fld (const-label k) d ∷ []
 code (Load d p i) = map instr (load-float-code d (base p) (8 * i))
 code (Save s p i) = map instr (save-float-code s (base p) (8 * i))
--- the test skips the jump
 code (BranchIf c l e) =
-    instr (M FMV-X-D 5 c) ∷ instr (B (cond e BEQ BNE) 5 0 (pos 12)) ∷ jump Auipc l 0 ∷ jump Jalr l 0 ∷ []
+    instr (M FMV-X-D 5 c) ∷ instr (B (skip e) 5 0 (pos 12)) ∷ jump Auipc l 0 ∷ jump Jalr l 0 ∷ []
 code (SetLabel l) = label l ∷ []
 
 -- a line's; constants stand behind all code

@@ -1,4 +1,4 @@
--- What it is for a machine to do what an order means: the words of `Does` in `proofs`.
+-- What it is for a machine to do what an order means: the terms of `order-does` (`proofs`, module Does).
 use mathlib.Core.Path.{_≡_}
 use mathlib.Core.List.{List, [], _∷_}
 use Prim.Native.Nat.{ℕ, _+_, _*_, _%_, _≤_, _<_}
@@ -13,7 +13,7 @@ use Rattle.order.specs.declared.Order.{Order}
 use Rattle.assembler.specs.Item.{Item}
 use Rattle.assembler.specs.Resolved.{resolved}
 use Rattle.accesses.specs.Stands.{cell-at}
-use Rattle.reading.specs.Meaning.{Exit, on, to, Written, Meaning, meaning}
+use Rattle.reading.specs.Meaning.{Exit, on, to, Written, meaning}
 use Rattle.orders.specs.Code.{base, const-label, code}
 
 -- ---- cells by address: s1, s4 and s5 are arbitrary, and cells may alias

@@ -1,0 +1,123 @@
+-- Orders that work on registers alone do what they mean. Assumes nothing.
+use mathlib.Core.Path.{_≡_, refl}
+use mathlib.Core.Bool.{Bool, true, false, cond}
+use mathlib.Core.List.{List, [], _∷_, map}
+use Prim.Native.Nat.{ℕ, _<_}
+use native.Mathlib.Omega.{arith}
+use borrow.Author.Tests.{eqb-true}
+use lib.Dec.{T, eqb}
+use lib.Bits.{bitXor, xor-self}
+use Rattle.isa.specs.Instr.{Instr, R, M, R4, XOR, FSGNJ-D, FMV-X-D, FMV-D-X}
+use Rattle.machine.specs.Word.{upd}
+use Rattle.machine.specs.Floats.{Floats}
+use Rattle.machine.specs.State.{State, Sound, setx}
+use Rattle.machine.specs.Effect.{effect, apply}
+use Rattle.machine.specs.Step.{execs}
+use Rattle.machine.specs.Ends.{temporary}
+use Rattle.machine.proofs.Straight.{straight}
+use Rattle.machine.proofs.Placed.{Valids}
+use Rattle.order.specs.declared.Unary as U
+use Rattle.order.specs.declared.Unary.the-variants.{Fmov, Recip, Round, Floor, Not}
+use Rattle.order.specs.declared.Scratched as S
+use Rattle.order.specs.declared.Scratched.the-variants.{Sign, Frac}
+use Rattle.order.specs.declared.Binary as Bin
+use Rattle.order.specs.declared.Binary.the-variants.{Minus, Times, Divide, Gt, Neq, And, Andnot, Or, Xor}
+use Rattle.order.specs.declared.Fused as Fu
+use Rattle.order.specs.declared.Fused.the-variants.{MulAdd, MulSub, NegMulAdd, NegMulSub}
+use Rattle.assembler.specs.Item.{instr}
+use Rattle.reading.specs.Meaning.{on, unary, scratched, binary, fused}
+use Rattle.orders.specs.Code.{unary-code, scratched-code, binary-code, fused-op}
+use Rattle.orders.specs.Does.{At, Done}
+use Rattle.orders.proofs.Bits.{negated, negated-inverted, sign-converted, own-sign, upd-self}
+use Rattle.orders.proofs.Items.{straight-done}
+
+-- ---- validity
+
+pub unary-valid : (k : U.Unary) (d s : ℕ) → d < 32 → s < 32 → Valids (unary-code k d s)
+unfolding unary-code
+unary-valid Fmov d s hd hs = by (eqb d s)
+  where
+    by : (t : Bool) → Valids (cond t [] (R FSGNJ-D d s s ∷ []))
+    by true = tt
+    by false = omega arith
+unary-valid Recip d s hd hs = omega arith
+unary-valid Round d s hd hs = omega arith
+unary-valid Floor d s hd hs = omega arith
+unary-valid Not d s hd hs = omega arith
+
+pub scratched-valid : (k : S.Scratched) (d s t : ℕ) → d < 32 → s < 32 → t < 32 → Valids (scratched-code k d s t)
+unfolding scratched-code
+scratched-valid Sign d s t hd hs ht = omega arith
+scratched-valid Frac d s t hd hs ht = omega arith
+
+pub binary-valid : (k : Bin.Binary) (d a b : ℕ) → d < 32 → a < 32 → b < 32 → Valids (binary-code k d a b)
+unfolding binary-code
+binary-valid Minus d a b hd ha hb = omega arith
+binary-valid Times d a b hd ha hb = omega arith
+binary-valid Divide d a b hd ha hb = omega arith
+binary-valid Gt d a b hd ha hb = omega arith
+binary-valid Neq d a b hd ha hb = omega arith
+binary-valid And d a b hd ha hb = omega arith
+binary-valid Andnot d a b hd ha hb = omega arith
+binary-valid Or d a b hd ha hb = omega arith
+binary-valid Xor d a b hd ha hb = by (eqb a b)
+  where
+    by : (t : Bool) → Valids (cond t (M FMV-D-X d 0 ∷ []) (M FMV-X-D 5 a ∷ M FMV-X-D 6 b ∷ R XOR 5 5 6 ∷ M FMV-D-X d 5 ∷ []))
+    by true = omega arith
+    by false = omega arith
+
+-- ---- what they do
+
+module _ (places : ℕ → ℕ) (start here : ℕ) (s : State) (Q : Floats) where
+  -- instructions is: float registers f afterwards
+  abbrev pub Sets : List Instr → (ℕ → ℕ) → Type 0
+  Sets is f = At places start here (map instr is) s → Done places start Q here (map instr is) s f (s .mem) on
+
+  sets : (is : List Instr) (f : ℕ → ℕ) → Valids is → T (straight Q temporary is s) → (execs Q is s) .f ≡ f → (execs Q is s) .mem ≡ s .mem → Sets is f
+  sets is f v h p q o = straight-done places start here s is o Q f (s .mem) v h p q
+
+  pub unary-does : (k : U.Unary) (d a : ℕ) → d < 32 → a < 32 → Sound s → Sets (unary-code k d a) (unary Q (s .rm) k (s .f) d a)
+  unfolding unary-code unary effect apply setx upd temporary
+  unary-does Fmov d a hd ha o = by (eqb d a) refl
+    where
+      by : (t : Bool) → eqb d a ≡ t → Sets (cond t [] (R FSGNJ-D d a a ∷ [])) (upd (s .f) d (s .f a))
+      by true e = sets [] _ tt tt (upd-self (s .f) d a e) refl
+      by false e = sets (R FSGNJ-D d a a ∷ []) _ (omega arith) tt (rw (own-sign (s .f a) (o .f a))) refl
+  unary-does Recip d a hd ha o = sets (unary-code Recip d a) _ (unary-valid Recip d a hd ha) tt (rw (Q .of-w-one 0 (omega arith))) refl
+  unary-does Round d a hd ha o = sets (unary-code Round d a) _ (unary-valid Round d a hd ha) tt refl refl
+  unary-does Floor d a hd ha o = sets (unary-code Floor d a) _ (unary-valid Floor d a hd ha) tt refl refl
+  unary-does Not d a hd ha o = sets (unary-code Not d a) _ (unary-valid Not d a hd ha) tt refl refl
+
+  pub scratched-does : (k : S.Scratched) (d a t : ℕ) → d < 32 → a < 32 → t < 32 → Sets (scratched-code k d a t) (scratched Q (s .rm) k (s .f) d a t)
+  unfolding scratched-code scratched effect apply setx upd temporary
+  scratched-does Sign d a t hd ha ht =
+      let g : ℕ → ℕ = upd (s .f) t 0 in
+      sets (scratched-code Sign d a t) _ (scratched-valid Sign d a t hd ha ht) tt (rw (sign-converted Q (Q .lt (g t) (g a)) (Q .lt (g a) (g t)))) refl
+  scratched-does Frac d a t hd ha ht = sets (scratched-code Frac d a t) _ (scratched-valid Frac d a t hd ha ht) tt refl refl
+
+  pub binary-does : (k : Bin.Binary) (d a b : ℕ) → d < 32 → a < 32 → b < 32 → Sets (binary-code k d a b) (upd (s .f) d (binary Q (s .rm) k (s .f a) (s .f b)))
+  unfolding binary-code binary effect apply setx upd temporary
+  binary-does Minus d a b hd ha hb = sets (binary-code Minus d a b) _ (binary-valid Minus d a b hd ha hb) tt refl refl
+  binary-does Times d a b hd ha hb = sets (binary-code Times d a b) _ (binary-valid Times d a b hd ha hb) tt refl refl
+  binary-does Divide d a b hd ha hb = sets (binary-code Divide d a b) _ (binary-valid Divide d a b hd ha hb) tt refl refl
+  binary-does Gt d a b hd ha hb =
+      sets (binary-code Gt d a b) _ (binary-valid Gt d a b hd ha hb) tt (rw (negated (Q .lt (s .f b) (s .f a)))) refl
+  binary-does Neq d a b hd ha hb =
+      sets (binary-code Neq d a b) _ (binary-valid Neq d a b hd ha hb) tt (rw (negated-inverted (Q .eq (s .f a) (s .f b)))) refl
+  binary-does And d a b hd ha hb = sets (binary-code And d a b) _ (binary-valid And d a b hd ha hb) tt refl refl
+  binary-does Andnot d a b hd ha hb = sets (binary-code Andnot d a b) _ (binary-valid Andnot d a b hd ha hb) tt refl refl
+  binary-does Or d a b hd ha hb = sets (binary-code Or d a b) _ (binary-valid Or d a b hd ha hb) tt refl refl
+  binary-does Xor d a b hd ha hb = by (eqb a b) refl
+    where
+      by : (t : Bool) → eqb a b ≡ t → Sets (cond t (M FMV-D-X d 0 ∷ []) (M FMV-X-D 5 a ∷ M FMV-X-D 6 b ∷ R XOR 5 5 6 ∷ M FMV-D-X d 5 ∷ [])) (upd (s .f) d (bitXor (s .f a) (s .f b)))
+      by true e =
+          let q : bitXor (s .f a) (s .f b) ≡ 0 = rw (eqb-true a b e) (xor-self (s .f b)) in
+          sets (M FMV-D-X d 0 ∷ []) _ (omega arith) tt (rw q) refl
+      by false e = sets (M FMV-X-D 5 a ∷ M FMV-X-D 6 b ∷ R XOR 5 5 6 ∷ M FMV-D-X d 5 ∷ []) _ (omega arith) tt refl refl
+
+  pub fused-does : (k : Fu.Fused) (d a b c : ℕ) → d < 32 → a < 32 → b < 32 → c < 32 → Sets (R4 (fused-op k) d a b c 7 ∷ []) (upd (s .f) d (fused Q (s .rm) k (s .f a) (s .f b) (s .f c)))
+  unfolding fused effect apply setx upd temporary
+  fused-does MulAdd d a b c hd ha hb hc = sets (R4 (fused-op MulAdd) d a b c 7 ∷ []) _ (omega arith) tt refl refl
+  fused-does MulSub d a b c hd ha hb hc = sets (R4 (fused-op MulSub) d a b c 7 ∷ []) _ (omega arith) tt refl refl
+  fused-does NegMulAdd d a b c hd ha hb hc = sets (R4 (fused-op NegMulAdd) d a b c 7 ∷ []) _ (omega arith) tt refl refl
+  fused-does NegMulSub d a b c hd ha hb hc = sets (R4 (fused-op NegMulSub) d a b c 7 ∷ []) _ (omega arith) tt refl refl
