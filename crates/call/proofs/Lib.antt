@@ -1,0 +1,6 @@
+pub mod Items
+pub mod Placing
+pub mod Whole
+pub mod Cells
+pub mod Means
+pub mod Follow

@@ -1,0 +1,5 @@
+pub mod Program
+pub mod Plain
+pub mod Terms
+pub mod Layout
+pub mod Good

@@ -1,0 +1,1 @@
+// Definitions and theorems only: what a call of an accepted routine does (demand 3).
