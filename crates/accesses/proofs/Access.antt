@@ -18,7 +18,7 @@ use Rattle.machine.proofs.Effects.{setx-twice}
 use Rattle.machine.proofs.Memory.{wrap-r, Apart, load4-store}
 use Rattle.machine.proofs.Straight.{aligned, path-run}
 use Rattle.accesses.specs.Code.{li-code, point-code, access-code}
-use Rattle.accesses.specs.Fault.{offset-limit, access-fault}
+use Rattle.accesses.specs.Fault.{offset-limit, access-fault, last-pair}
 use Rattle.accesses.specs.Stands.{Stands, behind, cell-at, with-t0}
 use Rattle.accesses.proofs.Then.{passed, leads, through, behind-both}
 use Rattle.accesses.proofs.Li.{eight, li-runs}
@@ -96,7 +96,7 @@ module _ (Q : Floats) (s : State) (b n a : ℕ) (hb : b < 32) (hn : n < 2048) (e
   unfolding effect apply
   save-float-direct d hd = leads Q _ s _ (omega arith) tt (rw addr)
 
-module _ (Q : Floats) (s : State) (b n a a′ : ℕ) (hb : b < 32) (hn : n < 2040) (e : w64 (getx s b + n) ≡ a) (e′ : w64 (getx s b + (n + 8)) ≡ a′) (d : ℕ) (hd : d < 31) where
+module _ (Q : Floats) (s : State) (b n a a′ : ℕ) (hb : b < 32) (hn : n < 2040) (e : w64 (getx s b + n) ≡ a) (e′ : w64 (getx s b + (n + 8)) ≡ a′) (d : ℕ) (hd : d ≤ last-pair) where
   ahead : w64 (getx s b + (n + 8) % 2 ^ 64) ≡ a′
   ahead = wrap-r (getx s b) (n + 8) ∙ e′
 

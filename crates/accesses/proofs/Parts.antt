@@ -11,7 +11,7 @@ use Rattle.isa.proofs.HiLo.{widened, AddUp, hi-lo-low, hi-lo-high}
 use Rattle.machine.specs.Word.{w64}
 use Rattle.machine.specs.Effect.{upper}
 use Rattle.machine.proofs.Memory.{wrap-l}
-use Rattle.accesses.specs.Fault.{li-takes}
+use Rattle.accesses.specs.Fault.{offset-limit, li-takes}
 
 upper-hi : (x : ℕ) → upper (pos (hi x)) ≡ w64 (widened (hi x * 4096))
 upper-hi x = let e : hi x % 2 ^ 20 ≡ hi x = omega arith in rw e
@@ -23,7 +23,7 @@ added x v h e = rw (upper-hi x, wrap-l (widened (hi x * 4096)) (twos 64 (lo x)),
 -- z in two parts
 pub parts : (z : ℤ) → T (li-takes z) → w64 (upper (pos (hi (twos 32 z))) + twos 64 (lo (twos 32 z))) ≡ twos 64 z
 parts (pos n) t =
-    let l : n ≤ 0x7FFFF7FF = leb→le n 0x7FFFF7FF t in
+    let l : n ≤ offset-limit = leb→le n offset-limit t in
     let e : n % 2 ^ 32 ≡ n = omega arith in
     rw e (added n (n % 2 ^ 64) (hi-lo-low n (omega arith) (omega arith)) (omega arith))
 parts (negsuc n) t =
@@ -59,7 +59,7 @@ module _ (p here : ℕ) (hp : p < 2 ^ 20) (hh : here < 2 ^ 20) where
   twos64-away = away (λ z. twos 64 z ≡ (p + (2 ^ 64 - here)) % 2 ^ 64) (λ l. omega arith) (λ l. omega arith)
 
   takes-away : T (li-takes (subℕ p here))
-  takes-away = away (λ z. T (li-takes z)) (λ l. le→leb (p - here) 0x7FFFF7FF (omega arith)) (λ l. lt→ltb (here - suc p) (2 ^ 31) (omega arith))
+  takes-away = away (λ z. T (li-takes z)) (λ l. le→leb (p - here) offset-limit (omega arith)) (λ l. lt→ltb (here - suc p) (2 ^ 31) (omega arith))
 
 module _ (start p here : ℕ) (hp : p < 2 ^ 20) (hh : here + 4 < 2 ^ 20) where
   low-away : lo (twos 32 (subℕ p (here + 4)) + 4) ≡ lo (twos 32 (subℕ p here))

@@ -5,7 +5,7 @@ use mathlib.Core.List.{List, [], _∷_, _++_}
 use Prim.Native.Nat.{ℕ, _+_, _*_, _%_, _^_, _≤_, _<_}
 use native.Mathlib.Omega.{arith}
 use borrow.Author.Tests.{ltb-true, lt-ltb, le-ltb}
-use lib.Dec.{T, ltb, ltb→lt}
+use lib.Dec.{T, ltb, leb, ltb→lt, leb→le}
 use lib.IntN.{pos}
 use lib.ListN.{length, length-append}
 use Rattle.isa.specs.Immediate.{hi, lo}
@@ -18,7 +18,7 @@ use Rattle.machine.proofs.Effects.{and-l, and-r}
 use Rattle.machine.proofs.Memory.{Apart, dist-ahead}
 use Rattle.machine.proofs.Placed.{Valids}
 use Rattle.accesses.specs.Code.{near-li, li-code, point-code, access-code, near-one, near-pair, load-float-code, save-float-code, load-int-code, load-complex-code, save-complex-code}
-use Rattle.accesses.specs.Fault.{one-fault, pair-fault}
+use Rattle.accesses.specs.Fault.{one-fault, last-pair, pair-fault}
 use Rattle.accesses.specs.Stands.{Stands, behind, cell-at, with-t0}
 use Rattle.accesses.proofs.Then.{valids-join}
 use Rattle.accesses.proofs.Li.{li-valid}
@@ -55,8 +55,12 @@ access-length near is b n k h l = by (ltb n near)
 
 -- ---- the registers that are accepted
 
-both : (d k b : ℕ) → T (ltb d k && ltb b 32) → (d < k) × (b < 32)
-both d k b h = (ltb→lt d k (and-l (ltb d k) (ltb b 32) h), ltb→lt b 32 (and-r (ltb d k) (ltb b 32) h))
+one-registers : (d b : ℕ) → T (ltb d 32 && ltb b 32) → (d < 32) × (b < 32)
+one-registers d b h = (ltb→lt d 32 (and-l (ltb d 32) (ltb b 32) h), ltb→lt b 32 (and-r (ltb d 32) (ltb b 32) h))
+
+pair-registers : (d b : ℕ) → T (leb d last-pair && ltb b 32) → (d ≤ last-pair) × (b < 32)
+pair-registers d b h =
+    (leb→le d last-pair (and-l (leb d last-pair) (ltb b 32) h), ltb→lt b 32 (and-r (leb d last-pair) (ltb b 32) h))
 
 -- an address that t0 holds
 at-zero : (u n : ℕ) → w64 (w64 (u + n) + 0) ≡ w64 (u + n)
@@ -76,7 +80,7 @@ module _ (d b n : ℕ) (h : one-fault d b n ≡ 0) where
   one-ok = accepted near-one (ltb d 32 && ltb b 32) b n h
 
   one-fits : (d < 32) × (b < 32)
-  one-fits = both d 32 b (one-ok .registers-fit)
+  one-fits = one-registers d b (one-ok .registers-fit)
 
   pub load-float-valid : Valids (load-float-code d b n)
   load-float-valid = let p = one-fits in access-valid near-one _ b n (p .1) (λ l. omega arith) (omega arith)
@@ -126,11 +130,11 @@ unfolding access-code
 far-form near is b n l = rw (le-ltb n near l)
 
 module _ (d b n : ℕ) (h : pair-fault d b n ≡ 0) where
-  pair-ok : Accepted near-pair (ltb d 31 && ltb b 32) b n
-  pair-ok = accepted near-pair (ltb d 31 && ltb b 32) b n h
+  pair-ok : Accepted near-pair (leb d last-pair && ltb b 32) b n
+  pair-ok = accepted near-pair (leb d last-pair && ltb b 32) b n h
 
-  pair-fits : (d < 31) × (b < 32)
-  pair-fits = both d 31 b (pair-ok .registers-fit)
+  pair-fits : (d ≤ last-pair) × (b < 32)
+  pair-fits = pair-registers d b (pair-ok .registers-fit)
 
   pub load-complex-valid : Valids (load-complex-code d b n)
   load-complex-valid = let p = pair-fits in access-valid near-pair _ b n (p .1) (λ l. omega arith) (omega arith)

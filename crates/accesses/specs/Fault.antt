@@ -30,9 +30,13 @@ access-fault near registers base n =
 abbrev pub one-fault : (r base offset : ℕ) → ℕ
 one-fault r base = access-fault near-one (ltb r 32 && ltb base 32) base
 
--- `load_complex`, `save_complex`: r + 1 is a register too
+-- the last register that starts a pair
+abbrev pub last-pair : ℕ
+last-pair = 30
+
+-- `load_complex`, `save_complex`
 abbrev pub pair-fault : (r base offset : ℕ) → ℕ
-pair-fault r base = access-fault near-pair (ltb r 31 && ltb base 32) base
+pair-fault r base = access-fault near-pair (leb r last-pair && ltb base 32) base
 
 -- `sub_stack`, `add_stack`, `allocate_stack`
 abbrev pub stack-fault : (size : ℕ) → ℕ
