@@ -4,3 +4,5 @@ pub mod Whole
 pub mod Cells
 pub mod Means
 pub mod Follow
+pub mod Forth
+pub mod Saved

@@ -60,20 +60,26 @@ module _ (Q : Floats) (f : ℕ → ℕ) (rm : ℕ) where
     fine-cells H (BranchIf a l t) h s = tt
     fine-cells H (SetLabel l) h s = tt
 
-    -- it leaves to a user's label that is set
-    pub exit-label : (o : Order) (l : ℕ) → fault o ≡ 0 → meaning Q f rm c k o .exit ≡ to l → l ≤ 1023
+    -- only a branch goes to a label
+    pub exit-branch : (o : Order) (l : ℕ) → meaning Q f rm c k o .exit ≡ to l → (a : ℕ) × (t : Bool) × (o ≡ BranchIf a l t)
     unfolding meaning
-    exit-label (Unary u a b) l h e = let z : _≡_ {A = ℕ} 0 1 = cc in absurd (omega arith)
-    exit-label (Scratched u a b t) l h e = let z : _≡_ {A = ℕ} 0 1 = cc in absurd (omega arith)
-    exit-label (Binary u a b t) l h e = let z : _≡_ {A = ℕ} 0 1 = cc in absurd (omega arith)
-    exit-label (Fused u a b t v) l h e = let z : _≡_ {A = ℕ} 0 1 = cc in absurd (omega arith)
-    exit-label (Ifelse a b t i) l h e = let z : _≡_ {A = ℕ} 0 1 = cc in absurd (omega arith)
-    exit-label (LoadConst a i) l h e = let z : _≡_ {A = ℕ} 0 1 = cc in absurd (omega arith)
-    exit-label (Load a r i) l h e = let z : _≡_ {A = ℕ} 0 1 = cc in absurd (omega arith)
-    exit-label (Save a r i) l h e = let z : _≡_ {A = ℕ} 0 1 = cc in absurd (omega arith)
-    exit-label (BranchIf a m t) l h e = by (jumps t (f a)) e
+    exit-branch (Unary u a b) l e = let z : _≡_ {A = ℕ} 0 1 = cc in absurd (omega arith)
+    exit-branch (Scratched u a b t) l e = let z : _≡_ {A = ℕ} 0 1 = cc in absurd (omega arith)
+    exit-branch (Binary u a b t) l e = let z : _≡_ {A = ℕ} 0 1 = cc in absurd (omega arith)
+    exit-branch (Fused u a b t v) l e = let z : _≡_ {A = ℕ} 0 1 = cc in absurd (omega arith)
+    exit-branch (Ifelse a b t i) l e = let z : _≡_ {A = ℕ} 0 1 = cc in absurd (omega arith)
+    exit-branch (LoadConst a i) l e = let z : _≡_ {A = ℕ} 0 1 = cc in absurd (omega arith)
+    exit-branch (Load a r i) l e = let z : _≡_ {A = ℕ} 0 1 = cc in absurd (omega arith)
+    exit-branch (Save a r i) l e = let z : _≡_ {A = ℕ} 0 1 = cc in absurd (omega arith)
+    exit-branch (BranchIf a m t) l e = by (jumps t (f a)) e
       where
-        by : (b : Bool) → cond b (to m) on ≡ to l → l ≤ 1023
-        by true e = let z : m ≡ l = cc in omega (arith, branch-label a m t h)
+        by : (b : Bool) → cond b (to m) on ≡ to l → (a′ : ℕ) × (t′ : Bool) × (BranchIf a m t ≡ BranchIf a′ l t′)
+        by true e = let z : m ≡ l = cc in (a, t, ap (λ (j : ℕ). BranchIf a j t) z)
         by false e = let z : _≡_ {A = ℕ} 0 1 = cc in absurd (omega arith)
-    exit-label (SetLabel m) l h e = let z : _≡_ {A = ℕ} 0 1 = cc in absurd (omega arith)
+    exit-branch (SetLabel m) l e = let z : _≡_ {A = ℕ} 0 1 = cc in absurd (omega arith)
+
+    -- a user's
+    pub exit-label : (o : Order) (l : ℕ) → fault o ≡ 0 → meaning Q f rm c k o .exit ≡ to l → l ≤ 1023
+    exit-label o l h e =
+        let b = exit-branch o l e in
+        branch-label (b .0) l (b .1) (rw (b .2) at h)

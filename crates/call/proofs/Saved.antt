@@ -1,0 +1,146 @@
+-- Preserved float registers while a good program is read: those outside the mask stay, and so do the cells of the saved ones. Assumes nothing.
+use mathlib.Core.Path.{_≡_, refl, ap, sym, _∙_}
+use mathlib.Core.Logic.{_≢_, _⊎_, inl, inr}
+use mathlib.Core.Bool.{Bool, true, false, not, _&&_, _||_, cond}
+use mathlib.Core.List.{List, [], _∷_, map, List·Memᴰ, List·Memᴰ·not-nil, List·Memᴰ·cases-cons}
+use mathlib.Core.Option.{some}
+use Prim.Native.Nat.{ℕ, suc, _+_, _*_, _≤_, _<_}
+use native.Mathlib.Omega.{arith}
+use borrow.Author.Tests.{eq-eqb, ne-eqb, eqb-true, eqb-false}
+use lib.Dec.{T, T-not, eqb, ltb}
+use lib.ListN.{getElem?}
+use Rattle.machine.specs.Word.{upd}
+use Rattle.machine.specs.Floats.{Floats}
+use Rattle.machine.proofs.Memory.{upd-other}
+use Rattle.machine.proofs.Effects.{and-l, and-r}
+use Rattle.order.specs.declared.Place.{Place}
+use Rattle.order.specs.declared.Place.the-variants.{Mem, Stack, Param}
+use Rattle.order.specs.declared.Unary as U
+use Rattle.order.specs.declared.Unary.the-variants.{Fmov, Recip, Round, Floor, Not}
+use Rattle.order.specs.declared.Scratched as S
+use Rattle.order.specs.declared.Scratched.the-variants.{Sign, Frac}
+use Rattle.order.specs.declared.Order.{Order}
+use Rattle.order.specs.declared.Order.the-variants.{Unary, Scratched, Binary, Fused, Ifelse, LoadConst, Load, Save, BranchIf, SetLabel}
+use Rattle.reading.specs.Meaning.{Meaning, unary, scratched, meaning}
+use Rattle.reading.specs.Line.{Line, order, constant}
+use Rattle.frames.specs.Mask.{preserved, in-mask, saved, save-cell}
+use Rattle.call.specs.Program.{Program}
+use Rattle.call.specs.Plain.{Reading, with-cell, with-cells, means, Step, does, passes, Reads, none-read, line-read}
+use Rattle.call.specs.Good.{member, all-hold, unary-writes, writes, free, open-cell, stores-open, saves-hold, Good}
+
+upd-self : (f : ℕ → ℕ) (d y : ℕ) → upd f d (f d) y ≡ f y
+unfolding upd
+upd-self f d y = by (eqb y d) refl
+  where
+    by : (b : Bool) → eqb y d ≡ b → cond b (f d) (f y) ≡ f y
+    by true e = ap f (sym (eqb-true y d e))
+    by false e = refl
+
+module _ (mask : ℕ) where
+  -- a preserved register outside the mask
+  abbrev pub Guarded : ℕ → Type 0
+  Guarded y = T (member y preserved) × T (not (in-mask mask y))
+
+  not-free : (y d : ℕ) → Guarded y → T (free mask d) → y ≢ d
+  not-free y d g h e = by (member y preserved) (in-mask mask y) (g .0) (g .1) (rw (← e) at h)
+    where
+      by : (a b : Bool) → T a → T (not b) → T (not a || b) → ⊥
+      by true true p q r = q
+      by true false p q r = r
+      by false b p q r = p
+
+  module _ (Q : Floats) (f : ℕ → ℕ) (rm y : ℕ) (g : Guarded y) where
+    one : (d v : ℕ) → T (free mask d && true) → upd f d v y ≡ f y
+    one d v h = upd-other f d v y (not-free y d g (and-l (free mask d) true h))
+
+    two : (d e v w : ℕ) → T (free mask e && (free mask d && true)) → upd (upd f e v) d w y ≡ f y
+    two d e v w h =
+        upd-other (upd f e v) d w y (not-free y d g (and-l (free mask d) true (and-r (free mask e) _ h)))
+        ∙ upd-other f e v y (not-free y e g (and-l (free mask e) _ h))
+
+    unary-keeps : (k : U.Unary) (d s : ℕ) → T (all-hold (free mask) (unary-writes k d s)) → unary Q rm k f d s y ≡ f y
+    unfolding unary
+    unary-keeps Fmov d s h = by (eqb d s) refl h
+      where
+        by : (b : Bool) → eqb d s ≡ b → T (all-hold (free mask) (cond b [] (d ∷ []))) → upd f d (f s) y ≡ f y
+        by true e h = rw (← (eqb-true d s e)) (upd-self f d y)
+        by false e h = one d (f s) h
+    unary-keeps Recip d s h = two d 10 _ _ h
+    unary-keeps Round d s h = one d _ h
+    unary-keeps Floor d s h = one d _ h
+    unary-keeps Not d s h = one d _ h
+
+    scratched-keeps : (k : S.Scratched) (d s t : ℕ) → T (all-hold (free mask) (t ∷ d ∷ [])) → scratched Q rm k f d s t y ≡ f y
+    unfolding scratched
+    scratched-keeps Sign d s t h = two d t _ _ h
+    scratched-keeps Frac d s t h = two d t _ _ h
+
+    -- an order leaves it
+    register-kept : (c : Place → ℕ → ℕ) (k : ℕ → ℕ) (o : Order) → T (all-hold (free mask) (writes o)) → meaning Q f rm c k o .f y ≡ f y
+    unfolding meaning
+    register-kept c k (Unary u d s) h = unary-keeps u d s h
+    register-kept c k (Scratched u d s t) h = scratched-keeps u d s t h
+    register-kept c k (Binary u d a b) h = one d _ h
+    register-kept c k (Fused u d a b e) h = one d _ h
+    register-kept c k (Ifelse d a b i) h = one d _ h
+    register-kept c k (LoadConst d i) h = one d _ h
+    register-kept c k (Load d p i) h = one d _ h
+    register-kept c k (Save s p i) h = refl
+    register-kept c k (BranchIf a l e) h = refl
+    register-kept c k (SetLabel l) h = refl
+
+  -- ---- the cell of a saved register
+
+  mapped : (y : ℕ) (rs : List ℕ) → List·Memᴰ y rs → T (member (save-cell y) (map save-cell rs))
+  mapped y [] m = absurd (List·Memᴰ·not-nil m)
+  mapped y (r ∷ rs) m = by (List·Memᴰ·cases-cons m) (mapped y rs)
+    where
+      right : (a b : Bool) → T b → T (a || b)
+      right true b h = tt
+      right false b h = h
+
+      by : (y ≡ r) ⊎ List·Memᴰ y rs → (List·Memᴰ y rs → T (member (save-cell y) (map save-cell rs))) → T (eqb (save-cell y) (save-cell r) || member (save-cell y) (map save-cell rs))
+      by (inl e) f = rw (eq-eqb (save-cell y) (save-cell r) (ap save-cell e)) tt
+      by (inr n) f = right (eqb (save-cell y) (save-cell r)) _ (f n)
+
+  -- an order leaves it
+  cell-kept : (Q : Floats) (f : ℕ → ℕ) (rm y : ℕ) → List·Memᴰ y (saved mask) → (c : Place → ℕ → ℕ) (k : ℕ → ℕ) (o : Order) → T (stores-open mask o) → with-cells (meaning Q f rm c k o .cells) c Stack (save-cell y) ≡ c Stack (save-cell y)
+  unfolding meaning with-cell
+  cell-kept Q f rm y m c k (Unary u d s) h = refl
+  cell-kept Q f rm y m c k (Scratched u d s t) h = refl
+  cell-kept Q f rm y m c k (Binary u d a b) h = refl
+  cell-kept Q f rm y m c k (Fused u d a b e) h = refl
+  cell-kept Q f rm y m c k (Ifelse d a b i) h = refl
+  cell-kept Q f rm y m c k (LoadConst d i) h = refl
+  cell-kept Q f rm y m c k (Load d p i) h = refl
+  cell-kept Q f rm y m c k (Save s Mem i) h = refl
+  cell-kept Q f rm y m c k (Save s Stack i) h = rw (ne-eqb (save-cell y) i (λ e. T-not (member i (map save-cell (saved mask))) h (rw e at (mapped y (saved mask) m))))
+  cell-kept Q f rm y m c k (Save s Param i) h = refl
+  cell-kept Q f rm y m c k (BranchIf a l e) h = refl
+  cell-kept Q f rm y m c k (SetLabel l) h = refl
+
+-- ---- along a reading
+
+pub record Held (mask : ℕ) (r t : Reading) : Type 0 where
+  pub registers : (y : ℕ) → Guarded mask y → t .f y ≡ r .f y
+  pub cells : (y : ℕ) → List·Memᴰ y (saved mask) → t .cells Stack (save-cell y) ≡ r .cells Stack (save-cell y)
+
+module _ (Q : Floats) (p : Program) (g : Good p) where
+  abbrev mask : ℕ
+  mask = p .head .mask
+
+  step-held : {r t : Reading} {l : Line} → getElem? (p .lines) (r .line) ≡ some l → Step Q p r l t → Held mask r t
+  step-held e (does {r = r} {o = o} q) =
+      let h = g .orders (r .line) o e .saves in
+      record {
+        registers = λ y v. register-kept mask Q (r .f) (r .rm) y v (r .cells) _ o (and-l (all-hold (free mask) (writes o)) _ h);
+        cells = λ y m. cell-kept mask Q (r .f) (r .rm) y m (r .cells) _ o (and-r (all-hold (free mask) (writes o)) _ h);
+      }
+  step-held e passes = record { registers = λ y v. refl; cells = λ y m. refl }
+
+  pub held : {r t : Reading} {k : ℕ} → Reads Q p r k t → Held mask r t
+  held none-read = record { registers = λ y v. refl; cells = λ y m. refl }
+  held (line-read e w q) =
+      let a = step-held e w in
+      let b = held q in
+      record { registers = λ y v. b .registers y v ∙ a .registers y v; cells = λ y m. b .cells y m ∙ a .cells y m }
