@@ -1,1 +1,14 @@
 pub mod Closed
+pub mod Land
+pub mod Walk
+pub mod Stack
+pub mod Row
+pub mod Claim
+pub mod Seg
+pub mod Rows
+pub mod Fast
+pub mod Repeat
+pub mod Copy
+pub mod Count
+pub mod Indirect
+pub mod Opened

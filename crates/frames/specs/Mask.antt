@@ -18,7 +18,7 @@ chosen p [] = []
 chosen p (r ∷ rs) = cond (p r) (r ∷ chosen p rs) (chosen p rs)
 
 -- the registers that are saved, upward; other bits of the mask do nothing
-abbrev pub saved : (mask : ℕ) → List ℕ
+unfoldable pub saved : (mask : ℕ) → List ℕ
 saved mask = chosen (in-mask mask) preserved
 
 -- f8, f9 go to stack cells 4, 5 and f18..f27 to 6..15

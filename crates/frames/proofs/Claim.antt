@@ -1,0 +1,125 @@
+-- What the frames' words do on the machine: the terms they rest on, and what holds behind them (document 01, "The machine and the terms of a call").
+-- Proved in `Opened`.
+use mathlib.Core.Path.{_≡_}
+use mathlib.Core.Bool.{Bool, true, false, not, _&&_, _||_, cond}
+use mathlib.Core.List.{List, _++_, List·Memᴰ}
+use Prim.Native.Nat.{ℕ, _+_, _-_, _*_, _%_, _^_, _≤_, _<_}
+use lib.Dec.{T, eqb, leb}
+use lib.IntN.{pos}
+use lib.ListN.{length, getD}
+use Rattle.isa.specs.Instr.{Instr}
+use Rattle.machine.specs.Word.{w64, upd, load8, store8}
+use Rattle.machine.specs.Floats.{Floats}
+use Rattle.machine.specs.State.{State, Sound}
+use Rattle.machine.specs.Step.{CodeAt, Run}
+use Rattle.machine.proofs.Stores.{Same, Off}
+use Rattle.order.specs.declared.Frame.{Frame}
+use Rattle.order.specs.declared.Frame.the-variants.{Fast, Indirect}
+use Rattle.order.specs.declared.Head.{Head}
+use Rattle.assembler.specs.Item.{Item}
+use Rattle.assembler.specs.Resolved.{resolved}
+use Rattle.accesses.specs.Code.{li-code, sub-stack-code, allocate-stack-code}
+use Rattle.frames.specs.Size.{cells, uses-table, holds-mem, frame-size, stack-size, below-saves, whole-size}
+use Rattle.frames.specs.Mask.{saved, save-cell}
+use Rattle.frames.specs.Items.{kept, prologue, saves}
+use Rattle.frames.specs.Fault.{prologue-holds, epilogue-holds}
+use Rattle.frames.proofs.Land.{In}
+use Rattle.frames.proofs.Walk.{Stands}
+
+-- ---- the call: s is the state there
+
+-- the frame's bytes
+abbrev pub Frame-at : Head → State → (bottom : ℕ) → ℕ → Type 0
+Frame-at H s bottom = In bottom (bottom + whole-size H (s .x 11))
+
+-- where the cell of pointer i lies: 16 bytes apart at a1, each plus 8 × a2
+abbrev pub table-cell : State → ℕ → ℕ
+table-cell s i = w64 (load8 (s .mem) (w64 (s .x 11 + 16 * i)) + 8 * s .x 12)
+
+-- the first cell of `mem`
+abbrev pub mem-at : Head → State → (bottom : ℕ) → ℕ
+mem-at H s bottom = cond (holds-mem (H .frame) (s .x 11)) (bottom + stack-size H) (s .x 10)
+
+-- state i as the call gives it: f10 and up; by the table; or the block as it was
+abbrev pub state-of : Frame → State → ℕ → ℕ
+state-of Fast s i = s .f (10 + i)
+state-of Indirect s i = load8 (s .mem) (cond (eqb (s .x 11) 0) (w64 (s .x 10 + 8 * i)) (table-cell s i))
+
+pub record Called (H : Head) (at : ℕ → ℕ) (s : State) (bottom : ℕ) : Type 0 where
+  pub counts : T (prologue-holds H)
+  -- cap is at least 16 if the mask has a preserved register
+  pub room-for-saves : (r : ℕ) → List·Memᴰ r (saved (H .mask)) → 16 ≤ H .cap
+  pub sound : Sound s
+  pub start : s .pc % 4 ≡ 0
+  -- the frame lies below sp and doesn't go round; it may end at 2^64
+  pub fits : bottom + whole-size H (s .x 11) ≤ 2 ^ 64
+  pub sp : s .x 2 ≡ w64 (bottom + whole-size H (s .x 11))
+  -- the words of prologue and saves stand at pc, with their labels where `at` has them
+  pub code : CodeAt (s .mem) (s .pc) (resolved at 0 (prologue H ++ saves (H .mask)))
+  pub labels : Stands at 0 (prologue H ++ saves (H .mask))
+  pub code-fits : s .pc + 4 * length (resolved at 0 (prologue H ++ saves (H .mask))) ≤ 2 ^ 64
+  pub code-apart : Off (Frame-at H s bottom) (s .pc) (4 * length (resolved at 0 (prologue H ++ saves (H .mask))))
+  -- the table, where it is used, and the state cells
+  pub table-fits : T (uses-table (H .frame) (s .x 11)) → s .x 11 + 16 * cells H ≤ 2 ^ 64
+  pub table-apart : T (uses-table (H .frame) (s .x 11)) → Off (Frame-at H s bottom) (s .x 11) (16 * cells H)
+  pub states-apart : T (uses-table (H .frame) (s .x 11)) → (i : ℕ) → i < H .states → Off (Frame-at H s bottom) (table-cell s i) 8
+  -- the block, where `mem` isn't in the frame
+  pub block-fits : T (not (holds-mem (H .frame) (s .x 11))) → s .x 10 + 8 * cells H ≤ 2 ^ 64
+  pub block-apart : T (not (holds-mem (H .frame) (s .x 11))) → Off (Frame-at H s bottom) (s .x 10) (8 * cells H)
+
+-- ---- behind prologue and saves
+
+abbrev pub indirect : Frame → Bool
+indirect Fast = false
+indirect Indirect = true
+
+-- the words run by `repeated`: those of `first`, then six a round, or eight in the loop
+abbrev pub repeated-steps : ℕ → (first : ℕ) → ℕ
+repeated-steps n first =
+    cond (eqb n 0) 0 (cond (leb n 16) (first + 6 * n) (first + length (li-code 7 (pos n)) + 8 * n))
+
+-- the words that prologue and saves run
+abbrev pub prologue-steps : Head → Frame → (a1 : ℕ) → ℕ
+prologue-steps H Fast a1 =
+    8 + length (sub-stack-code (frame-size H)) + length (sub-stack-code (stack-size H)) + H .states
+    + length (saved (H .mask))
+prologue-steps H Indirect a1 =
+    14
+    + cond (eqb a1 0) 0
+    (length (sub-stack-code (frame-size H)) + 2 + repeated-steps (H .states) 1)
+    + length (allocate-stack-code (stack-size H))
+    + length (saved (H .mask))
+
+-- registers that a frame sets: sp, t0..t2, s0, s1, s2..s5
+abbrev pub sets : Frame → ℕ → Bool
+sets Fast r = eqb r 2 || (eqb r 5 || (eqb r 8 || (eqb r 9 || eqb r 21)))
+sets Indirect r = eqb r 2 || (eqb r 5 || (eqb r 6 || (eqb r 7 || (eqb r 8 || (eqb r 9 || (eqb r 18 || (eqb r 19 || (eqb r 20 || eqb r 21))))))))
+
+-- f10 holds the last state where a table with states was read
+abbrev pub floats-of : Head → State → ℕ → ℕ
+floats-of H s =
+    cond (uses-table (H .frame) (s .x 11) && not (eqb (H .states) 0))
+    (upd (s .f) 10 (load8 (s .mem) (table-cell s (H .states - 1)))) (s .f)
+
+pub record Ready (Q : Floats) (H : Head) (at : ℕ → ℕ) (s : State) (bottom : ℕ) (t : State) : Type 0 where
+  pub runs : Run Q s (prologue-steps H (H .frame) (s .x 11)) t
+  pub pc : t .pc ≡ w64 (s .pc + 4 * length (resolved at 0 (prologue H ++ saves (H .mask))))
+  pub sp : t .x 2 ≡ bottom
+  pub s5 : t .x 21 ≡ bottom
+  pub s0 : t .x 8 ≡ bottom + below-saves H (s .x 11)
+  pub s1 : t .x 9 ≡ mem-at H s bottom
+  -- in an indirect frame: the table's pointer behind those of the states, 8 × a2 where the table is used, a3
+  pub s2 : T (indirect (H .frame)) → t .x 18 ≡ cond (eqb (s .x 11) 0) 0 (w64 (s .x 11 + 16 * H .states))
+  pub s3 : T (indirect (H .frame)) → t .x 19 ≡ cond (eqb (s .x 11) 0) (s .x 12) (w64 (8 * s .x 12))
+  pub s4 : T (indirect (H .frame)) → t .x 20 ≡ s .x 13
+  pub others : (r : ℕ) → T (not (sets (H .frame) r)) → t .x r ≡ s .x r
+  -- the whole-number registers in their places
+  pub places : (i : ℕ) → i < length (kept (H .frame)) → load8 (t .mem) (bottom + below-saves H (s .x 11) + 8 * i) ≡ s .x (getD (kept (H .frame)) i 0)
+  -- the states, the preserved float registers, and all other cells as they were
+  pub states : (i : ℕ) → i < H .states → load8 (t .mem) (w64 (mem-at H s bottom + 8 * i)) ≡ state-of (H .frame) s i
+  pub mem-cells : (i : ℕ) → H .states ≤ i → i < cells H → load8 (t .mem) (w64 (mem-at H s bottom + 8 * i)) ≡ load8 (s .mem) (w64 (mem-at H s bottom + 8 * i))
+  pub stack-cells : (i : ℕ) → i < H .cap → ((r : ℕ) → List·Memᴰ r (saved (H .mask)) → save-cell r ≡ i → ⊥) → load8 (t .mem) (bottom + 8 * i) ≡ load8 (s .mem) (bottom + 8 * i)
+  pub saved-cells : (r : ℕ) → List·Memᴰ r (saved (H .mask)) → load8 (t .mem) (bottom + 8 * save-cell r) ≡ s .f r
+  pub f : t .f ≡ floats-of H s
+  pub rm : t .rm ≡ s .rm
+  pub mem : Same (Frame-at H s bottom) (t .mem) (s .mem)
