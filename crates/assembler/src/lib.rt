@@ -113,7 +113,8 @@ fn counts(n: usize) -> usize
     if n < 65536 { n } else { 65536 }
 }
 
-fn is_sound(n: usize, asm: Asm) -> bool
+// Whether the record is one that orders make, over a buffer of n bytes.
+pub fn is_sound(n: usize, asm: Asm) -> bool
     ensures { λ r. ⌜ (r ≡ sound n asm) × (r ≡ true → (asm .len ≤ n) × (asm .len ≤ 65536) × (asm .jumps ≤ 4096)) ⌝ }
 {
     let len = asm.len;
@@ -179,6 +180,20 @@ fn put_word(buf: &mut [u8], at: usize, w: u32)
     buf[at + 1] = (w / 256 % 256) as u8;
     buf[at + 2] = (w / 65536 % 256) as u8;
     buf[at + 3] = (w / 16777216 % 256) as u8;
+}
+
+// A word at `at`, if the buffer goes so far.
+pub fn write_word(buf: &mut [u8], at: usize, w: u32)
+    ensures { λ _. ⌜ now (buf .exit) ≡ cond (leb (at + 4) (length (now (buf .entry)))) (written (now (buf .entry)) at (w ∷ [])) (now (buf .entry)) ⌝ }
+{
+    let n = buf.len();
+    if n < 4 {
+        return;
+    }
+    if n - 4 < at {
+        return;
+    }
+    put_word(buf, at, w);
 }
 
 // The low word first.

@@ -1,0 +1,5 @@
+pub mod First
+pub mod Near
+pub mod Wrong
+pub mod Patched
+pub mod Ends

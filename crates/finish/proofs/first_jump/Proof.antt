@@ -1,0 +1,123 @@
+use native.Mathlib.Omega.{arith}
+use mathlib.Core.Path.{_≡_, sym, ap, _∙_}
+use borrow.Author.Tests.{eq-eqb, ne-eqb}
+use borrow.Author.Needs.{needs}
+use denote.Ref.{now}
+use Prim.Native.Nat.{ℕ, _+_, _-_, _≤_}
+use native.Mathlib.Nat.{zero-add}
+use mathlib.Core.Bool.{Bool}
+use mathlib.Core.List.{List}
+use lib.Dec.{eqb}
+use Rattle.assembler.specs.Memory.{jump-at}
+use Rattle.finish.specs.Finish.{first, jump-number}
+use Rattle.finish.proofs.First.{first-here, first-later, first-end}
+use Rattle.finish.proofs.first_jump.Statement.{statement}
+use Rattle.finish.proofs.first_jump.Tie as tie
+
+abbrev test : ℕ → List ℕ → ℕ → List ℕ → ℕ → Bool
+test want labels len jumps i = eqb (jump-number labels len (jump-at jumps i)) want
+
+abbrev Inv-loop : tie.InvT-loop
+Inv-loop want labels jumps n len i₀ i = (i ≤ n) × (first (test want labels len jumps) 0 n ≡ i + first (test want labels len jumps) i (n - i))
+
+abbrev μ-loop : tie.MeasureT-loop
+μ-loop want labels jumps n len i₀ i = n - i
+
+loop-holds : tie.Need-loop-holds Inv-loop μ-loop
+loop-holds c =
+    let a = c .args in
+    let d : a .n ≡ a .n - 0 = omega arith in
+    (omega arith, ap (first (test (a .want) (now (a .labels)) (a .len) (now (a .jumps))) 0) d ∙ sym (zero-add _))
+
+mul-b : tie.Need-mul-b Inv-loop μ-loop
+mul-b c = search needs
+
+mul-status : tie.Need-mul-status Inv-loop μ-loop
+mul-status c = search needs
+
+element-copy-out-status : tie.Need-element-copy-out-status Inv-loop μ-loop
+element-copy-out-status c = search needs
+
+add-status : tie.Need-add-status Inv-loop μ-loop
+add-status c = search needs
+
+mul-status-2 : tie.Need-mul-status-2 Inv-loop μ-loop
+mul-status-2 c = search needs
+
+element-copy-out-status-2 : tie.Need-element-copy-out-status-2 Inv-loop μ-loop
+element-copy-out-status-2 c = search needs
+
+add-status-2 : tie.Need-add-status-2 Inv-loop μ-loop
+add-status-2 c = search needs
+
+mul-status-3 : tie.Need-mul-status-3 Inv-loop μ-loop
+mul-status-3 c = search needs
+
+element-copy-out-status-3 : tie.Need-element-copy-out-status-3 Inv-loop μ-loop
+element-copy-out-status-3 c = search needs
+
+add-status-3 : tie.Need-add-status-3 Inv-loop μ-loop
+add-status-3 c = search needs
+
+mul-status-4 : tie.Need-mul-status-4 Inv-loop μ-loop
+mul-status-4 c = search needs
+
+element-copy-out-status-4 : tie.Need-element-copy-out-status-4 Inv-loop μ-loop
+element-copy-out-status-4 c = search needs
+
+status-requires : tie.Need-status-requires Inv-loop μ-loop
+status-requires c κs =
+    (c .before .before .before .before .before .before .pre .1, c .before .before .before .before .before .before .pre .2)
+
+returns : tie.Need-returns Inv-loop μ-loop
+returns c =
+    let l = c .before .before .before .before .before .before .before in
+    let a = l .before .args in
+    let e = first-here (test (a .want) (now (a .labels)) (a .len) (now (a .jumps))) (l .loop .i) (a .n) (c .before .before .before .before .before .before .loop-test .taken) (ap (λ (x : ℕ). eqb x (a .want)) (sym (c .before .status .ensures)) ∙ eq-eqb _ _ (c .if1 .taken)) in
+    (omega (arith, e, l .loop .inv .1), omega arith)
+
+add-i : tie.Need-add-i Inv-loop μ-loop
+add-i c = search needs
+
+loop-less : tie.Need-loop-less Inv-loop μ-loop
+loop-less c = search needs
+
+loop-again : tie.Need-loop-again Inv-loop μ-loop
+loop-again c =
+    let l = c .before .before .before .before .before .before .before in
+    let a = l .before .args in
+    let e = first-later (test (a .want) (now (a .labels)) (a .len) (now (a .jumps))) (l .loop .i) (a .n) (c .before .before .before .before .before .before .loop-test .taken) (ap (λ (x : ℕ). eqb x (a .want)) (sym (c .before .status .ensures)) ∙ ne-eqb _ _ (c .if1 .left)) in
+    (omega arith, omega (arith, e, l .loop .inv .1))
+
+returns-2 : tie.Need-returns-2 Inv-loop μ-loop
+returns-2 c =
+    let l = c .before in
+    let a = l .before .args in
+    let e = first-end (test (a .want) (now (a .labels)) (a .len) (now (a .jumps))) (l .loop .i) (a .n) (c .loop-test .left) in
+    (omega (arith, e, l .loop .inv .1), omega arith)
+
+pub first-jump-spec : {M : Type 1} → statement M
+first-jump-spec =
+    tie.close
+    (tie.spec
+    Inv-loop
+    μ-loop
+    loop-holds
+    mul-b
+    mul-status
+    element-copy-out-status
+    add-status
+    mul-status-2
+    element-copy-out-status-2
+    add-status-2
+    mul-status-3
+    element-copy-out-status-3
+    add-status-3
+    mul-status-4
+    element-copy-out-status-4
+    status-requires
+    returns
+    add-i
+    loop-less
+    loop-again
+    returns-2)

@@ -1,0 +1,102 @@
+use native.Mathlib.Omega.{arith}
+use mathlib.Core.Path.{ap, _∙_}
+use lib.IntN.{ℤ, pos}
+use Prim.Native.Nat.{ℕ, _+_}
+use borrow.Author.Needs.{needs}
+use Rattle.isa.specs.Immediate.{hi, lo}
+use Rattle.isa.specs.Instr.{U, I, B, AUIPC, LD, JALR, FLD, BEQ, BNE}
+use Rattle.encoder.specs.Answer.{encoded}
+use Rattle.finish.proofs.Near.{hi-kept, lo-kept, offset-kept, last-kind}
+use Rattle.finish.proofs.jump_encoded.Statement.{statement}
+use Rattle.finish.proofs.jump_encoded.Tie as tie
+
+twos-of-requires : tie.Need-twos-of-requires
+twos-of-requires c κs = search needs
+
+hi-requires : tie.Need-hi-requires
+hi-requires c κs = search needs
+
+auipc-requires : tie.Need-auipc-requires
+auipc-requires c κs = search needs
+
+returns : tie.Need-returns
+returns c =
+    rw (c .before .before .if1 .taken) (c .auipc .ensures
+    ∙ ap (λ (z : ℤ). encoded (U AUIPC 5 z)) (hi-kept _ _ (c .before .hi .ensures) ∙ ap (λ (u : ℕ). pos (hi u)) (c .before .before .before .twos-of .ensures)))
+
+second-requires : tie.Need-second-requires
+second-requires c κs = search needs
+
+ld-requires : tie.Need-ld-requires
+ld-requires c κs = search needs
+
+returns-2 : tie.Need-returns-2
+returns-2 c =
+    rw (c .before .before .if2 .taken) (c .ld .ensures
+    ∙ ap (λ (z : ℤ). encoded (I LD (c .before .before .before .before .before .args .r) 5 z)) (lo-kept (c .before .before .before .before .twos-of .result + 4) _ (c .before .second .ensures) ∙ ap (λ (u : ℕ). lo (u + 4)) (c .before .before .before .before .twos-of .ensures)))
+
+second-requires-2 : tie.Need-second-requires-2
+second-requires-2 c κs = search needs
+
+jalr-requires : tie.Need-jalr-requires
+jalr-requires c κs = search needs
+
+returns-3 : tie.Need-returns-3
+returns-3 c =
+    rw (c .before .before .if3 .taken) (c .jalr .ensures
+    ∙ ap (λ (z : ℤ). encoded (I JALR (c .before .before .before .before .before .before .args .r) 5 z)) (lo-kept (c .before .before .before .before .before .twos-of .result + 4) _ (c .before .second2 .ensures) ∙ ap (λ (u : ℕ). lo (u + 4)) (c .before .before .before .before .before .twos-of .ensures)))
+
+second-requires-3 : tie.Need-second-requires-3
+second-requires-3 c κs = search needs
+
+fld-requires : tie.Need-fld-requires
+fld-requires c κs = search needs
+
+returns-4 : tie.Need-returns-4
+returns-4 c =
+    rw (c .before .before .if4 .taken) (c .fld .ensures
+    ∙ ap (λ (z : ℤ). encoded (I FLD (c .before .before .before .before .before .before .before .args .r) 5 z)) (lo-kept (c .before .before .before .before .before .before .twos-of .result + 4) _ (c .before .second3 .ensures) ∙ ap (λ (u : ℕ). lo (u + 4)) (c .before .before .before .before .before .before .twos-of .ensures)))
+
+offset-of-requires : tie.Need-offset-of-requires
+offset-of-requires c κs = search needs
+
+beq-requires : tie.Need-beq-requires
+beq-requires c κs = search needs
+
+returns-5 : tie.Need-returns-5
+returns-5 c =
+    let a = c .before .before .before .before .before .before .before .before .args in
+    rw (c .before .if5 .taken) (c .beq .ensures
+    ∙ ap (λ (z : ℤ). encoded (B BEQ 18 0 z)) (offset-kept (a .a) (a .b) _ (omega arith) (omega arith) (c .before .before .offset-of .ensures)))
+
+bne-requires : tie.Need-bne-requires
+bne-requires c κs = search needs
+
+returns-6 : tie.Need-returns-6
+returns-6 c =
+    let a = c .before .before .before .before .before .before .before .before .args in
+    rw (last-kind (a .k) (c .before .before .before .before .before .before .if1 .left) (c .before .before .before .before .before .if2 .left) (c .before .before .before .before .if3 .left) (c .before .before .before .if4 .left) (c .before .if5 .left)) (c .bne .ensures
+    ∙ ap (λ (z : ℤ). encoded (B BNE 7 0 z)) (offset-kept (a .a) (a .b) _ (omega arith) (omega arith) (c .before .before .offset-of .ensures)))
+
+pub jump-encoded-spec : {M : Type 1} → statement M
+jump-encoded-spec =
+    tie.close
+    (tie.spec
+    twos-of-requires
+    hi-requires
+    auipc-requires
+    returns
+    second-requires
+    ld-requires
+    returns-2
+    second-requires-2
+    jalr-requires
+    returns-3
+    second-requires-3
+    fld-requires
+    returns-4
+    offset-of-requires
+    beq-requires
+    returns-5
+    bne-requires
+    returns-6)

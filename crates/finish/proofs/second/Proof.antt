@@ -1,0 +1,20 @@
+use Prim.Native.Nat.{_+_, _%_}
+use mathlib.Core.Path.{_∙_}
+use borrow.Author.Needs.{needs}
+use Rattle.finish.proofs.Near.{lo-kept, low-part}
+use Rattle.finish.proofs.second.Statement.{statement}
+use Rattle.finish.proofs.second.Tie as tie
+
+add-lo : tie.Need-add-lo
+add-lo c = search needs
+
+lo-requires : tie.Need-lo-requires
+lo-requires c κs = search needs
+
+returns : tie.Need-returns
+returns c =
+    let u = c .before .args .u in
+    lo-kept (u % 4096 + 4) _ (c .lo .ensures) ∙ low-part u
+
+pub second-spec : {M : Type 1} → statement M
+second-spec = tie.close (tie.spec add-lo lo-requires returns)

@@ -1,0 +1,94 @@
+use native.Mathlib.Omega.{arith}
+use mathlib.Core.Path.{sym, ap, _∙_}
+use borrow.Author.Tests.{lt-ltb, le-ltb, le-leb, lt-leb, eq-eqb, ne-eqb}
+use denote.Ref.{now}
+use mathlib.Core.Bool.{Bool, cond}
+use lib.ListN.{getD}
+use borrow.Author.Needs.{needs}
+use Rattle.finish.specs.Finish.{jump-number}
+use Rattle.finish.proofs.Wrong.{at-first, place-small, good-jump, wrong-unset, wrong-far}
+use Rattle.finish.proofs.status.Statement.{statement}
+use Rattle.finish.proofs.status.Tie as tie
+
+add-if1 : tie.Need-add-if1
+add-if1 c = search needs
+
+returns : tie.Need-returns
+unfolding jump-number
+returns c = simp (lt-leb _ _ (c .if1 .taken))
+
+returns-2 : tie.Need-returns-2
+unfolding jump-number
+returns-2 c = simp (le-leb _ _ (c .before .if1 .left), ne-eqb _ _ (c .if2 .taken))
+
+returns-3 : tie.Need-returns-3
+unfolding jump-number
+returns-3 c = simp (le-leb _ _ (c .before .before .if1 .left), eq-eqb _ _ (c .before .if2 .left), le-ltb _ _ (c .if3 .taken))
+
+returns-4 : tie.Need-returns-4
+unfolding jump-number
+returns-4 c = simp (le-leb _ _ (c .before .before .before .if1 .left), eq-eqb _ _ (c .before .before .if2 .left), lt-ltb _ _ (c .before .if3 .left), le-ltb _ _ (c .if4 .taken))
+
+returns-5 : tie.Need-returns-5
+unfolding jump-number
+returns-5 c = simp (le-leb _ _ (c .before .before .before .before .if1 .left), eq-eqb _ _ (c .before .before .before .if2 .left), lt-ltb _ _ (c .before .before .if3 .left), lt-ltb _ _ (c .before .if4 .left), le-ltb _ _ (c .if5 .taken))
+
+mul-label-place : tie.Need-mul-label-place
+mul-label-place c = search needs
+
+element-copy-out-label-place : tie.Need-element-copy-out-label-place
+element-copy-out-label-place c = search needs
+
+label-place-requires : tie.Need-label-place-requires
+label-place-requires c κs = search needs
+
+mul-is-unset : tie.Need-mul-is-unset
+mul-is-unset c = search needs
+
+element-copy-out-is-unset : tie.Need-element-copy-out-is-unset
+element-copy-out-is-unset c = search needs
+
+is-unset-requires : tie.Need-is-unset-requires
+is-unset-requires c κs = search needs
+
+returns-6 : tie.Need-returns-6
+returns-6 c =
+    let a = c .before .before .before .before .before .before .before .before .before .before .args in
+    wrong-unset (now (a .labels)) (a .len) _ (good-jump (a .len) _ (c .before .before .before .before .before .before .before .before .before .if1 .left) (c .before .before .before .before .before .before .before .before .if2 .left) (c .before .before .before .before .before .before .before .if3 .left) (c .before .before .before .before .before .before .if4 .left) (c .before .before .before .before .before .if5 .left)) (sym (c .before .is-unset .ensures) ∙ c .if6 .taken)
+
+reaches-requires : tie.Need-reaches-requires
+reaches-requires c κs =
+    let a = c .before .before .before .before .before .before .before .before .before .before .args in
+    let p = place-small (a .len) (getD (now (a .labels)) (a .l) 0) (at-first (a .len) (now (a .labels)) (c .before .before .before .before .before .before .before .before .before .before .pre .1) (a .l) (c .before .before .before .before .before .before .if4 .left)) in
+    (omega (arith, p, c .before .before .before .label-place .ensures), omega arith)
+
+returns-7 : tie.Need-returns-7
+returns-7 c =
+    let a = c .before .before .before .before .before .before .before .before .before .before .before .before .args in
+    ap (λ (t : Bool). cond t 0 6) (sym (c .if7 .taken)) ∙ wrong-far (now (a .labels)) (a .len) _ (good-jump (a .len) _ (c .before .before .before .before .before .before .before .before .before .before .before .if1 .left) (c .before .before .before .before .before .before .before .before .before .before .if2 .left) (c .before .before .before .before .before .before .before .before .before .if3 .left) (c .before .before .before .before .before .before .before .before .if4 .left) (c .before .before .before .before .before .before .before .if5 .left)) (sym (c .before .before .before .is-unset .ensures) ∙ c .before .before .if6 .left) (c .before .before .before .before .before .before .before .if5 .left) (c .before .before .before .before .before .before .before .before .before .if3 .left) _ _ (c .before .before .before .before .before .label-place .ensures) (c .before .reaches .ensures)
+
+returns-8 : tie.Need-returns-8
+returns-8 c =
+    let a = c .before .before .before .before .before .before .before .before .before .before .before .before .args in
+    ap (λ (t : Bool). cond t 0 6) (sym (c .if7 .left)) ∙ wrong-far (now (a .labels)) (a .len) _ (good-jump (a .len) _ (c .before .before .before .before .before .before .before .before .before .before .before .if1 .left) (c .before .before .before .before .before .before .before .before .before .before .if2 .left) (c .before .before .before .before .before .before .before .before .before .if3 .left) (c .before .before .before .before .before .before .before .before .if4 .left) (c .before .before .before .before .before .before .before .if5 .left)) (sym (c .before .before .before .is-unset .ensures) ∙ c .before .before .if6 .left) (c .before .before .before .before .before .before .before .if5 .left) (c .before .before .before .before .before .before .before .before .before .if3 .left) _ _ (c .before .before .before .before .before .label-place .ensures) (c .before .reaches .ensures)
+
+pub status-spec : {M : Type 1} → statement M
+status-spec =
+    tie.close
+    (tie.spec
+    add-if1
+    returns
+    returns-2
+    returns-3
+    returns-4
+    returns-5
+    mul-label-place
+    element-copy-out-label-place
+    label-place-requires
+    mul-is-unset
+    element-copy-out-is-unset
+    is-unset-requires
+    returns-6
+    reaches-requires
+    returns-7
+    returns-8)

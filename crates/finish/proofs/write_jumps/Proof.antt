@@ -1,0 +1,152 @@
+use native.Mathlib.Omega.{arith}
+use mathlib.Core.Path.{_≡_, refl, sym, ap, _∙_}
+use borrow.Author.Needs.{needs}
+use denote.Ref.{now}
+use Prim.Native.Nat.{ℕ, _-_, _≤_, _<_}
+use lib.ListN.{length, getD}
+use Rattle.assembler.specs.Memory.{jump-at, jumps-of}
+use Rattle.assembler.proofs.Writes.{length-written}
+use Rattle.finish.specs.Finish.{patched}
+use Rattle.finish.proofs.Wrong.{Right, right, at-first, place-small}
+use Rattle.finish.proofs.Patched.{patched-step, patched-end, one-word}
+use Rattle.finish.proofs.write_jumps.Statement.{statement}
+use Rattle.finish.proofs.write_jumps.Tie as tie
+
+abbrev Inv-loop : tie.InvT-loop
+Inv-loop buf₀ labels jumps n len i₀ buf i = (i ≤ n) × (length buf ≡ length buf₀) × (patched labels buf₀ (jumps-of jumps 0 n) ≡ patched labels buf (jumps-of jumps i (n - i)))
+
+abbrev μ-loop : tie.MeasureT-loop
+μ-loop buf₀ labels jumps n len i₀ buf i = n - i
+
+fine : (l : tie.At-loop Inv-loop μ-loop) → l .loop .i < l .before .before .args .n → Right (now (l .before .before .args .labels)) (l .before .before .args .len) (jump-at (now (l .before .before .args .jumps)) (l .loop .i))
+fine l h = right _ _ _ (l .before .before .pre .4 (l .loop .i) h)
+
+loop-holds : tie.Need-loop-holds Inv-loop μ-loop
+loop-holds c =
+    let a = c .before .args in
+    let d : a .n ≡ a .n - 0 = omega arith in
+    (omega arith, refl, ap (λ (z : ℕ). patched (now (a .labels)) (now (a .buf)) (jumps-of (now (a .jumps)) 0 z)) d)
+
+mul-b : tie.Need-mul-b Inv-loop μ-loop
+mul-b c = search needs
+
+mul-p : tie.Need-mul-p Inv-loop μ-loop
+mul-p c = search needs
+
+element-copy-out-p : tie.Need-element-copy-out-p Inv-loop μ-loop
+element-copy-out-p c = search needs
+
+add-size : tie.Need-add-size Inv-loop μ-loop
+add-size c = search needs
+
+mul-size : tie.Need-mul-size Inv-loop μ-loop
+mul-size c = search needs
+
+element-copy-out-size : tie.Need-element-copy-out-size Inv-loop μ-loop
+element-copy-out-size c = search needs
+
+size-requires : tie.Need-size-requires Inv-loop μ-loop
+size-requires c κs = search needs
+
+mul-label-place : tie.Need-mul-label-place Inv-loop μ-loop
+mul-label-place c =
+    let r = fine (c .before .before .before .before) (c .before .before .before .loop-test .taken) in
+    omega (arith, r .label, c .size .ensures)
+
+element-copy-out-label-place : tie.Need-element-copy-out-label-place Inv-loop μ-loop
+element-copy-out-label-place c =
+    let r = fine (c .before .before .before .before) (c .before .before .before .loop-test .taken) in
+    omega (arith, r .label, c .size .ensures)
+
+label-place-requires : tie.Need-label-place-requires Inv-loop μ-loop
+label-place-requires c κs = search needs
+
+add-word : tie.Need-add-word Inv-loop μ-loop
+add-word c = search needs
+
+mul-word : tie.Need-mul-word Inv-loop μ-loop
+mul-word c = search needs
+
+element-copy-out-word : tie.Need-element-copy-out-word Inv-loop μ-loop
+element-copy-out-word c = search needs
+
+add-word-2 : tie.Need-add-word-2 Inv-loop μ-loop
+add-word-2 c = search needs
+
+mul-word-2 : tie.Need-mul-word-2 Inv-loop μ-loop
+mul-word-2 c = search needs
+
+element-copy-out-word-2 : tie.Need-element-copy-out-word-2 Inv-loop μ-loop
+element-copy-out-word-2 c = search needs
+
+word-requires : tie.Need-word-requires Inv-loop μ-loop
+word-requires c κs =
+    let l = c .before .before .before .before .before .before .before .before in
+    let a = l .before .before .args in
+    let r = fine l (c .before .before .before .before .before .before .before .loop-test .taken) in
+    let p = place-small (a .len) (getD (now (a .labels)) (c .before .before .before .before .size .result) 0) (at-first (a .len) (now (a .labels)) (l .before .before .pre .3) (c .before .before .before .before .size .result) (omega (arith, r .label, c .before .before .before .before .size .ensures))) in
+    (omega (arith, p, c .before .before .label-place .ensures), omega (arith, r .inside))
+
+size-requires-2 : tie.Need-size-requires-2 Inv-loop μ-loop
+size-requires-2 c κs = search needs
+
+write-word-requires : tie.Need-write-word-requires Inv-loop μ-loop
+write-word-requires c κs = search needs
+
+add-i : tie.Need-add-i Inv-loop μ-loop
+add-i c = search needs
+
+loop-less : tie.Need-loop-less Inv-loop μ-loop
+loop-less c = search needs
+
+loop-again : tie.Need-loop-again Inv-loop μ-loop
+loop-again c =
+    let l = c .before .before .before .before .before .before .before .before .before .before .before .before .before .before in
+    let a = l .before .before .args in
+    let j = jump-at (now (a .jumps)) (l .loop .i) in
+    let e = one-word (now (a .labels)) (l .loop .buf) (a .len) j (fine l (c .before .before .before .before .before .before .before .before .before .before .before .before .before .loop-test .taken)) (omega (arith, l .loop .inv .1)) (c .before .before .before .before .before .before .before .before .before .before .size .result) (c .before .before .before .before .before .before .before .before .label-place .result) (c .before .before .before .before .before .word .result) (c .before .before .before .before .size2 .result) _ (c .before .before .before .before .before .before .before .before .before .before .size .ensures) (c .before .before .before .before .before .before .before .before .label-place .ensures) (c .before .before .before .before .before .word .ensures) (c .before .before .before .before .size2 .ensures) (c .before .before .write-word .ensures) in (
+      omega arith,
+      ap length e ∙ length-written _ _ _ ∙ l .loop .inv .1,
+      l .loop .inv .2 ∙ patched-step (now (a .labels)) (l .loop .buf) (now (a .jumps)) (l .loop .i) (a .n) (c .before .before .before .before .before .before .before .before .before .before .before .before .before .loop-test .taken) ∙ rw (← e),
+    )
+
+same-length : tie.Need-same-length Inv-loop μ-loop
+same-length c = c .before .loop .inv .1
+
+returns : tie.Need-returns Inv-loop μ-loop
+returns c =
+    let l = c .before in
+    let a = l .before .before .args in
+    sym (l .loop .inv .2 ∙ patched-end (now (a .labels)) (l .loop .buf) (now (a .jumps)) (l .loop .i) (a .n) (c .loop-test .left))
+
+pub write-jumps-spec : {M : Type 1} → statement M
+write-jumps-spec =
+    tie.close
+    (tie.spec
+    Inv-loop
+    μ-loop
+    loop-holds
+    mul-b
+    mul-p
+    element-copy-out-p
+    add-size
+    mul-size
+    element-copy-out-size
+    size-requires
+    mul-label-place
+    element-copy-out-label-place
+    label-place-requires
+    add-word
+    mul-word
+    element-copy-out-word
+    add-word-2
+    mul-word-2
+    element-copy-out-word-2
+    word-requires
+    size-requires-2
+    write-word-requires
+    add-i
+    loop-less
+    loop-again
+    same-length
+    returns)
