@@ -1,17 +1,18 @@
 -- Laws of items one behind another: their bytes, their words, and where they set labels. Assumes nothing.
-use mathlib.Core.Path.{_≡_, refl, ap, _∙_}
+use mathlib.Core.Path.{_≡_, refl, ap, subst, _∙_}
 use mathlib.Core.Bool.{Bool, true, false, cond}
 use mathlib.Core.List.{List, [], _∷_, _++_, map}
-use mathlib.Core.Option.{Option, some, none}
+use mathlib.Core.Option.{Option, some, none, Option·getD}
 use Prim.Native.Nat.{ℕ, suc, _+_, _*_, _%_, _≤_, _<_}
 use native.Mathlib.Nat.{add-assoc, add-zero}
 use native.Mathlib.Omega.{arith}
-use borrow.Author.Tests.{eqb-true, ne-eqb}
+use borrow.Author.Tests.{eq-eqb, ne-eqb}
 use lib.Dec.{eqb}
 use lib.ListN.{length, length-append}
 use Rattle.isa.specs.Instr.{Instr}
 use Rattle.assembler.specs.Item.{Item, instr, raw, jump, label}
 use Rattle.assembler.specs.Resolved.{resolved, label-place}
+use Rattle.frames.proofs.Walk.{Stands}
 use Rattle.call.specs.Layout.{span}
 
 pub span-append : (xs ys : List Item) → span (xs ++ ys) ≡ span xs + span ys
@@ -101,6 +102,48 @@ module _ (l : ℕ) where
       by : (b : Bool) → (label-place l h xs ≡ some a → (h ≤ a) × (a ≤ h + span xs) × (a % 4 ≡ h % 4)) → cond b (some h) (label-place l h xs) ≡ some a → (h ≤ a) × (a ≤ h + span xs) × (a % 4 ≡ h % 4)
       by true f q = let z : h ≡ a = cc in omega arith
       by false f q = f q
+
+-- ---- labels that are set once
+
+-- each label has K, and none is set twice
+abbrev pub Fresh : List Item → (ℕ → Type 0) → Type 0
+Fresh [] K = Unit {0}
+Fresh (instr i ∷ xs) K = Fresh xs K
+Fresh (raw w ∷ xs) K = Fresh xs K
+Fresh (jump k m r ∷ xs) K = Fresh xs K
+Fresh (label m ∷ xs) K = K m × Fresh xs (λ l. K l × (m ≡ l → ⊥))
+
+pub fresh-instrs : (is : List Instr) (ys : List Item) (K : ℕ → Type 0) → Fresh ys K → Fresh (map instr is ++ ys) K
+fresh-instrs [] ys K f = f
+fresh-instrs (i ∷ is) ys K f = fresh-instrs is ys K f
+
+pub fresh-then : (xs : List Item) (is : List Instr) (K : ℕ → Type 0) → Fresh xs K → Fresh (xs ++ map instr is) K
+fresh-then [] [] K f = tt
+fresh-then [] (i ∷ is) K f = fresh-then [] is K f
+fresh-then (instr i ∷ xs) is K f = fresh-then xs is K f
+fresh-then (raw w ∷ xs) is K f = fresh-then xs is K f
+fresh-then (jump k m r ∷ xs) is K f = fresh-then xs is K f
+fresh-then (label m ∷ xs) is K f = (f .0, fresh-then xs is (λ l. K l × (m ≡ l → ⊥)) (f .1))
+
+-- a label without K isn't set
+pub fresh-unset : (l : ℕ) (xs : List Item) (K : ℕ → Type 0) → Fresh xs K → (K l → ⊥) → Unset l xs
+fresh-unset l [] K f n = tt
+fresh-unset l (instr i ∷ xs) K f n = fresh-unset l xs K f n
+fresh-unset l (raw w ∷ xs) K f n = fresh-unset l xs K f n
+fresh-unset l (jump k m r ∷ xs) K f n = fresh-unset l xs K f n
+fresh-unset l (label m ∷ xs) K f n = (λ e. n (subst K e (f .0)), fresh-unset l xs (λ k. K k × (m ≡ k → ⊥)) (f .1) (λ v. n (v .0)))
+
+-- where `at` has each label as it is found from `here` on, the items stand as `at` says
+pub stands-of : (at : ℕ → ℕ) (h : ℕ) (xs ys : List Item) (K : ℕ → Type 0) → Fresh xs K → ((l : ℕ) → K l → at l ≡ Option·getD (label-place l h (xs ++ ys)) 0) → Stands at h xs
+unfolding label-place
+stands-of at h [] ys K f e = tt
+stands-of at h (instr i ∷ xs) ys K f e = stands-of at (h + 4) xs ys K f e
+stands-of at h (raw w ∷ xs) ys K f e = stands-of at (h + 4) xs ys K f e
+stands-of at h (jump k m r ∷ xs) ys K f e = stands-of at (h + 4) xs ys K f e
+stands-of at h (label m ∷ xs) ys K f e = (
+  rw (eq-eqb m m refl) at (e m (f .0)),
+  stands-of at h xs ys (λ l. K l × (m ≡ l → ⊥)) (f .1) (λ l v. rw (ne-eqb m l (v .1)) at (e l (v .0))),
+)
 
 -- ---- a word behind every label
 

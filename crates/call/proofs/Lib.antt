@@ -1,4 +1,5 @@
 pub mod Items
+pub mod Labels
 pub mod Placing
 pub mod Whole
 pub mod Cells
@@ -6,3 +7,5 @@ pub mod Means
 pub mod Follow
 pub mod Forth
 pub mod Saved
+pub mod Lies
+pub mod Entered

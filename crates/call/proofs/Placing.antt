@@ -7,29 +7,20 @@ use Prim.Native.Nat.{ℕ, zero, suc, _+_, _*_, _/_, _%_, _^_, _≤_, _<_}
 use native.Mathlib.Nat.{add-assoc, add-zero}
 use native.Mathlib.Omega.{arith}
 use borrow.Author.Tests.{eq-eqb, ne-eqb, eqb-false}
-use lib.Dec.{eqb, leb}
+use lib.Dec.{eqb}
 use lib.ListN.{length, getD, getElem?, take}
 use Rattle.machine.specs.Word.{w64, load8}
 use Rattle.machine.specs.Step.{CodeAt}
 use Rattle.machine.proofs.Memory.{wrap-l, load8-wrap}
 use Rattle.machine.proofs.Placed.{code-left, code-right, code-eight}
-use Rattle.order.specs.declared.Frame.{Frame}
-use Rattle.order.specs.declared.Frame.the-variants.{Fast, Indirect}
-use Rattle.order.specs.declared.Head.{Head}
 use Rattle.order.specs.declared.Order.{Order}
 use Rattle.order.specs.declared.Order.the-variants.{Unary, Scratched, Binary, Fused, Ifelse, LoadConst, Load, Save, BranchIf, SetLabel}
-use lib.IntN.{pos, negsuc}
-use Rattle.isa.specs.Instr.{Instr, R, I, Shift, ADD, ADDI, FLD, SLLI}
 use Rattle.assembler.specs.Item.{Item, instr, raw, jump, label}
-use Rattle.assembler.specs.declared.Kind.the-variants.{Bne}
 use Rattle.assembler.specs.Resolved.{resolved, label-place}
 use Rattle.assembler.specs.Constant.{constant-label, quad}
 use Rattle.reading.specs.Line.{Line, order, constant}
-use Rattle.accesses.specs.Code.{li-code, sub-stack-code, allocate-stack-code, load-int-code, load-float-code, save-float-code}
+use Rattle.accesses.specs.Code.{load-int-code, load-float-code, save-float-code}
 use Rattle.orders.specs.Code.{base, unary-code, scratched-code, binary-code, choose-code, code, line-code}
-use Rattle.frames.specs.Items.{code as instrs, mv, opening, closing, times-over, states-from, state-copy, obs-copy, at-pro, at-epi, save, reload, by-frame, repeated, prologue, prologue-fast, prologue-indirect, epilogue, epilogue-fast, epilogue-indirect, saves, reloads}
-use Rattle.frames.specs.Size.{frame-size, stack-size}
-use Rattle.frames.specs.Mask.{saved}
 use Rattle.call.specs.Program.{sets, here-or, label-line}
 use Rattle.call.specs.Layout.{span, body, constants-from}
 use Rattle.call.proofs.Items.{span-append, resolved-append, resolved-length, Unset, unset-append, unset-instrs, past, found}
@@ -151,58 +142,8 @@ constant-value m at a h j (suc k) (b ∷ bs) l c =
     let y : a + 8 * suc k ≡ a + 8 + 8 * k = omega arith in
     rw y (constant-value m at (a + 8) (h + 4 + 4) (suc j) k bs (omega arith) (rw z at (c .1 .1)))
 
--- ---- the frames set none of users' labels, nor constants'
+-- ---- lines set no label but those they name
 
-module _ (l : ℕ) (low : l < 2032) where
-  repeated-unset : (n : ℕ) (is js : List Instr) (k : ℕ) → 2032 ≤ k → Unset l (repeated n is js k)
-  unfolding repeated
-  repeated-unset n is js k g = by (eqb n 0) (leb n 16)
-    where
-      by : (s t : Bool) → Unset l (cond s [] (cond t (instrs (is ++ times-over n js)) (instrs (is ++ li-code 7 (pos n)) ++ (label k ∷ (instrs (js ++ (I ADDI 7 7 (negsuc 0) ∷ [])) ++ (jump Bne k 0 ∷ []))))))
-      by true t = tt
-      by false true = unset-instrs l (is ++ times-over n js)
-      by false false =
-          unset-append l (instrs (is ++ li-code 7 (pos n))) _ (unset-instrs l (is ++ li-code 7 (pos n)))
-          (λ q. omega arith, unset-append l (instrs (js ++ (I ADDI 7 7 (negsuc 0) ∷ []))) _ (unset-instrs l (js ++ (I ADDI 7 7 (negsuc 0) ∷ []))) tt)
-
-  instrs-then : (is : List Instr) (ys : List Item) → Unset l ys → Unset l (instrs is ++ ys)
-  instrs-then is ys u = unset-append l (instrs is) ys (unset-instrs l is) u
-
-  pub prologue-unset : (H : Head) → Unset l (prologue H)
-  unfolding prologue
-  prologue-unset H = by (H .frame)
-    where
-      by : (F : Frame) → Unset l (by-frame F (prologue-fast H) (prologue-indirect H))
-      by Fast =
-          unset-instrs l (opening Fast ++ (sub-stack-code (frame-size H) ++ (mv 9 2 ∷ (sub-stack-code (stack-size H) ++ (mv 21 2 ∷ states-from 0 (H .states))))))
-      by Indirect = (
-        λ q. omega arith,
-        instrs-then (opening Indirect ++ (mv 9 10 ∷ mv 18 11 ∷ mv 19 12 ∷ mv 20 13 ∷ [])) _
-            (instrs-then (sub-stack-code (frame-size H) ++ (mv 9 2 ∷ Shift SLLI 19 19 (pos 3) ∷ [])) _
-            (unset-append l (repeated (H .states) (mv 6 9 ∷ []) state-copy at-pro) _ (repeated-unset (H .states) (mv 6 9 ∷ []) state-copy at-pro (omega arith))
-            (λ q. omega arith, unset-instrs l (allocate-stack-code (stack-size H))))),
-      )
-
-  pub epilogue-unset : (H : Head) → Unset l (epilogue H)
-  unfolding epilogue
-  epilogue-unset H = by (H .frame)
-    where
-      by : (F : Frame) → Unset l (by-frame F (epilogue-fast H) (epilogue-indirect H))
-      by Fast = unset-instrs l (I FLD 10 9 (pos (8 * H .last)) ∷ closing Fast)
-      by Indirect =
-          unset-append l (repeated (H .obs) (li-code 6 (pos (8 * H .states)) ++ (R ADD 6 6 9 ∷ [])) obs-copy at-epi) _
-          (repeated-unset (H .obs) (li-code 6 (pos (8 * H .states)) ++ (R ADD 6 6 9 ∷ [])) obs-copy at-epi (omega arith))
-          (λ q. omega arith, unset-instrs l (closing Indirect))
-
-  pub saves-unset : (mask : ℕ) → Unset l (saves mask)
-  unfolding saves
-  saves-unset mask = unset-instrs l (map save (saved mask))
-
-  pub reloads-unset : (mask : ℕ) → Unset l (reloads mask)
-  unfolding reloads
-  reloads-unset mask = (λ q. omega arith, (λ q. omega arith, unset-instrs l (map reload (saved mask))))
-
--- nor do lines set a label that none of them names
 pub body-unset : (l : ℕ) (ls : List Line) → ((n k : ℕ) → getElem? ls n ≡ some (order (SetLabel k)) → k ≡ l → ⊥) → Unset l (body ls)
 unfolding body line-code
 body-unset l [] h = tt

@@ -1,7 +1,7 @@
 -- The parts of a routine in memory: its entry, lines, exit and constants, and the places of its labels. Assumes nothing.
 use mathlib.Core.Path.{_≡_, refl, ap, sym, _∙_}
 use mathlib.Core.Bool.{Bool, true, false, cond}
-use mathlib.Core.List.{List, [], _∷_, _++_, append-nil}
+use mathlib.Core.List.{List, [], _∷_, _++_, append-nil, append-assoc}
 use mathlib.Core.Option.{Option, some, none, Option·getD}
 use Prim.Native.Nat.{ℕ, zero, suc, _+_, _*_, _%_, _^_, _≤_, _<_}
 use native.Mathlib.Nat.{add-assoc, add-zero, zero-add}
@@ -32,11 +32,13 @@ use lib.IntN.{pos}
 use Rattle.accesses.specs.Code.{li-code}
 use Rattle.accesses.proofs.Then.{passed}
 use Rattle.frames.specs.Items.{code as instrs, obs-copy, at-epi, at-done, by-frame, repeated, closing, prologue, epilogue, epilogue-fast, epilogue-indirect, saves, reloads}
+use Rattle.frames.proofs.Walk.{Stands}
 use Rattle.call.specs.Program.{Program, constants, sets, label-line}
 use Rattle.call.specs.Layout.{span, body, constants-from, entry, exit, code-items, data-items, items, constants-offset, code-length, place, routine-words, line-offset}
 use Rattle.call.specs.Good.{GoodOrder, Good}
-use Rattle.call.proofs.Items.{span-append, span-four, resolved-append, resolved-length, Unset, unset-append, past, found, within, Worded, worded-append, worded-instrs, before-end}
-use Rattle.call.proofs.Placing.{Labelled, labelled, line-words, next-line, constant-place, constant-value, prologue-unset, epilogue-unset, saves-unset, reloads-unset, body-unset}
+use Rattle.call.proofs.Items.{span-append, span-four, resolved-append, resolved-length, Unset, unset-append, past, found, within, fresh-unset, stands-of, Worded, worded-append, worded-instrs, before-end}
+use Rattle.call.proofs.Labels.{Early, Late, entry-fresh, exit-fresh}
+use Rattle.call.proofs.Placing.{Labelled, labelled, line-words, next-line, constant-place, constant-value, body-unset}
 
 -- ---- code in two parts
 
@@ -125,11 +127,18 @@ module _ (p : Program) where
 
   -- ---- labels
 
-  entry-unset : (l : ℕ) → l < 2032 → Unset l (entry p)
-  entry-unset l h = unset-append l (prologue (p .head)) (saves (p .head .mask)) (prologue-unset l h (p .head)) (saves-unset l h (p .head .mask))
+  entry-unset : (l : ℕ) → (Early l → ⊥) → Unset l (entry p)
+  entry-unset l n = fresh-unset l (entry p) Early (entry-fresh (p .head)) n
 
-  exit-unset : (l : ℕ) → l < 2032 → Unset l (exit p)
-  exit-unset l h = unset-append l (reloads (p .head .mask)) (epilogue (p .head)) (reloads-unset l h (p .head .mask)) (epilogue-unset l h (p .head))
+  exit-unset : (l : ℕ) → (Late l → ⊥) → Unset l (exit p)
+  exit-unset l n = fresh-unset l (exit p) Late (exit-fresh (p .head)) n
+
+  -- the frames' labels are where the items set them
+  pub entry-stands : Stands (place p) 0 (entry p)
+  unfolding place items
+  entry-stands =
+      stands-of (place p) 0 (entry p) ((body (p .lines) ++ exit p) ++ data-items p) Early (entry-fresh (p .head))
+      (λ l v. rw (append-assoc (entry p) (body (p .lines) ++ exit p) (data-items p)))
 
   -- a user's label is at its line
   pub user-place : (l j : ℕ) → l ≤ 1023 → label-line l 0 (p .lines) ≡ some j → place p l ≡ line-offset p j
@@ -140,7 +149,7 @@ module _ (p : Program) where
       at i z r =
           let q =
           found l 0 _ (code-items p) (data-items p)
-          (past l 0 (entry p) (body (p .lines) ++ exit p) (entry-unset l (omega arith)) ∙ found l (0 + span (entry p)) _ (body (p .lines)) (exit p) r)
+          (past l 0 (entry p) (body (p .lines) ++ exit p) (entry-unset l (λ v. omega (arith, v .0))) ∙ found l (0 + span (entry p)) _ (body (p .lines)) (exit p) r)
           in
           rw (q, z) (omega arith)
 
@@ -167,12 +176,20 @@ module _ (p : Program) where
     unfolding place items
     constants-place k h l =
         let u : Unset (constant-label k) (code-items p) =
-        unset-append (constant-label k) (entry p) (body (p .lines) ++ exit p) (entry-unset (constant-label k) (omega arith))
-        (unset-append (constant-label k) (body (p .lines)) (exit p) (body-unset (constant-label k) (p .lines) (λ n j e q. omega (arith, label-low j (g .orders n (SetLabel j) e .fault-free)))) (exit-unset (constant-label k) (omega arith)))
+        unset-append (constant-label k) (entry p) (body (p .lines) ++ exit p) (entry-unset (constant-label k) (λ v. omega (arith, v .0)))
+        (unset-append (constant-label k) (body (p .lines)) (exit p) (body-unset (constant-label k) (p .lines) (λ n j e q. omega (arith, label-low j (g .orders n (SetLabel j) e .fault-free)))) (exit-unset (constant-label k) (λ v. omega (arith, v .0))))
         in
         let v = constant-place (0 + constants-offset p) 0 k (constants (p .lines)) l in
         let z : 0 + k ≡ k = omega arith in
         rw (past (constant-label k) 0 (code-items p) (data-items p) u, rw z at v) (omega arith)
+
+    -- the frames' labels are where the items set them
+    pub exit-stands : (n : ℕ) → length (p .lines) ≤ n → Stands (place p) (line-offset p n) (exit p)
+    unfolding place items line-offset
+    exit-stands n h =
+        stands-of (place p) (span (entry p) + span (body (take n (p .lines)))) (exit p) (data-items p) Late (exit-fresh (p .head))
+        (λ l v.
+        rw (append-assoc (entry p) (body (p .lines) ++ exit p) (data-items p), append-assoc (body (p .lines)) (exit p) (data-items p), past l 0 (entry p) (body (p .lines) ++ (exit p ++ data-items p)) (entry-unset l (λ u. omega (arith, u .1, v .0))), past l (0 + span (entry p)) (body (p .lines)) (exit p ++ data-items p) (body-unset l (p .lines) (λ i j e q. omega (arith, label-low j (g .orders i (SetLabel j) e .fault-free), v .0))), zero-add (span (entry p)), take-all n (p .lines) h))
 
     -- every place is a word's
     pub placed : Placed (place p)

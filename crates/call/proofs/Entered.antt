@@ -1,0 +1,201 @@
+-- From the terms of a call to where the body starts: behind prologue and saves the machine stands at the reading's start. Assumes nothing.
+use mathlib.Core.Path.{_≡_, refl, ap, sym, subst, _∙_}
+use mathlib.Core.Logic.{_⊎_, inl, inr}
+use mathlib.Core.Bool.{Bool, true, false, not, _&&_, _||_, cond}
+use mathlib.Core.List.{List, [], _∷_, _++_, List·Memᴰ, List·Memᴰ·head, List·Memᴰ·tail, List·Memᴰ·not-nil, List·Memᴰ·cases-cons}
+use Prim.Native.Nat.{ℕ, zero, suc, _+_, _-_, _*_, _%_, _^_, _≤_, _<_}
+use native.Mathlib.Omega.{arith}
+use borrow.Author.Tests.{ltb-true, ltb-false, eqb-true, eqb-false, leb-true}
+use lib.Dec.{T, eqb, ltb, leb, leb→le, eqb→eq, eqb·suc-zero}
+use lib.ListN.{length}
+use Rattle.machine.specs.Word.{w64, upd, dist, load8}
+use Rattle.machine.specs.Floats.{Floats}
+use Rattle.machine.specs.State.{State, Sound}
+use Rattle.machine.specs.Step.{CodeAt, Run}
+use Rattle.machine.proofs.Memory.{inside, dist-back, load8-local}
+use Rattle.machine.proofs.Effects.{and-l}
+use Rattle.machine.proofs.Runs.{run-sound}
+use Rattle.machine.proofs.Placed.{code-kept}
+use Rattle.order.specs.declared.Place.{Place}
+use Rattle.order.specs.declared.Place.the-variants.{Mem, Stack, Param}
+use Rattle.order.specs.declared.Frame.{Frame}
+use Rattle.order.specs.declared.Frame.the-variants.{Fast, Indirect}
+use Rattle.order.specs.declared.Head.{Head}
+use Rattle.assembler.specs.Resolved.{resolved}
+use Rattle.orders.specs.Code as O
+use Rattle.frames.specs.Size.{cells, uses-table, holds-mem, stack-size}
+use Rattle.frames.specs.Fault.{prologue-holds}
+use Rattle.frames.specs.Mask.{saved, save-cell}
+use Rattle.frames.proofs.Claim.{mem-at, state-of, indirect, floats-of, Called, Ready}
+use Rattle.frames.proofs.Opened.{opens}
+use Rattle.call.specs.Program.{Program}
+use Rattle.call.specs.Plain.{Reading}
+use Rattle.call.specs.Terms.{table-used, frame-bytes, bottom, base, param-count, cell-count, as-called, table-cell, state-value, stack-value, start-cells, start-f, start, Terms}
+use Rattle.call.specs.Layout.{span, body, items, place, entry, exit, code-items, data-items, code-length, routine-words, line-offset}
+use Rattle.call.specs.Good.{cap-holds, Good}
+use Rattle.call.proofs.Items.{span-append, resolved-length}
+use Rattle.call.proofs.Whole.{entry-part, entry-stands}
+use Rattle.call.proofs.Cells.{Inside, at-cell}
+use Rattle.call.proofs.Follow.{Rel, Ground}
+use Rattle.call.proofs.Lies.{Lies, lies}
+
+-- f10 holds the last state where a table with states was read
+last-state : (b : Bool) (f v : ℕ → ℕ) (n : ℕ) → cond (b && not (eqb (suc n) 0)) (upd f 10 (v (suc n - 1))) f ≡ cond b (upd f 10 (v n)) f
+last-state true f v n = let e : suc n - 1 ≡ n = omega arith in rw (eqb·suc-zero n, e)
+last-state false f v n = refl
+
+start-floats : (H : Head) (s : State) (n : ℕ) → cond (table-used H s && not (eqb n 0)) (upd (s .f) 10 (load8 (s .mem) (table-cell H s (n - 1)))) (s .f) ≡ start-f H s n
+start-floats H s zero = by (table-used H s)
+  where
+    by : (b : Bool) → cond (b && false) (upd (s .f) 10 (load8 (s .mem) (table-cell H s (0 - 1)))) (s .f) ≡ s .f
+    by true = refl
+    by false = refl
+start-floats H s (suc n) = last-state (table-used H s) (s .f) (λ k. load8 (s .mem) (table-cell H s k)) n
+
+-- a saved register's cell has a cap of 16
+saves-room : (H : Head) → T (cap-holds H) → (r : ℕ) → List·Memᴰ r (saved (H .mask)) → 16 ≤ H .cap
+saves-room H h r m = by (leb 16 (H .cap)) refl (saved (H .mask)) h m
+  where
+    by : (b : Bool) → leb 16 (H .cap) ≡ b → (rs : List ℕ) → T (b || eqb (length rs) 0) → List·Memᴰ r rs → 16 ≤ H .cap
+    by b e [] h m = absurd (List·Memᴰ·not-nil m)
+    by true e (k ∷ rs) h m = leb-true 16 (H .cap) e
+    by false e (k ∷ rs) h m = absurd (rw (eqb·suc-zero (length rs)) at h)
+
+-- the cells of `stack`: a saved register's, or what memory held
+stack-found : (H : Head) (s : State) (m : ℕ → ℕ) (b i : ℕ) (rs : List ℕ) → ((r : ℕ) → List·Memᴰ r rs → load8 m (b + 8 * save-cell r) ≡ s .f r) → (((r : ℕ) → List·Memᴰ r rs → save-cell r ≡ i → ⊥) → load8 m (b + 8 * i) ≡ as-called H s Stack i) → load8 m (b + 8 * i) ≡ stack-value H s rs i
+stack-found H s m b i [] f g = g (λ r n. absurd (List·Memᴰ·not-nil n))
+stack-found H s m b i (r ∷ rs) f g =
+    by (eqb (save-cell r) i) refl
+    (λ not-here.
+    stack-found H s m b i rs (λ q n. f q (List·Memᴰ·tail n))
+    (λ others. g (λ q n e. other q (List·Memᴰ·cases-cons n) not-here others e)))
+  where
+    other : (q : ℕ) → (q ≡ r) ⊎ List·Memᴰ q rs → (save-cell r ≡ i → ⊥) → ((q : ℕ) → List·Memᴰ q rs → save-cell q ≡ i → ⊥) → save-cell q ≡ i → ⊥
+    other q (inl e) here rest z = here (ap save-cell (sym e) ∙ z)
+    other q (inr n) here rest z = rest q n z
+
+    by : (t : Bool) → eqb (save-cell r) i ≡ t → ((save-cell r ≡ i → ⊥) → load8 m (b + 8 * i) ≡ stack-value H s rs i) → load8 m (b + 8 * i) ≡ cond t (s .f r) (stack-value H s rs i)
+    by true e h = rw (← (eqb-true (save-cell r) i e)) (f r (List·Memᴰ·head refl))
+    by false e h = h (eqb-false (save-cell r) i e)
+
+module _ (Q : Floats) (p : Program) (g : Good p) (s : State) (o : Sound s) (c : CodeAt (s .mem) (s .pc) (routine-words p)) (t : Terms (p .head) (code-length p) s) where
+  abbrev H : Head
+  H = p .head
+
+  l : Lies H (code-length p) s
+  l = lies H (code-length p) s o (g .counts) t
+
+  entry-span : span (entry p) ≤ code-length p
+  unfolding items
+  entry-span = omega (arith, span-append (code-items p) (data-items p), span-append (entry p) (body (p .lines) ++ exit p))
+
+  called : Called H (place p) s (bottom H s)
+  called =
+      let e : 4 * length (resolved (place p) 0 (entry p)) ≡ span (entry p) = resolved-length (place p) 0 (entry p) in
+      record {
+        counts = and-l (prologue-holds H) _ (g .counts);
+        room-for-saves = saves-room H (g .cap);
+        sound = o;
+        start = t .code-aligned;
+        fits = l .top;
+        sp = l .sp;
+        code = entry-part p (s .mem) (s .pc) (o .pc) c;
+        labels = entry-stands p;
+        code-fits = omega (arith, l .code-top, entry-span);
+        code-apart = λ x b d f. let v = inside (s .pc) (code-length p) x (l .code-top) b (omega (arith, entry-span)) in l .code-frame x v f;
+        table-fits = l .table-top;
+        table-apart = λ h x b d f. l .table-frame h x (inside (s .x 11) (16 * cells H) x (l .table-top h) b d) f;
+        states-apart = λ h i k x b d f. t .state-cells h i k .0 (dist (table-cell H s i) x) d (rw (dist-back (table-cell H s i) x b) f);
+        block-fits = l .block-top;
+        block-apart = λ h x b d f. l .block-frame h x (inside (s .x 10) (8 * cells H) x (l .block-top h) b d) f;
+      }
+
+  pub opened : (u : State) × Ready Q H (place p) s (bottom H s) u
+  opened = opens Q H (place p) s (bottom H s) called
+
+  -- ---- the machine behind prologue and saves
+
+  abbrev pub ready : State
+  ready = opened .0
+
+  abbrev r : Ready Q H (place p) s (bottom H s) ready
+  r = opened .1
+
+  mem-base-is : base H s Mem ≡ mem-at H s (bottom H s)
+  mem-base-is = by (holds-mem (H .frame) (s .x 11)) (l .mem-base)
+    where
+      by : (b : Bool) → (T b → cond b (w64 (bottom H s + stack-size H)) (s .x 10) ≡ bottom H s + stack-size H) → cond b (w64 (bottom H s + stack-size H)) (s .x 10) ≡ cond b (bottom H s + stack-size H) (s .x 10)
+      by true h = h tt
+      by false h = refl
+
+  -- state i, as the frames have it and as the reading has it
+  state-is : (i : ℕ) → state-of (H .frame) s i ≡ state-value H s (H .frame) i
+  state-is i = by (H .frame) refl (eqb (s .x 11) 0) refl
+    where
+      block : H .frame ≡ Indirect → eqb (s .x 11) 0 ≡ true → s .x 10 ≡ base H s Mem
+      block e f = rw (e, f)
+
+      by : (F : Frame) → H .frame ≡ F → (b : Bool) → eqb (s .x 11) 0 ≡ b → state-of F s i ≡ state-value H s F i
+      by Fast e b f = refl
+      by Indirect e true f = rw f (ap (λ (a : ℕ). load8 (s .mem) (w64 (a + 8 * i))) (block e f))
+      by Indirect e false f = rw f
+
+  outside-frame : (x : ℕ) → x < 2 ^ 64 → ((bottom H s ≤ x) × (x < bottom H s + frame-bytes H s) → ⊥) → ready .mem x ≡ s .mem x
+  outside-frame x b f = r .mem x b f
+
+  start-cell : (q : Place) (i : ℕ) → i < cell-count H q → load8 (ready .mem) (w64 (base H s q + 8 * i)) ≡ start-cells H s q i
+  start-cell Mem i h = rw mem-base-is (by (ltb i (H .states)) refl)
+    where
+      by : (b : Bool) → ltb i (H .states) ≡ b → load8 (ready .mem) (w64 (mem-at H s (bottom H s) + 8 * i)) ≡ cond b (state-value H s (H .frame) i) (load8 (s .mem) (w64 (mem-at H s (bottom H s) + 8 * i)))
+      by true e = r .states i (ltb-true i (H .states) e) ∙ state-is i
+      by false e = r .mem-cells i (ltb-false i (H .states) e) h
+  start-cell Stack i h =
+      rw (at-cell (l .rooms) Stack i h)
+      (stack-found H s (ready .mem) (bottom H s) i (saved (H .mask)) (r .saved-cells) (λ none-here. r .stack-cells i h none-here ∙ rw (at-cell (l .rooms) Stack i h)))
+  start-cell Param i h =
+      let e : w64 (s .x 13 + 8 * i) ≡ s .x 13 + 8 * i = at-cell (l .rooms) Param i h in
+      rw e
+      (load8-local (ready .mem) (s .mem) (s .x 13 + 8 * i)
+      (λ x b d.
+      let v = inside (s .x 13 + 8 * i) 8 x (omega (arith, l .rooms .fits Param (omega arith))) b d in
+      outside-frame x b (l .param-frame x (omega (arith, v .0), omega (arith, v .1)))))
+
+  -- it stands where the reading starts
+  pub start-rel : Rel Q p (base H s) (s .pc) (ready .x) (ready .mem) (start H s) ready
+  unfolding line-offset body span
+  start-rel =
+      record {
+        sound = run-sound Q (r .runs) o;
+        pc = r .pc ∙ ap (λ (k : ℕ). w64 (s .pc + k)) (omega (arith, resolved-length (place p) 0 (entry p)));
+        f = r .f ∙ start-floats H s (H .states);
+        rm = r .rm;
+        cells = start-cell;
+        rest = λ x b f. refl;
+        regs = λ y h. refl;
+      }
+
+  pub ground : Ground Q p (base H s) (s .pc) (ready .x) (ready .mem)
+  ground =
+      record {
+        good = g;
+        rooms = l .rooms;
+        start-aligned = t .code-aligned;
+        start-small = o .pc;
+        code-fits = l .code-top;
+        off-code = l .off-code;
+        bases = bases;
+        code =
+            let e = resolved-length (place p) 0 (items p) in
+            code-kept (s .mem) (ready .mem) (s .pc) (routine-words p) (omega (arith, l .code-top))
+            (λ x b d. outside-frame x b (λ f. l .code-frame x (inside (s .pc) (code-length p) x (l .code-top) b (omega arith)) f))
+            c;
+      }
+    where
+      params : (F : Frame) → 0 < param-count F (H .last) → T (indirect F)
+      params Fast h = absurd (omega arith)
+      params Indirect h = tt
+
+      bases : (q : Place) → 0 < cell-count H q → ready .x (O.base q) ≡ base H s q
+      bases Mem h = r .s1 ∙ sym mem-base-is
+      bases Stack h = r .s5
+      bases Param h = r .s4 (params (H .frame) h)
