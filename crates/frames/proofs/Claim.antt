@@ -1,14 +1,14 @@
 -- What the frames' words do on the machine: the terms they rest on, and what holds behind them (document 01, "The machine and the terms of a call").
--- Proved in `Opened`.
+-- Proved in `Opened` and `Closing`.
 use mathlib.Core.Path.{_≡_}
 use mathlib.Core.Bool.{Bool, true, false, not, _&&_, _||_, cond}
 use mathlib.Core.List.{List, _++_, List·Memᴰ}
-use Prim.Native.Nat.{ℕ, _+_, _-_, _*_, _%_, _^_, _≤_, _<_}
+use Prim.Native.Nat.{ℕ, zero, suc, _+_, _-_, _*_, _%_, _^_, _≤_, _<_}
 use lib.Dec.{T, eqb, leb}
 use lib.IntN.{pos}
 use lib.ListN.{length, getD}
 use Rattle.isa.specs.Instr.{Instr}
-use Rattle.machine.specs.Word.{w64, upd, load8, store8}
+use Rattle.machine.specs.Word.{w64, dist, upd, load8, store8}
 use Rattle.machine.specs.Floats.{Floats}
 use Rattle.machine.specs.State.{State, Sound}
 use Rattle.machine.specs.Step.{CodeAt, Run}
@@ -21,7 +21,7 @@ use Rattle.assembler.specs.Resolved.{resolved}
 use Rattle.accesses.specs.Code.{li-code, sub-stack-code, allocate-stack-code}
 use Rattle.frames.specs.Size.{cells, uses-table, holds-mem, frame-size, stack-size, below-saves, whole-size}
 use Rattle.frames.specs.Mask.{saved, save-cell}
-use Rattle.frames.specs.Items.{kept, prologue, saves}
+use Rattle.frames.specs.Items.{kept, prologue, saves, reloads, epilogue}
 use Rattle.frames.specs.Fault.{prologue-holds, epilogue-holds}
 use Rattle.frames.proofs.Land.{In}
 use Rattle.frames.proofs.Walk.{Stands}
@@ -123,3 +123,78 @@ pub record Ready (Q : Floats) (H : Head) (at : ℕ → ℕ) (s : State) (bottom 
   pub f : t .f ≡ floats-of H s
   pub rm : t .rm ≡ s .rm
   pub mem : Same (Frame-at H s bottom) (t .mem) (s .mem)
+
+-- ---- reloads and epilogue: u is the state there
+
+-- the bytes of observation cells
+abbrev pub Observed-at : Head → State → ℕ → Type 0
+Observed-at H s x =
+    T (uses-table (H .frame) (s .x 11)) × (i : ℕ) × (i < H .obs) × (dist (table-cell s (H .states + i)) x < 8)
+
+-- each observation cell in turn its `mem` cell: n of them from observation i on
+abbrev pub observed : Head → State → (mem : ℕ → ℕ) → (i n : ℕ) → (ℕ → ℕ) → ℕ → ℕ
+observed H s mem i zero bytes = bytes
+observed H s mem i (suc n) bytes =
+    observed H s mem (suc i) n (store8 bytes (table-cell s (H .states + i)) (mem (H .states + i)))
+
+-- the words of reloads and epilogue
+abbrev pub exit-words : Head → (at : ℕ → ℕ) → (here : ℕ) → List ℕ
+exit-words H at here = resolved at here (reloads (H .mask) ++ epilogue H)
+
+pub record Leaving (H : Head) (at : ℕ → ℕ) (s : State) (bottom a here : ℕ) (u : State) : Type 0 where
+  pub counts : T (epilogue-holds H)
+  pub sound : Sound u
+  pub ra : s .x 1 % 4 ≡ 0
+  pub fits : bottom + whole-size H (s .x 11) ≤ 2 ^ 64
+  pub sp : s .x 2 ≡ w64 (bottom + whole-size H (s .x 11))
+  -- the words stand at pc, `here` bytes behind a, with their labels where `at` has them
+  pub pc : u .pc ≡ w64 (a + here)
+  pub even : (a + here) % 4 ≡ 0
+  pub code : CodeAt (u .mem) (u .pc) (exit-words H at here)
+  pub short : 4 * length (exit-words H at here) ≤ 2 ^ 64
+  pub labels : Stands at here (reloads (H .mask) ++ epilogue H)
+  -- registers and their places as behind prologue and saves
+  pub s0 : u .x 8 ≡ bottom + below-saves H (s .x 11)
+  pub s1 : u .x 9 ≡ mem-at H s bottom
+  pub s2 : T (indirect (H .frame)) → u .x 18 ≡ cond (eqb (s .x 11) 0) 0 (w64 (s .x 11 + 16 * H .states))
+  pub s3 : T (indirect (H .frame)) → u .x 19 ≡ cond (eqb (s .x 11) 0) (s .x 12) (w64 (8 * s .x 12))
+  pub s5 : u .x 21 ≡ bottom
+  pub places : (i : ℕ) → i < length (kept (H .frame)) → load8 (u .mem) (bottom + below-saves H (s .x 11) + 8 * i) ≡ s .x (getD (kept (H .frame)) i 0)
+  pub room-for-saves : (r : ℕ) → List·Memᴰ r (saved (H .mask)) → 16 ≤ H .cap
+  pub saved-cells : (r : ℕ) → List·Memᴰ r (saved (H .mask)) → load8 (u .mem) (bottom + 8 * save-cell r) ≡ s .f r
+  -- the table's pointers as at the call
+  pub table-fits : T (uses-table (H .frame) (s .x 11)) → s .x 11 + 16 * cells H ≤ 2 ^ 64
+  pub pointers : T (uses-table (H .frame) (s .x 11)) → (i : ℕ) → i < H .obs → load8 (u .mem) (w64 (s .x 11 + 16 * (H .states + i))) ≡ load8 (s .mem) (w64 (s .x 11 + 16 * (H .states + i)))
+  -- no observation cell touches the words, the frame or the table
+  pub code-apart : Off (Observed-at H s) (u .pc) (4 * length (exit-words H at here))
+  pub frame-apart : Off (Observed-at H s) bottom (whole-size H (s .x 11))
+  pub table-apart : T (uses-table (H .frame) (s .x 11)) → Off (Observed-at H s) (s .x 11) (16 * cells H)
+
+-- the words that reloads and epilogue run
+abbrev pub epilogue-steps : Head → Frame → (a1 : ℕ) → ℕ
+epilogue-steps H Fast a1 = 10 + length (saved (H .mask))
+epilogue-steps H Indirect a1 =
+    13
+    + cond (eqb a1 0) 0 (repeated-steps (H .obs) (length (li-code 6 (pos (8 * H .states))) + 1))
+    + length (saved (H .mask))
+
+-- registers that the end sets: ra, sp, t0..t2, a0, and those that it restores
+abbrev pub end-sets : Frame → ℕ → Bool
+end-sets Fast r = eqb r 1 || (eqb r 2 || (eqb r 8 || (eqb r 9 || (eqb r 10 || eqb r 21))))
+end-sets Indirect r = eqb r 1 || (eqb r 2 || (eqb r 5 || (eqb r 6 || (eqb r 7 || (eqb r 8 || (eqb r 9 || (eqb r 10 || (eqb r 18 || (eqb r 19 || (eqb r 20 || eqb r 21))))))))))
+
+pub record Returned (Q : Floats) (H : Head) (s : State) (bottom : ℕ) (u v : State) : Type 0 where
+  pub runs : Run Q u (epilogue-steps H (H .frame) (s .x 11)) v
+  pub pc : v .pc ≡ s .x 1
+  pub sp : v .x 2 ≡ s .x 2
+  pub a0 : v .x 10 ≡ 0
+  -- ra, s0, s1, s5 and, in an indirect frame, s2, s3, s4
+  pub restored : (i : ℕ) → i < length (kept (H .frame)) → v .x (getD (kept (H .frame)) i 0) ≡ s .x (getD (kept (H .frame)) i 0)
+  pub others : (r : ℕ) → T (not (end-sets (H .frame) r)) → v .x r ≡ u .x r
+  -- preserved float registers; fa0; all other float registers
+  pub reloaded : (r : ℕ) → List·Memᴰ r (saved (H .mask)) → v .f r ≡ s .f r
+  pub result : T (not (indirect (H .frame))) → v .f 10 ≡ load8 (u .mem) (w64 (mem-at H s bottom + 8 * H .last))
+  pub floats : (r : ℕ) → (r ≡ 10 → ⊥) → ((q : ℕ) → List·Memᴰ q (saved (H .mask)) → q ≡ r → ⊥) → v .f r ≡ u .f r
+  pub rm : v .rm ≡ u .rm
+  -- observation cells where the table is used, and nothing else
+  pub mem : v .mem ≡ cond (uses-table (H .frame) (s .x 11)) (observed H s (λ j. load8 (u .mem) (w64 (mem-at H s bottom + 8 * j))) 0 (H .obs) (u .mem)) (u .mem)

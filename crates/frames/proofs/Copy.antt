@@ -27,7 +27,7 @@ use Rattle.frames.proofs.Repeat.{Round, Free}
 abbrev pub copy-regs : ℕ → Bool
 copy-regs r = eqb r 5 || (eqb r 6 || (eqb r 7 || eqb r 18))
 
-seven-out : (r : ℕ) → T (not (copy-regs r)) → r ≢ 7
+pub seven-out : (r : ℕ) → T (not (copy-regs r)) → r ≢ 7
 seven-out r h e = by (eqb r 5) (eqb r 6) (eqb r 7) (eqb r 18) (eq-eqb r 7 e) h
   where
     by : (a b c d : Bool) → c ≡ true → T (not (a || (b || (c || d)))) → ⊥

@@ -42,22 +42,22 @@ use Rattle.frames.proofs.Claim.{Frame-at, Called, Ready, prologue-steps
 
 -- ---- the branch over the table's part
 
-forward : (here d : ℕ) → subℕ (here + 4 * d) here ≡ pos (4 * d)
+pub forward : (here d : ℕ) → subℕ (here + 4 * d) here ≡ pos (4 * d)
 forward here d = rw (le-ltb (here + 4 * d) here (omega arith)) (ap pos (omega arith))
 
-abbrev over : ℕ → Instr
+abbrev pub over : ℕ → Instr
 over d = B BEQ 18 0 (pos (4 * d))
 
 module _ (Q : Floats) (u : State) (d : ℕ) where
-  over-keeps : ((exec Q (over d) u) .x ≡ u .x) × ((exec Q (over d) u) .f ≡ u .f) × ((exec Q (over d) u) .mem ≡ u .mem)
+  pub over-keeps : ((exec Q (over d) u) .x ≡ u .x) × ((exec Q (over d) u) .f ≡ u .f) × ((exec Q (over d) u) .mem ≡ u .mem)
   unfolding effect apply setx
   over-keeps = (refl, refl, refl)
 
-  over-goes : (b : ℕ) → u .pc ≡ w64 b → u .x 18 ≡ 0 → (exec Q (over d) u) .pc ≡ w64 (b + 4 * d)
+  pub over-goes : (b : ℕ) → u .pc ≡ w64 b → u .x 18 ≡ 0 → (exec Q (over d) u) .pc ≡ w64 (b + 4 * d)
   unfolding effect apply
   over-goes b p e = rw (e, p) (omega arith)
 
-  over-stays : (b : ℕ) → u .pc ≡ w64 b → u .x 18 ≢ 0 → (exec Q (over d) u) .pc ≡ w64 (b + 4)
+  pub over-stays : (b : ℕ) → u .pc ≡ w64 b → u .x 18 ≢ 0 → (exec Q (over d) u) .pc ≡ w64 (b + 4)
   unfolding effect apply
   over-stays b p e = rw (ne-eqb (u .x 18) 0 e, p) (omega arith)
 

@@ -12,3 +12,9 @@ pub mod Copy
 pub mod Count
 pub mod Indirect
 pub mod Opened
+pub mod Give
+pub mod Reload
+pub mod Leave
+pub mod LeaveFast
+pub mod LeaveIndirect
+pub mod Closing

@@ -10,7 +10,7 @@ use Rattle.frames.proofs.Claim.{Called, Ready}
 use Rattle.frames.proofs.Fast as Fast
 use Rattle.frames.proofs.Indirect as Indirect
 
-abbrev with-frame : Frame → Head → Head
+abbrev pub with-frame : Frame → Head → Head
 with-frame F H = record { frame = F; cap = H .cap; states = H .states; obs = H .obs; last = H .last; mask = H .mask }
 
 pub opens : (Q : Floats) (H : Head) (at : ℕ → ℕ) (s : State) (bottom : ℕ) → Called H at s bottom → (t : State) × Ready Q H at s bottom t
