@@ -5,3 +5,4 @@ pub mod Access
 pub mod Stack
 pub mod Runs
 pub mod Table
+pub mod Edges

@@ -6,3 +6,4 @@ pub mod Jumps
 pub mod Cases
 pub mod Does
 pub mod Laws
+pub mod Examples

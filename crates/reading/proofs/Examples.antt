@@ -1,7 +1,7 @@
 -- What orders mean on IEEE 754 binary64, at closed inputs: they compute.
 use mathlib.Core.Path.{_≡_, refl}
 use mathlib.Core.Bool.{true, false}
-use mathlib.Core.List.{List, [], _∷_, map}
+use mathlib.Core.List.{[], _∷_, map}
 use Prim.Native.Nat.{ℕ, _+_}
 use lib.ListN.{getD}
 use Rattle.machine.specs.Word.{upd}
@@ -15,7 +15,9 @@ use Rattle.order.specs.declared.Binary.the-variants.{Minus, Times, Divide, Gt, 
 use Rattle.order.specs.declared.Fused.the-variants.{MulAdd, MulSub, NegMulAdd, NegMulSub}
 use Rattle.order.specs.declared.Order.{Order}
 use Rattle.order.specs.declared.Order.the-variants.{Unary, Scratched, Binary, Fused, Ifelse, LoadConst, Load, Save, BranchIf, SetLabel}
-use Rattle.reading.specs.Meaning.{Exit, on, to, Meaning, all-ones, choose, unary, scratched, binary, fused, meaning}
+use Rattle.order.specs.declared.Constant.the-variants.{Bits}
+use Rattle.reading.specs.Line.{order, constant, weight}
+use Rattle.reading.specs.Meaning.{on, to, Meaning, all-ones, choose, unary, scratched, binary, fused, meaning}
 
 -- f0 to f7 are 2.5, -0.25, 3.0, 2.0, -0.0, a NaN and the bits 1100 and 1010; f10 is 4.0, the others are 0.0
 abbrev registers : ℕ → ℕ
@@ -66,3 +68,7 @@ saves = refl
 pub exits : map (λ o. (means o) .exit) (BranchIf 4 9 true ∷ BranchIf 4 9 false ∷ BranchIf 8 9 true ∷ BranchIf 8 9 false ∷ SetLabel 9 ∷ []) ≡ to 9 ∷ on ∷ on ∷ to 9 ∷ on ∷ []
 unfolding meaning
 exits = refl
+
+-- labels and constants count for no order
+pub weights : map weight (order (Unary Fmov 1 1) ∷ order (SetLabel 9) ∷ constant (Bits 0) ∷ []) ≡ 1 ∷ 0 ∷ 0 ∷ []
+weights = refl
