@@ -36,7 +36,7 @@ invert d s = I XORI d s (negsuc 0)
 abbrev pub negate : (d s : ℕ) → Instr
 negate d s = R SUB d 0 s
 
--- the difference of two comparisons and the like go through t0 and t1
+-- bits and whole numbers go through t0 and t1
 unfoldable pub unary-code : U.Unary → (d s : ℕ) → List Instr
 unary-code Fmov d s = cond (eqb d s) [] (R FSGNJ-D d s s ∷ [])
 unary-code Recip d s = I ADDI 5 0 (pos 1) ∷ C FCVT-D-W 10 5 0 ∷ F FDIV-D d 10 s 7 ∷ []
