@@ -1,0 +1,5 @@
+pub mod Steps
+pub mod Lined
+pub mod Numerals
+pub mod Answers
+pub mod Joined

@@ -1,0 +1,113 @@
+-- The readers' loops, byte by byte. Assumes nothing.
+use mathlib.Core.Path.{_≡_, refl, ap, _∙_}
+use mathlib.Core.Bool.{Bool, true, false, cond, _&&_}
+use mathlib.Core.Option.{none}
+use mathlib.Core.List.{List, [], _∷_}
+use Prim.Native.Nat.{ℕ, suc, _+_, _*_, _-_, _/_, _^_, _<_, _≤_}
+use native.Mathlib.Nat.{le-mul-of-pos-right, le-div-iff-mul-le, div-lt-iff-lt-mul}
+use native.Mathlib.Numerals.{add-one}
+use native.Mathlib.Omega.{arith}
+use borrow.Author.Tests.{lt-ltb, le-ltb, ltb-false, eq-eqb, ne-eqb}
+use lib.Dec.{eqb, ltb}
+use lib.ListN.{length, getD, drop, drop-of-length-le}
+use lib.Seq.{drop-cons}
+use Rattle.text.specs.Digits.{digit-value, read-from, sized, further, numeral}
+use Rattle.text.specs.Fields.{upto, end-from, same}
+use Rattle.text.specs.declared.Number.{Number}
+use Rattle.text.specs.declared.Number.the-variants.{Value, TooBig}
+use Rattle.text.specs.declared.Numeral.{Numeral}
+use Rattle.text.specs.declared.Numeral.the-variants.{Is, Malformed}
+
+pub at : (s : List ℕ) (i : ℕ) → i < length s → drop i s ≡ getD s i 0 ∷ drop (i + 1) s
+at s i h = rw (add-one, drop-cons s i 0)
+
+-- ---- digits
+
+-- the digits behind a number already cut to its size
+unfoldable pub cut-from : (b : ℕ) → Number → List ℕ → Numeral
+cut-from b n [] = Is n
+cut-from b n (c ∷ cs) = cond (ltb (digit-value c) b) (cut-from b (further b n (digit-value c)) cs) Malformed
+
+further-big : (b v d : ℕ) → 0 < b → 2 ^ 64 ≤ v → TooBig ≡ sized (v * b + d)
+further-big b v d p h = simp (le-ltb (v * b + d) 18446744073709551616 (omega (arith, le-mul-of-pos-right v p)))
+
+further-sized′ : (b v d : ℕ) (t : Bool) → 0 < b → ltb v 18446744073709551616 ≡ t → further b (cond t (Value v) TooBig) d ≡ sized (v * b + d)
+further-sized′ b v d true p e = refl
+further-sized′ b v d false p e = further-big b v d p (ltb-false v 18446744073709551616 e)
+
+further-sized : (b v d : ℕ) → 0 < b → further b (sized v) d ≡ sized (v * b + d)
+further-sized b v d p = further-sized′ b v d (ltb v 18446744073709551616) p refl
+
+pub cut-read : (b v : ℕ) (s : List ℕ) → 0 < b → cut-from b (sized v) s ≡ numeral (read-from b v s)
+unfolding cut-from read-from
+cut-read b v [] p = refl
+cut-read b v (c ∷ cs) p = go (ltb (digit-value c) b) (cut-read b (v * b + digit-value c) cs p)
+  where
+    go : (t : Bool) → cut-from b (sized (v * b + digit-value c)) cs ≡ numeral (read-from b (v * b + digit-value c) cs) → cond t (cut-from b (further b (sized v) (digit-value c)) cs) Malformed ≡ numeral (cond t (read-from b (v * b + digit-value c) cs) none)
+    go true e = ap (λ (n : Number). cut-from b n cs) (further-sized b v (digit-value c) p) ∙ e
+    go false e = refl
+
+module _ (b : ℕ) (n : Number) (s : List ℕ) (i d : ℕ) (h : i < length s) (e : d ≡ digit-value (getD s i 0)) where
+  pub no-digit : b ≤ d → cut-from b n (drop i s) ≡ Malformed
+  unfolding cut-from
+  no-digit g = rw (at s i h, ← e, le-ltb d b g)
+
+  pub one-digit : d < b → cut-from b n (drop i s) ≡ cut-from b (further b n d) (drop (i + 1) s)
+  unfolding cut-from
+  one-digit g = rw (at s i h, ← e, lt-ltb d b g)
+
+pub no-digits : (b : ℕ) (n : Number) (s : List ℕ) (i : ℕ) → length s ≤ i → cut-from b n (drop i s) ≡ Is n
+unfolding cut-from
+no-digits b n s i h = rw (drop-of-length-le s h)
+
+-- the test in front of the sum
+module _ (b v d : ℕ) (p : 0 < b) (f : d < b) where
+  pub over : (18446744073709551615 - d) / b < v → TooBig ≡ sized (v * b + d)
+  over g = simp (le-ltb (v * b + d) 18446744073709551616 (omega (arith, div-lt-iff-lt-mul p .0 g)))
+
+  pub under : v ≤ (18446744073709551615 - d) / b → v * b ≤ 18446744073709551615 - d
+  under g = le-div-iff-mul-le p .0 g
+
+-- ---- fields
+
+module _ (s : List ℕ) (i : ℕ) where
+  pub ends-here : i < length s → getD s i 0 ≡ 44 → end-from s i ≡ i
+  unfolding end-from upto
+  ends-here h e = rw (le-ltb (length s) i (omega arith), at s i h, eq-eqb _ _ e) (omega arith)
+
+  pub ends-later : i < length s → (getD s i 0 ≡ 44 → ⊥) → end-from s i ≡ end-from s (i + 1)
+  unfolding end-from upto
+  ends-later h e = rw (le-ltb (length s) i (omega arith), le-ltb (length s) (i + 1) (omega arith), at s i h, ne-eqb _ _ e) (omega arith)
+
+  pub ends-behind : length s ≤ i → end-from s i ≡ i
+  unfolding end-from upto
+  ends-behind h = behind (ltb (length s) i)
+    where
+      behind : (t : Bool) → cond t i (i + upto (drop i s)) ≡ i
+      behind true = refl
+      behind false = rw (drop-of-length-le s h) (omega arith)
+
+-- ---- the same bytes
+
+pub same-at : (s w : List ℕ) (i : ℕ) → i < length s → i < length w → getD s i 0 ≡ getD w i 0 → same (drop i s) (drop i w) ≡ same (drop (i + 1) s) (drop (i + 1) w)
+unfolding same
+same-at s w i h k e = rw (at s i h, at w i k, eq-eqb _ _ e)
+
+pub differ-at : (s w : List ℕ) (i : ℕ) → i < length s → i < length w → (getD s i 0 ≡ getD w i 0 → ⊥) → same (drop i s) (drop i w) ≡ false
+unfolding same
+differ-at s w i h k e = rw (at s i h, at w i k, ne-eqb _ _ e)
+
+pub same-end : (s w : List ℕ) (i : ℕ) → length s ≤ i → length w ≤ i → same (drop i s) (drop i w) ≡ true
+unfolding same
+same-end s w i h k = rw (drop-of-length-le s h, drop-of-length-le w k)
+
+off : (t : Bool) → t && false ≡ false
+off true = refl
+off false = refl
+
+pub same-length : (s w : List ℕ) → (length s ≡ length w → ⊥) → same s w ≡ false
+unfolding same
+same-length [] [] h = absurd (h refl)
+same-length [] (b ∷ w) h = refl
+same-length (a ∷ s) [] h = refl
+same-length (a ∷ s) (b ∷ w) h = rw (same-length s w (λ e. h (ap suc e))) (off (eqb a b))

@@ -1,0 +1,63 @@
+use mathlib.Core.Path.{_≡_, sym, _∙_}
+use Prim.Native.Nat.{_-_, _≤_}
+use lib.ListN.{length, drop}
+use denote.Ref.{now}
+use borrow.Author.Needs.{needs}
+use Rattle.text.specs.Digits.{read-from, numeral}
+use Rattle.text.proofs.Steps.{cut-from, cut-read, no-digit, one-digit, no-digits}
+use Rattle.text.proofs.digits.Statement.{statement}
+use Rattle.text.proofs.digits.Tie as tie
+
+abbrev Inv-loop : tie.InvT-loop
+Inv-loop s base n₀ i₀ n i = (i ≤ length s) × (numeral (read-from base 0 s) ≡ cut-from base n (drop i s))
+
+abbrev μ-loop : tie.MeasureT-loop
+μ-loop s base n₀ i₀ n i = length s - i
+
+loop-holds : tie.Need-loop-holds Inv-loop μ-loop
+loop-holds c = (search needs, sym (cut-read (c .before .args .base) 0 (now (c .before .args .s)) (c .before .pre)))
+
+shared-slice-read-digit : tie.Need-shared-slice-read-digit Inv-loop μ-loop
+shared-slice-read-digit c = search needs
+
+digit-requires : tie.Need-digit-requires Inv-loop μ-loop
+digit-requires c κs = search needs
+
+returns : tie.Need-returns Inv-loop μ-loop
+returns c = sym (c .before .before .before .before .loop .inv .1 ∙ no-digit _ _ _ _ _ (c .before .before .before .loop-test .taken) (c .before .digit .ensures) (c .if1 .taken))
+
+further-by-requires : tie.Need-further-by-requires Inv-loop μ-loop
+further-by-requires c κs = search needs
+
+add-i : tie.Need-add-i Inv-loop μ-loop
+add-i c = search needs
+
+loop-less : tie.Need-loop-less Inv-loop μ-loop
+loop-less c = search needs
+
+loop-again : tie.Need-loop-again Inv-loop μ-loop
+loop-again c =
+    let l = c .before .before .before .before .before in (
+      search needs,
+      l .loop .inv .1 ∙ one-digit _ _ _ _ _ (c .before .before .before .before .loop-test .taken) (c .before .before .digit .ensures) (c .before .if1 .left)
+          ∙ rw (← c .further-by .ensures),
+    )
+
+returns-2 : tie.Need-returns-2 Inv-loop μ-loop
+returns-2 c = sym (c .before .loop .inv .1 ∙ no-digits _ _ _ _ (c .loop-test .left))
+
+pub digits-spec : {M : Type 1} → statement M
+digits-spec =
+    tie.close
+    (tie.spec
+    Inv-loop
+    μ-loop
+    loop-holds
+    shared-slice-read-digit
+    digit-requires
+    returns
+    further-by-requires
+    add-i
+    loop-less
+    loop-again
+    returns-2)

@@ -1,0 +1,51 @@
+use native.Mathlib.Omega.{arith}
+use mathlib.Core.Path.{sym}
+use denote.Ref.{now}
+use Rattle.text.proofs.Answers.{no-field, next-none, field-is, next-is}
+use borrow.Author.Needs.{needs}
+use Rattle.text.proofs.number_at.Statement.{statement}
+use Rattle.text.proofs.number_at.Tie as tie
+
+returns : tie.Need-returns
+returns c = (rw (no-field _ _ (c .if1 .taken)), sym (next-none _ _ (c .if1 .taken)))
+
+field-end-requires : tie.Need-field-end-requires
+field-end-requires c κs = search needs
+
+sub-read-number : tie.Need-sub-read-number
+sub-read-number c = search needs
+
+part-read-number-start : tie.Need-part-read-number-start
+part-read-number-start c = search needs
+
+part-read-number-end : tie.Need-part-read-number-end
+part-read-number-end c =
+    let h = c .field-end .ensures .2 (c .before .if1 .left) in
+    search needs
+
+read-number-requires : tie.Need-read-number-requires
+read-number-requires c κs = search needs
+
+add-t5 : tie.Need-add-t5
+add-t5 c =
+    let h = c .before .before .field-end .ensures .2 (c .before .before .before .if1 .left) in
+    record { fits = omega arith }
+
+returns-2 : tie.Need-returns-2
+returns-2 c =
+    let f = c .before .before in
+    let a = f .before .before .before .args in
+    (rw (field-is (now (a .s)) (a .a) (f .before .if1 .left), ← f .field-end .ensures .0) (c .read-number .ensures), rw (next-is (now (a .s)) (a .a) (f .before .if1 .left), ← f .field-end .ensures .0))
+
+pub number-at-spec : {M : Type 1} → statement M
+number-at-spec =
+    tie.close
+    (tie.spec
+    returns
+    field-end-requires
+    sub-read-number
+    part-read-number-start
+    part-read-number-end
+    read-number-requires
+    add-t5
+    returns-2)

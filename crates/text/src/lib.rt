@@ -1,0 +1,211 @@
+// Document 01, "The deck file": numbers, fields and lines as bytes.
+ghost use mathlib.Core.Path.{_≡_};
+ghost use mathlib.Core.List.{_∷_};
+ghost use Prim.Native.Nat.{_+_, _-_, _≤_, _<_};
+ghost use lib.ListN.{length, take, drop};
+ghost use Rattle.text.specs.Digits.{negative as negative-of, digit-value, read-from, read-decimal, read-integer, read-word, numeral, further, integer as integer-of, word as word-of};
+ghost use Rattle.text.specs.Fields.{same as same-of, fields-from, end-from, next-from, first-decimal};
+ghost use Rattle.text.specs.Lines.{lines-of, first-length};
+
+// A number of any size.
+pub enum Number {
+    Value(u64),
+    TooBig,
+}
+
+pub enum Numeral {
+    Is(Number),
+    Malformed,
+}
+
+// A minus, and the magnitude.
+pub enum Integer {
+    Is(bool, Number),
+    Malformed,
+}
+
+pub enum Word {
+    Is(u64),
+    Malformed,
+}
+
+// What a number field says, and where the next field starts.
+pub struct Field {
+    pub numeral: Numeral,
+    pub next: usize,
+}
+
+fn digit(c: u8) -> u64
+    ensures { λ r. ⌜ r ≡ digit-value c ⌝ }
+{
+    if c < 48 {
+        return 16;
+    }
+    if c <= 57 {
+        return c as u64 - 48;
+    }
+    if c < 97 {
+        return 16;
+    }
+    if c <= 102 { c as u64 - 87 } else { 16 }
+}
+// One digit more.
+fn further_by(n: Number, base: u64, d: u64) -> Number
+    requires { ⌜ (0 < base) × (d < base) ⌝ }
+    ensures { λ r. ⌜ r ≡ further base n d ⌝ }
+{
+    let Number::Value(v) = n else {
+        return Number::TooBig;
+    };
+    if v > (u64::MAX - d) / base {
+        Number::TooBig
+    } else {
+        Number::Value(v * base + d)
+    }
+}
+
+fn digits(s: &[u8], base: u64) -> Numeral
+    requires { ⌜ 0 < base ⌝ }
+    ensures { λ r. ⌜ r ≡ numeral (read-from base 0 (now (s .entry))) ⌝ }
+{
+    let mut n = Number::Value(0);
+    let mut i = 0;
+    while i < s.len() {
+        let d = digit(s[i]);
+        if d >= base {
+            return Numeral::Malformed;
+        }
+        n = further_by(n, base, d);
+        i += 1;
+    }
+    Numeral::Is(n)
+}
+
+// A decimal number; s is its field from comma to comma.
+pub fn read_number(s: &[u8]) -> Numeral
+    ensures { λ r. ⌜ r ≡ numeral (read-decimal (now (s .entry))) ⌝ }
+{
+    if s.len() == 0 {
+        return Numeral::Malformed;
+    }
+    if s.len() == 1 {
+        return digits(s, 10);
+    }
+    if s[0] == 48 {
+        return Numeral::Malformed;
+    }
+    digits(s, 10)
+}
+
+// A decimal number that may have a minus.
+pub fn read_integer(s: &[u8]) -> Integer
+    ensures { λ r. ⌜ r ≡ integer-of (read-integer (now (s .entry))) ⌝ }
+{
+    if s.len() == 0 {
+        return Integer::Malformed;
+    }
+    if s[0] == 45 {
+        return negative(&s[1..]);
+    }
+    match read_number(s) {
+        Numeral::Is(n) => Integer::Is(false, n),
+        Numeral::Malformed => Integer::Malformed,
+    }
+}
+
+// What stands behind a minus: no zero.
+fn negative(s: &[u8]) -> Integer
+    ensures { λ r. ⌜ r ≡ integer-of (negative-of (read-decimal (now (s .entry)))) ⌝ }
+{
+    let Numeral::Is(n) = read_number(s) else {
+        return Integer::Malformed;
+    };
+    let Number::Value(v) = n else {
+        return Integer::Is(true, n);
+    };
+    if v == 0 {
+        Integer::Malformed
+    } else {
+        Integer::Is(true, n)
+    }
+}
+
+// 16 lowercase hexadecimal digits.
+pub fn read_word(s: &[u8]) -> Word
+    ensures { λ r. ⌜ r ≡ word-of (read-word (now (s .entry))) ⌝ }
+{
+    if s.len() != 16 {
+        return Word::Malformed;
+    }
+    let Numeral::Is(n) = digits(s, 16) else {
+        return Word::Malformed;
+    };
+    match n {
+        Number::Value(v) => Word::Is(v),
+        Number::TooBig => Word::Malformed,
+    }
+}
+
+// Where the field that starts at a ends: at a comma, or with s.
+pub fn field_end(s: &[u8], a: usize) -> usize
+    ensures { λ r. ⌜ (r ≡ end-from (now (s .entry)) a) × (a ≤ r) × (a ≤ length (now (s .entry)) → r ≤ length (now (s .entry))) ⌝ }
+{
+    let mut i = a;
+    while i < s.len() {
+        if s[i] == 44 {
+            return i;
+        }
+        i += 1;
+    }
+    i
+}
+
+// The number in the field that starts at a.
+pub fn number_at(s: &[u8], a: usize) -> Field
+    ensures { λ r. ⌜ (r .numeral ≡ numeral (first-decimal (fields-from (now (s .entry)) a))) × (r .next ≡ next-from (now (s .entry)) a) ⌝ }
+{
+    if s.len() < a {
+        return Field {
+            numeral: Numeral::Malformed,
+            next: a,
+        };
+    }
+    let e = field_end(s, a);
+    let n = read_number(&s[a..e]);
+    Field {
+        numeral: n,
+        next: e + 1,
+    }
+}
+
+// The same bytes.
+pub fn same(s: &[u8], w: &[u8]) -> bool
+    ensures { λ r. ⌜ r ≡ same-of (now (s .entry)) (now (w .entry)) ⌝ }
+{
+    if s.len() != w.len() {
+        return false;
+    }
+    let mut i = 0;
+    while i < s.len() {
+        if s[i] != w[i] {
+            return false;
+        }
+        i += 1;
+    }
+    true
+}
+
+// Behind the line that starts at a.
+pub fn line_end(file: &[u8], a: usize) -> usize
+    ensures { λ r. ⌜ (r ≡ a + first-length (lines-of (drop a (now (file .entry)))))
+        × (a < length (now (file .entry)) → (a < r) × (r ≤ length (now (file .entry))) × (lines-of (drop a (now (file .entry))) ≡ take (r - a) (drop a (now (file .entry))) ∷ lines-of (drop r (now (file .entry))))) ⌝ }
+{
+    let mut i = a;
+    while i < file.len() {
+        if file[i] == 10 {
+            return i + 1;
+        }
+        i += 1;
+    }
+    i
+}
