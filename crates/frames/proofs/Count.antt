@@ -39,7 +39,7 @@ module _ (at : ℕ → ℕ) (here n l : ℕ) (first each : List Instr) (six : le
   abbrev less : Instr
   less = I ADDI 7 7 (negsuc 0)
 
-  over-length : (k : ℕ) → length (times-over k each) ≡ 6 * k
+  pub over-length : (k : ℕ) → length (times-over k each) ≡ 6 * k
   over-length zero = refl
   over-length (suc k) = omega (arith, length-append each (times-over k each), over-length k)
 

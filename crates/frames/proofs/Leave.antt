@@ -29,7 +29,7 @@ use Rattle.frames.specs.Mask.{saved, save-cell}
 use Rattle.frames.specs.Items.{at-success, at-epilogue, code, kept, closing, reload, reloads, epilogue}
 use Rattle.frames.proofs.Walk.{resolved-all, resolved-append, resolved-code, Words, words-left, words-right, Stood, stood-left, stood-right, stood-code, piece, behind, behind-label, Came, came-at, hop}
 use Rattle.frames.proofs.Seg.{Seg, seg-join, onward-seg}
-use Rattle.frames.proofs.Rows.{saved-proper}
+use Rattle.frames.proofs.Rows.{saved-proper, proper-fits}
 use Rattle.frames.proofs.Reload.{Loaded, loaded, restoring, return, closing-is, closing-length, restored, Restored}
 use Rattle.frames.proofs.Claim.{Observed-at, exit-words, Leaving}
 
@@ -71,7 +71,7 @@ module _ (Q : Floats) (H : Head) (at : ℕ → ℕ) (s : State) (bottom a here :
   two : (v : State) × Loaded Q P (one .x) (u .mem) bottom (one-does .3 21 (λ z. omega arith) ∙ l .s5) (saved (H .mask)) one v
   two =
       loaded Q P (one .x) (u .mem) bottom (one-does .3 21 (λ z. omega arith) ∙ l .s5) (saved (H .mask)) one refl (one-does .1)
-      (λ r m. let h = saved-proper (H .mask) r m in (ltb→lt r 32 (and-l (ltb r 32) _ h), ltb→lt (save-cell r) 16 (and-l (ltb (save-cell r) 16) _ (and-r (ltb r 32) _ h))))
+      (λ r m. proper-fits r (saved-proper (H .mask) r m))
 
   came : Came Q P u (a + (here + 4 * length (resolved at here (reloads (H .mask))))) (1 + length (saved (H .mask))) (two .0)
   unfolding reloads resolved
@@ -97,10 +97,7 @@ module _ (Q : Floats) (H : Head) (at : ℕ → ℕ) (s : State) (bottom a here :
   )
     where
       at-cell : (r : ℕ) → List·Memᴰ r (saved (H .mask)) → w64 (bottom + 8 * save-cell r) ≡ bottom + 8 * save-cell r
-      at-cell r m =
-          let h = saved-proper (H .mask) r m in
-          let c : save-cell r < 16 = ltb→lt (save-cell r) 16 (and-l (ltb (save-cell r) 16) _ (and-r (ltb r 32) _ h)) in
-          omega (arith, l .room-for-saves r m, l .fits)
+      at-cell r m = omega (arith, proper-fits r (saved-proper (H .mask) r m), l .room-for-saves r m, l .fits)
 
 -- ---- the closing
 

@@ -18,3 +18,4 @@ pub mod Leave
 pub mod LeaveFast
 pub mod LeaveIndirect
 pub mod Closing
+pub mod Valid

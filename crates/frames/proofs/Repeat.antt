@@ -23,8 +23,9 @@ use Rattle.assembler.specs.Resolved.{resolved}
 use Rattle.assembler.specs.declared.Kind.the-variants.{Bne}
 use Rattle.accesses.specs.Code.{li-code}
 use Rattle.frames.specs.Items.{code, times-over, repeated}
-use Rattle.frames.proofs.Walk.{resolved-all, resolved-code, Stands, Words, Stood, piece, behind, behind-label, jump-word, stood-code, Came, came-at, onward, hop}
+use Rattle.frames.proofs.Walk.{Stands, Words, Stood, piece, behind, behind-label, jump-word, stood-code, Came, came-at, onward, hop}
 use Rattle.frames.proofs.Stack.{li}
+use Rattle.frames.proofs.Count.{over-length, row-words, loop-words}
 use Rattle.frames.proofs.Claim.{repeated-steps}
 use Rattle.frames.proofs.Seg.{Seg, seg-join, seg-none, seg-quiet, onward-seg}
 
@@ -78,10 +79,6 @@ module _ (Q : Floats) (P : ℕ → Type 0) (each : List Instr) (n : ℕ) (Inv : 
         let t = over k (suc i) (execs Q each u) (omega arith) (r .inv) in
         (t .0, seg-join {is = each} (record { fit = r .fit; lands = r .lands; end = refl }) (t .1), t .2)
 
-    over-length : (k : ℕ) → length (times-over k each) ≡ 6 * k
-    over-length zero = refl
-    over-length (suc k) = omega (arith, length-append each (times-over k each), over-length k)
-
     -- the loop
     module _ (at : ℕ → ℕ) (s : State) (b : ℕ) (w : Words P (s .mem) b (map encode (each ++ (less ∷ [])))) (j : Words P (s .mem) (b + 28) (encode back ∷ [])) where
       module _ (k i c : ℕ) (u : State) (e : i + suc k ≡ n) (l : suc k < 2 ^ 64) (h : Inv i u) (x : u .x 7 ≡ suc k) (m : Came Q P s b c u) where
@@ -131,11 +128,10 @@ module _ (Q : Floats) (P : ℕ → Type 0) (each : List Instr) (n : ℕ) (Inv : 
       in-row : Stood at P (s .mem) a here (code (first ++ times-over n each)) → (w : State) × Came Q P s (a + (here + 4 * length (resolved at here (code (first ++ times-over n each))))) (c + (length first + 6 * n)) w × Inv n w
       in-row st =
           let o = over n 0 v (omega arith) h in
-          let k : length (resolved at here (code (first ++ times-over n each))) ≡ length first + 6 * n =
-          rw (resolved-all at here (first ++ times-over n each), length-map (first ++ times-over n each) encode, length-append first (times-over n each), over-length n)
-          in (
+          let k = row-words at here n l first each six in
+          let d = over-length at here n l first each six n in (
             o .0,
-            came-at (omega (arith, k, length-append first (times-over n each), over-length n)) (omega (arith, length-append first (times-over n each), over-length n))
+            came-at (omega (arith, k, d, length-append first (times-over n each))) (omega (arith, d, length-append first (times-over n each)))
                 (onward-seg (first ++ times-over n each) (a + here) c u (stood-code here (first ++ times-over n each) st) m (seg-join {is = first} g (o .1))),
             o .2,
           )
@@ -154,11 +150,6 @@ module _ (Q : Floats) (P : ℕ → Type 0) (each : List Instr) (n : ℕ) (Inv : 
           let z : a + there + 28 ≡ a + (there + 28) = omega arith in
           rw (z, ← (back-by there)) (rw (seven, e) at w)
 
-      sized : length (resolved at here (code start ++ (label l ∷ inner))) ≡ length start + 8
-      unfolding resolved
-      sized =
-          rw (resolved-code at here start (label l ∷ inner), length-append (map encode start) (resolved at (here + 4 * length start) inner), length-map start encode, resolved-code at (here + 4 * length start) (each ++ (less ∷ [])) (jump Bne l 0 ∷ []), length-append (map encode (each ++ (less ∷ []))) _, length-map (each ++ (less ∷ [])) encode, seven)
-
       by-loop : Stood at P (s .mem) a here (code start ++ (label l ∷ inner)) → (w : State) × Came Q P s (a + (here + 4 * length (resolved at here (code start ++ (label l ∷ inner))))) (c + (length first + length (li-code 7 (pos n)) + 8 * n)) w × Inv n w
       by-loop st =
           let q = li Q 7 (pos n) v (omega arith) (λ z. omega arith) (le→leb n 0x7FFFF7FF (omega arith)) in
@@ -174,7 +165,7 @@ module _ (Q : Floats) (P : ℕ → Type 0) (each : List Instr) (n : ℕ) (Inv : 
           loop at s (a + there) (piece there (each ++ (less ∷ [])) (jump Bne l 0 ∷ []) st3) (back-word (at l) there (st2 .labels .0) jw) (n - 1) 0 (c + length start) w2
           (omega arith) (omega arith) i2 (q .1 ∙ omega arith) (came-at (omega arith) refl m2)
           in
-          (t .0, came-at (omega (arith, sized, k)) (omega (arith, k)) (t .1), t .2)
+          (t .0, came-at {u = t .0} (omega (arith, loop-words at here n l first each six, k)) (omega (arith, k)) (t .1), t .2)
 
       pub repeat : Stood at P (s .mem) a here (repeated n first each l) → (w : State) × Came Q P s (a + (here + 4 * length (resolved at here (repeated n first each l)))) (c + repeated-steps n (length first)) w × Inv n w
       unfolding repeated

@@ -72,10 +72,10 @@ module _ (Q : Floats) (base n k : ℕ) (u : State) (here : u .x 9 ≡ base) (fit
 -- ---- preserved float registers
 
 -- the register of a cell
-abbrev of-cell : ℕ → ℕ
+abbrev pub of-cell : ℕ → ℕ
 of-cell c = cond (ltb c 6) (c + 4) (c + 12)
 
-abbrev proper : ℕ → Bool
+abbrev pub proper : ℕ → Bool
 proper r = ltb r 32 && (ltb (save-cell r) 16 && eqb r (of-cell (save-cell r)))
 
 and-pair : (a b : Bool) → T a → T b → T (a && b)
@@ -93,6 +93,9 @@ all-chosen p q (r ∷ rs) h = by (p r) (all-chosen p q rs (and-r (q r) _ h))
 pub saved-proper : (mask r : ℕ) → List·Memᴰ r (saved mask) → T (proper r)
 unfolding saved
 saved-proper mask r m = all-mem proper (saved mask) (all-chosen (in-mask mask) proper preserved tt) r m
+
+pub proper-fits : (r : ℕ) → T (proper r) → (r < 32) × (save-cell r < 16)
+proper-fits r h = (ltb→lt r 32 (and-l (ltb r 32) _ h), ltb→lt (save-cell r) 16 (and-l (ltb (save-cell r) 16) _ (and-r (ltb r 32) _ h)))
 
 pub not-ten : (mask r : ℕ) → List·Memᴰ r (saved mask) → r ≢ 10
 not-ten mask r m e = subst (λ (k : ℕ). T (proper k)) e (saved-proper mask r m)

@@ -1,6 +1,6 @@
 -- Going through items that stand in memory: straight pieces, labels and jumps. Assumes nothing.
 use mathlib.Core.Path.{_≡_, refl, ap, sym, _∙_}
-use mathlib.Core.List.{List, [], _∷_, _++_, map}
+use mathlib.Core.List.{List, [], _∷_, _++_, map, map-append}
 use mathlib.Core.Option.{Option, some, none, Option·map}
 use Prim.Native.Nat.{ℕ, zero, suc, _+_, _*_, _%_, _^_, _≤_, _<_}
 use native.Mathlib.Nat.{add-zero}
@@ -81,8 +81,7 @@ module _ (at : ℕ → ℕ) where
   stands-right here (label l ∷ is) js h = stands-right here is js (h .1)
 
 pub code-append : (is js : List Instr) → code is ++ code js ≡ code (is ++ js)
-code-append [] js = refl
-code-append (i ∷ is) js = ap (λ (us : List Item). instr i ∷ us) (code-append is js)
+code-append is js = sym (map-append instr is js)
 
 -- Words that stand at b in the memory m and are never written: P x says that the byte at x may be.
 pub record Words (P : ℕ → Type 0) (m : ℕ → ℕ) (b : ℕ) (ws : List ℕ) : Type 0 where
