@@ -53,7 +53,7 @@ start-floats H s zero = by (table-used H s)
 start-floats H s (suc n) = last-state (table-used H s) (s .f) (λ k. load8 (s .mem) (table-cell H s k)) n
 
 -- a saved register's cell has a cap of 16
-saves-room : (H : Head) → T (cap-holds H) → (r : ℕ) → List·Memᴰ r (saved (H .mask)) → 16 ≤ H .cap
+pub saves-room : (H : Head) → T (cap-holds H) → (r : ℕ) → List·Memᴰ r (saved (H .mask)) → 16 ≤ H .cap
 saves-room H h r m = by (leb 16 (H .cap)) refl (saved (H .mask)) h m
   where
     by : (b : Bool) → leb 16 (H .cap) ≡ b → (rs : List ℕ) → T (b || eqb (length rs) 0) → List·Memᴰ r rs → 16 ≤ H .cap
@@ -82,8 +82,8 @@ module _ (Q : Floats) (p : Program) (g : Good p) (s : State) (o : Sound s) (c : 
   abbrev H : Head
   H = p .head
 
-  l : Lies H (code-length p) s
-  l = lies H (code-length p) s o (g .counts) t
+  pub lying : Lies H (code-length p) s
+  lying = lies H (code-length p) s o (g .counts) t
 
   entry-span : span (entry p) ≤ code-length p
   unfolding items
@@ -97,17 +97,17 @@ module _ (Q : Floats) (p : Program) (g : Good p) (s : State) (o : Sound s) (c : 
         room-for-saves = saves-room H (g .cap);
         sound = o;
         start = t .code-aligned;
-        fits = l .top;
-        sp = l .sp;
+        fits = lying .top;
+        sp = lying .sp;
         code = entry-part p (s .mem) (s .pc) (o .pc) c;
         labels = entry-stands p;
-        code-fits = omega (arith, l .code-top, entry-span);
-        code-apart = λ x b d f. let v = inside (s .pc) (code-length p) x (l .code-top) b (omega (arith, entry-span)) in l .code-frame x v f;
-        table-fits = l .table-top;
-        table-apart = λ h x b d f. l .table-frame h x (inside (s .x 11) (16 * cells H) x (l .table-top h) b d) f;
+        code-fits = omega (arith, lying .code-top, entry-span);
+        code-apart = λ x b d f. let v = inside (s .pc) (code-length p) x (lying .code-top) b (omega (arith, entry-span)) in lying .code-frame x v f;
+        table-fits = lying .table-top;
+        table-apart = λ h x b d f. lying .table-frame h x (inside (s .x 11) (16 * cells H) x (lying .table-top h) b d) f;
         states-apart = λ h i k x b d f. t .state-cells h i k .0 (dist (table-cell H s i) x) d (rw (dist-back (table-cell H s i) x b) f);
-        block-fits = l .block-top;
-        block-apart = λ h x b d f. l .block-frame h x (inside (s .x 10) (8 * cells H) x (l .block-top h) b d) f;
+        block-fits = lying .block-top;
+        block-apart = λ h x b d f. lying .block-frame h x (inside (s .x 10) (8 * cells H) x (lying .block-top h) b d) f;
       }
 
   pub opened : (u : State) × Ready Q H (place p) s (bottom H s) u
@@ -121,8 +121,8 @@ module _ (Q : Floats) (p : Program) (g : Good p) (s : State) (o : Sound s) (c : 
   abbrev r : Ready Q H (place p) s (bottom H s) ready
   r = opened .1
 
-  mem-base-is : base H s Mem ≡ mem-at H s (bottom H s)
-  mem-base-is = by (holds-mem (H .frame) (s .x 11)) (l .mem-base)
+  pub mem-base-is : base H s Mem ≡ mem-at H s (bottom H s)
+  mem-base-is = by (holds-mem (H .frame) (s .x 11)) (lying .mem-base)
     where
       by : (b : Bool) → (T b → cond b (w64 (bottom H s + stack-size H)) (s .x 10) ≡ bottom H s + stack-size H) → cond b (w64 (bottom H s + stack-size H)) (s .x 10) ≡ cond b (bottom H s + stack-size H) (s .x 10)
       by true h = h tt
@@ -140,25 +140,25 @@ module _ (Q : Floats) (p : Program) (g : Good p) (s : State) (o : Sound s) (c : 
       by Indirect e true f = rw f (ap (λ (a : ℕ). load8 (s .mem) (w64 (a + 8 * i))) (block e f))
       by Indirect e false f = rw f
 
-  outside-frame : (x : ℕ) → x < 2 ^ 64 → ((bottom H s ≤ x) × (x < bottom H s + frame-bytes H s) → ⊥) → ready .mem x ≡ s .mem x
+  pub outside-frame : (x : ℕ) → x < 2 ^ 64 → ((bottom H s ≤ x) × (x < bottom H s + frame-bytes H s) → ⊥) → ready .mem x ≡ s .mem x
   outside-frame x b f = r .mem x b f
 
-  start-cell : (q : Place) (i : ℕ) → i < cell-count H q → load8 (ready .mem) (w64 (base H s q + 8 * i)) ≡ start-cells H s q i
+  pub start-cell : (q : Place) (i : ℕ) → i < cell-count H q → load8 (ready .mem) (w64 (base H s q + 8 * i)) ≡ start-cells H s q i
   start-cell Mem i h = rw mem-base-is (by (ltb i (H .states)) refl)
     where
       by : (b : Bool) → ltb i (H .states) ≡ b → load8 (ready .mem) (w64 (mem-at H s (bottom H s) + 8 * i)) ≡ cond b (state-value H s (H .frame) i) (load8 (s .mem) (w64 (mem-at H s (bottom H s) + 8 * i)))
       by true e = r .states i (ltb-true i (H .states) e) ∙ state-is i
       by false e = r .mem-cells i (ltb-false i (H .states) e) h
   start-cell Stack i h =
-      rw (at-cell (l .rooms) Stack i h)
-      (stack-found H s (ready .mem) (bottom H s) i (saved (H .mask)) (r .saved-cells) (λ none-here. r .stack-cells i h none-here ∙ rw (at-cell (l .rooms) Stack i h)))
+      rw (at-cell (lying .rooms) Stack i h)
+      (stack-found H s (ready .mem) (bottom H s) i (saved (H .mask)) (r .saved-cells) (λ none-here. r .stack-cells i h none-here ∙ rw (at-cell (lying .rooms) Stack i h)))
   start-cell Param i h =
-      let e : w64 (s .x 13 + 8 * i) ≡ s .x 13 + 8 * i = at-cell (l .rooms) Param i h in
+      let e : w64 (s .x 13 + 8 * i) ≡ s .x 13 + 8 * i = at-cell (lying .rooms) Param i h in
       rw e
       (load8-local (ready .mem) (s .mem) (s .x 13 + 8 * i)
       (λ x b d.
-      let v = inside (s .x 13 + 8 * i) 8 x (omega (arith, l .rooms .fits Param (omega arith))) b d in
-      outside-frame x b (l .param-frame x (omega (arith, v .0), omega (arith, v .1)))))
+      let v = inside (s .x 13 + 8 * i) 8 x (omega (arith, lying .rooms .fits Param (omega arith))) b d in
+      outside-frame x b (lying .param-frame x (omega (arith, v .0), omega (arith, v .1)))))
 
   -- it stands where the reading starts
   pub start-rel : Rel Q p (base H s) (s .pc) (ready .x) (ready .mem) (start H s) ready
@@ -178,16 +178,16 @@ module _ (Q : Floats) (p : Program) (g : Good p) (s : State) (o : Sound s) (c : 
   ground =
       record {
         good = g;
-        rooms = l .rooms;
+        rooms = lying .rooms;
         start-aligned = t .code-aligned;
         start-small = o .pc;
-        code-fits = l .code-top;
-        off-code = l .off-code;
+        code-fits = lying .code-top;
+        off-code = lying .off-code;
         bases = bases;
         code =
             let e = resolved-length (place p) 0 (items p) in
-            code-kept (s .mem) (ready .mem) (s .pc) (routine-words p) (omega (arith, l .code-top))
-            (λ x b d. outside-frame x b (λ f. l .code-frame x (inside (s .pc) (code-length p) x (l .code-top) b (omega arith)) f))
+            code-kept (s .mem) (ready .mem) (s .pc) (routine-words p) (omega (arith, lying .code-top))
+            (λ x b d. outside-frame x b (λ f. lying .code-frame x (inside (s .pc) (code-length p) x (lying .code-top) b (omega arith)) f))
             c;
       }
     where

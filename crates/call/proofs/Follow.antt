@@ -93,7 +93,7 @@ module _ (Q : Floats) (p : Program) (A : Place → ℕ) (start : ℕ) (x0 m0 : �
 
   module _ (g : Ground) where
     -- the code still stands
-    code-now : (r : Reading) (s : State) → Rel r s → CodeAt (s .mem) start (routine-words p)
+    pub code-now : (r : Reading) (s : State) → Rel r s → CodeAt (s .mem) start (routine-words p)
     code-now r s h =
         let e = resolved-length (place p) 0 (items p) in
         code-kept m0 (s .mem) start (routine-words p) (omega (arith, g .code-fits))

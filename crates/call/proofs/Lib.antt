@@ -9,3 +9,6 @@ pub mod Forth
 pub mod Saved
 pub mod Lies
 pub mod Entered
+pub mod Bytes
+pub mod Left
+pub mod Call

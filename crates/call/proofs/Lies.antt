@@ -5,8 +5,9 @@ use mathlib.Core.List.{List, [], _∷_}
 use Prim.Native.Nat.{ℕ, zero, suc, _+_, _-_, _*_, _%_, _^_, _≤_, _<_}
 use native.Mathlib.Omega.{arith}
 use lib.Dec.{T, eqb, ltb, leb, leb→le}
-use Rattle.machine.specs.Word.{w64}
+use Rattle.machine.specs.Word.{w64, dist}
 use Rattle.machine.specs.State.{State, Sound}
+use Rattle.machine.proofs.Memory.{dist-back}
 use Rattle.machine.proofs.Effects.{and-l, and-r}
 use Rattle.order.specs.declared.Place.{Place}
 use Rattle.order.specs.declared.Place.the-variants.{Mem, Stack, Param}
@@ -16,7 +17,7 @@ use Rattle.order.specs.declared.Head.{Head}
 use Rattle.frames.specs.Size.{align16, cells, uses-table, holds-mem, frame-size, stack-size, below-saves, whole-size}
 use Rattle.frames.specs.Fault.{epilogue-holds}
 use Rattle.call.specs.Plain.{same-place}
-use Rattle.call.specs.Terms.{cell-count, table-used, frame-bytes, bottom, base, Region, Within, code, frame, table, block, params, regions, Separate, Terms}
+use Rattle.call.specs.Terms.{cell-count, table-used, frame-bytes, bottom, base, table-cell, Region, Within, code, frame, table, block, params, regions, Separate, Terms}
 use Rattle.call.proofs.Cells.{Inside, Rooms}
 
 pub record Lies (H : Head) (len : ℕ) (s : State) : Type 0 where
@@ -39,6 +40,8 @@ pub record Lies (H : Head) (len : ℕ) (s : State) : Type 0 where
   pub table-top : T (table-used H s) → s .x 11 + 16 * cells H ≤ 2 ^ 64
   pub table-frame : T (table-used H s) → (x : ℕ) → Within (table H len s) x → Within (frame H len s) x → ⊥
   pub off-table : T (table-used H s) → (q : Place) (x : ℕ) → Inside (base H s q) (cell-count H q) x → Within (table H len s) x → ⊥
+  -- observation cells
+  pub obs-off : T (table-used H s) → (i : ℕ) → i < H .obs → (x : ℕ) → x < 2 ^ 64 → dist (table-cell H s (H .states + i)) x < 8 → (Within (code H len s) x → ⊥) × (Within (frame H len s) x → ⊥) × (Within (table H len s) x → ⊥) × (Inside (base H s Param) (cell-count H Param) x → ⊥)
   -- the block
   pub block-top : T (not (holds-mem (H .frame) (s .x 11))) → s .x 10 + 8 * cells H ≤ 2 ^ 64
   pub block-frame : T (not (holds-mem (H .frame) (s .x 11))) → (x : ℕ) → Within (block H len s) x → Within (frame H len s) x → ⊥
@@ -170,6 +173,7 @@ module _ (cap states obs last mask : ℕ) (len : ℕ) (s : State) (o : Sound s) 
           table-top = λ h. absurd h;
           table-frame = λ h. absurd h;
           off-table = λ h. absurd h;
+          obs-off = λ h. absurd h;
           block-top = λ h. absurd h;
           block-frame = λ h. absurd h;
         }
@@ -237,6 +241,14 @@ module _ (cap states obs last mask : ℕ) (len : ℕ) (s : State) (o : Sound s) 
       off2 Stack x u v = sep2 .2 .1 .1 .0 x (stack2 x u) v
       off2 Param x u v = sep2 .2 .2 .1 .0 x u v
 
+      obs2 : T (not (eqb (s .x 11) 0)) → (i : ℕ) → i < obs → (x : ℕ) → x < 2 ^ 64 → dist (table-cell (head Indirect) s (states + i)) x < 8 → (Within (code (head Indirect) len s) x → ⊥) × (Within (frame (head Indirect) len s) x → ⊥) × (Within (table (head Indirect) len s) x → ⊥) × (Within (params (head Indirect) len s) x → ⊥)
+      obs2 h i k x b d =
+          let a : ℕ = table-cell (head Indirect) s (states + i) in
+          let y : w64 (a + dist a x) ≡ x = dist-back a x b in
+          let v = t .obs-cells h i k in
+          let w = rw e at (v .1 .1 .1 .0) in
+          (rw y at (v .0 (dist a x) d), rw y at (v .1 .0 (dist a x) d), rw y at (w (dist a x) d), rw y at (v .1 .1 .0 (dist a x) d))
+
       table-lies : Lies (head Indirect) len s
       table-lies =
           record {
@@ -254,6 +266,7 @@ module _ (cap states obs last mask : ℕ) (len : ℕ) (s : State) (o : Sound s) 
             table-top = λ h. ending (s .x 11) (16 * (states + obs)) (o .x 11) (sep2 .2 .2 .2 .0);
             table-frame = rw e (λ h x u v. sep2 .2 .1 .1 .0 x v u);
             off-table = λ h q x u. off2 q x (rw (base2 q) at u);
+            obs-off = λ h i k x b d. obs2 h i k x b d;
             block-top = rw e (λ h. absurd h);
             block-frame = rw e (λ h. absurd h);
           }
@@ -321,6 +334,7 @@ module _ (cap states obs last mask : ℕ) (len : ℕ) (s : State) (o : Sound s) 
             table-top = rw e (λ h. absurd h);
             table-frame = rw e (λ h. absurd h);
             off-table = rw e (λ h. absurd h);
+            obs-off = rw e (λ h. absurd h);
             block-top = λ h. ending (s .x 10) (8 * (states + obs)) (o .x 10) (sep3 .2 .2 .2 .0);
             block-frame = rw e (λ h x u v. sep3 .2 .1 .1 .0 x v u);
           }

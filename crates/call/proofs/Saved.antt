@@ -121,7 +121,10 @@ module _ (mask : ℕ) where
 
 -- ---- along a reading
 
+-- The rounding mode and the bytes of observation cells stay too.
 pub record Held (mask : ℕ) (r t : Reading) : Type 0 where
+  pub rm : t .rm ≡ r .rm
+  pub obs : t .obs ≡ r .obs
   pub registers : (y : ℕ) → Guarded mask y → t .f y ≡ r .f y
   pub cells : (y : ℕ) → List·Memᴰ y (saved mask) → t .cells Stack (save-cell y) ≡ r .cells Stack (save-cell y)
 
@@ -133,14 +136,16 @@ module _ (Q : Floats) (p : Program) (g : Good p) where
   step-held e (does {r = r} {o = o} q) =
       let h = g .orders (r .line) o e .saves in
       record {
+        rm = refl;
+        obs = refl;
         registers = λ y v. register-kept mask Q (r .f) (r .rm) y v (r .cells) _ o (and-l (all-hold (free mask) (writes o)) _ h);
         cells = λ y m. cell-kept mask Q (r .f) (r .rm) y m (r .cells) _ o (and-r (all-hold (free mask) (writes o)) _ h);
       }
-  step-held e passes = record { registers = λ y v. refl; cells = λ y m. refl }
+  step-held e passes = record { rm = refl; obs = refl; registers = λ y v. refl; cells = λ y m. refl }
 
   pub held : {r t : Reading} {k : ℕ} → Reads Q p r k t → Held mask r t
-  held none-read = record { registers = λ y v. refl; cells = λ y m. refl }
+  held none-read = record { rm = refl; obs = refl; registers = λ y v. refl; cells = λ y m. refl }
   held (line-read e w q) =
       let a = step-held e w in
       let b = held q in
-      record { registers = λ y v. b .registers y v ∙ a .registers y v; cells = λ y m. b .cells y m ∙ a .cells y m }
+      record { rm = b .rm ∙ a .rm; obs = b .obs ∙ a .obs; registers = λ y v. b .registers y v ∙ a .registers y v; cells = λ y m. b .cells y m ∙ a .cells y m }

@@ -73,7 +73,7 @@ unfolding fault
 label-low l e = leb→le l 1023 (passed (leb l 1023) 0 2 e .0)
 
 -- the first lines take no more than all
-part : (n : ℕ) (ls : List Line) → span (body (take n ls)) ≤ span (body ls)
+pub part : (n : ℕ) (ls : List Line) → span (body (take n ls)) ≤ span (body ls)
 unfolding body span
 part zero ls = omega arith
 part (suc n) [] = omega arith

@@ -3,3 +3,4 @@ pub mod Plain
 pub mod Terms
 pub mod Layout
 pub mod Good
+pub mod Claim
