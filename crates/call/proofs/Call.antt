@@ -33,7 +33,9 @@ use Rattle.call.specs.Plain.{Reading, Reads, Ended}
 use Rattle.call.specs.Terms.{table-used, frame-bytes, bottom, base, cell-count, cell-address, as-called, table-cell, start-f, start, observed, end-obs, Within, frame, Terms}
 use Rattle.call.specs.Layout.{place, code-length, routine-words, line-offset}
 use Rattle.call.specs.Good.{member, Good}
-use Rattle.call.specs.Claim.{callers, frame-steps, Byte-of, Observation, Returned, Claim}
+use Rattle.call.specs.Claim.{callers, frame-steps, Byte-of, Observation, Returned, Called, Claim, ForwardClaim}
+use Rattle.call.proofs.Forth.{ends}
+use Rattle.call.proofs.Words.{code-stands}
 use Rattle.call.proofs.Cells.{Inside, at-cell}
 use Rattle.call.proofs.Bytes.{same-bytes, observed-is, observed-same, observed-miss}
 use Rattle.call.proofs.Follow.{lasting, Rel, Comes, follows}
@@ -273,4 +275,10 @@ module _ (Q : Floats) (p : Program) (g : Good p) (s : State) (o : Sound s) (c : 
       }
 
 pub call : Claim
-call = returned
+call Q p g s c n r q z =
+    returned Q p g s (c .sound) (code-stands p g (s .mem) (s .pc) (c .sound .pc) (c .code)) (c .terms) n r q z
+
+pub forward-call : ForwardClaim
+forward-call Q p g f s c =
+    let e = ends Q p g f (start (p .head) s) in
+    (e .0, e .1, e .2, e .3, call Q p g s c (e .0) (e .1) (e .2) (e .3))

@@ -105,11 +105,11 @@ module _ (l : ℕ) where
 
 -- ---- labels that are set once
 
--- each label has K, and none is set twice
+-- no raw word; each label has K, and none is set twice
 abbrev pub Fresh : List Item → (ℕ → Type 0) → Type 0
 Fresh [] K = Unit {0}
 Fresh (instr i ∷ xs) K = Fresh xs K
-Fresh (raw w ∷ xs) K = Fresh xs K
+Fresh (raw w ∷ xs) K = ⊥
 Fresh (jump k m r ∷ xs) K = Fresh xs K
 Fresh (label m ∷ xs) K = K m × Fresh xs (λ l. K l × (m ≡ l → ⊥))
 
@@ -121,7 +121,7 @@ pub fresh-then : (xs : List Item) (is : List Instr) (K : ℕ → Type 0) → Fre
 fresh-then [] [] K f = tt
 fresh-then [] (i ∷ is) K f = fresh-then [] is K f
 fresh-then (instr i ∷ xs) is K f = fresh-then xs is K f
-fresh-then (raw w ∷ xs) is K f = fresh-then xs is K f
+fresh-then (raw w ∷ xs) is K f = f
 fresh-then (jump k m r ∷ xs) is K f = fresh-then xs is K f
 fresh-then (label m ∷ xs) is K f = (f .0, fresh-then xs is (λ l. K l × (m ≡ l → ⊥)) (f .1))
 
@@ -129,7 +129,7 @@ fresh-then (label m ∷ xs) is K f = (f .0, fresh-then xs is (λ l. K l × (m �
 pub fresh-unset : (l : ℕ) (xs : List Item) (K : ℕ → Type 0) → Fresh xs K → (K l → ⊥) → Unset l xs
 fresh-unset l [] K f n = tt
 fresh-unset l (instr i ∷ xs) K f n = fresh-unset l xs K f n
-fresh-unset l (raw w ∷ xs) K f n = fresh-unset l xs K f n
+fresh-unset l (raw w ∷ xs) K f n = absurd f
 fresh-unset l (jump k m r ∷ xs) K f n = fresh-unset l xs K f n
 fresh-unset l (label m ∷ xs) K f n = (λ e. n (subst K e (f .0)), fresh-unset l xs (λ k. K k × (m ≡ k → ⊥)) (f .1) (λ v. n (v .0)))
 
@@ -138,7 +138,7 @@ pub stands-of : (at : ℕ → ℕ) (h : ℕ) (xs ys : List Item) (K : ℕ → Ty
 unfolding label-place
 stands-of at h [] ys K f e = tt
 stands-of at h (instr i ∷ xs) ys K f e = stands-of at (h + 4) xs ys K f e
-stands-of at h (raw w ∷ xs) ys K f e = stands-of at (h + 4) xs ys K f e
+stands-of at h (raw w ∷ xs) ys K f e = absurd f
 stands-of at h (jump k m r ∷ xs) ys K f e = stands-of at (h + 4) xs ys K f e
 stands-of at h (label m ∷ xs) ys K f e = (
   rw (eq-eqb m m refl) at (e m (f .0)),

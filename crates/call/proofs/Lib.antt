@@ -12,3 +12,4 @@ pub mod Entered
 pub mod Bytes
 pub mod Left
 pub mod Call
+pub mod Words

@@ -6,15 +6,16 @@ use lib.Dec.{T}
 use Rattle.machine.specs.Word.{w64, load8}
 use Rattle.machine.specs.Floats.{Floats}
 use Rattle.machine.specs.State.{State, Sound}
-use Rattle.machine.specs.Step.{CodeAt, Run}
+use Rattle.machine.specs.Step.{Loaded, Run}
 use Rattle.order.specs.declared.Place.{Place}
 use Rattle.order.specs.declared.Place.the-variants.{Mem}
 use Rattle.order.specs.declared.Head.{Head}
 use Rattle.order.specs.declared.Frame.the-variants.{Fast}
+use Rattle.assembler.specs.Bytes.{bytes}
 use Rattle.frames.specs.Mask.{preserved}
 use Rattle.frames.proofs.Claim.{prologue-steps, epilogue-steps}
 use Rattle.call.specs.Program.{Program}
-use Rattle.call.specs.Plain.{Reading, Reads, Ended}
+use Rattle.call.specs.Plain.{Reading, Reads, Ended, Forward}
 use Rattle.call.specs.Terms.{table-used, cell-count, cell-address, as-called, table-cell, start, end-obs, Within, frame, Terms}
 use Rattle.call.specs.Layout.{code-length, routine-words}
 use Rattle.call.specs.Good.{member, Good}
@@ -53,8 +54,18 @@ pub record Returned (Q : Floats) (p : Program) (s : State) (n : ℕ) (r : Readin
   -- every byte outside the frame, the observation cells, and the cells whose value the reading changed
   pub rest : (x : ℕ) → x < 2 ^ 64 → (Within (frame (p .head) (code-length p) s) x → ⊥) → (Observation (p .head) s x → ⊥) → ((q : Place) (i : ℕ) → i < cell-count (p .head) q → Byte-of (cell-address (p .head) s q i) x → r .cells q i ≡ as-called (p .head) s q i) → end .mem x ≡ s .mem x
 
--- For every Floats, good program and state at whose pc the program's words stand, under the terms of a call:
--- where the plain reading from the call's start ends, the machine comes back, as the reading says.
+-- The call at s: a machine's state, with the bytes of the program's words from pc on, under the terms of a call.
+pub record Called (p : Program) (s : State) : Type 0 where
+  pub sound : Sound s
+  pub code : Loaded (s .mem) (s .pc) (bytes (routine-words p))
+  pub terms : Terms (p .head) (code-length p) s
+
+-- For every Floats, good program and call: where the plain reading from the call's start ends, the machine comes back as the reading says.
 abbrev pub Claim : Type 0
 Claim =
-    (Q : Floats) (p : Program) → Good p → (s : State) → Sound s → CodeAt (s .mem) (s .pc) (routine-words p) → Terms (p .head) (code-length p) s → (n : ℕ) (r : Reading) → Reads Q p (start (p .head) s) n r → Ended Q p r → Returned Q p s n r
+    (Q : Floats) (p : Program) → Good p → (s : State) → Called p s → (n : ℕ) (r : Reading) → Reads Q p (start (p .head) s) n r → Ended Q p r → Returned Q p s n r
+
+-- And it ends where branches go forward.
+abbrev pub ForwardClaim : Type 0
+ForwardClaim =
+    (Q : Floats) (p : Program) → Good p → Forward p → (s : State) → Called p s → (n : ℕ) × (r : Reading) × Reads Q p (start (p .head) s) n r × Ended Q p r × Returned Q p s n r

@@ -3,9 +3,9 @@ use mathlib.Core.Path.{_≡_}
 use mathlib.Core.Bool.{Bool, true, false, not, _&&_, _||_, cond}
 use mathlib.Core.List.{List, [], _∷_, map}
 use mathlib.Core.Option.{some, IsSome}
-use Prim.Native.Nat.{ℕ, _≤_, _<_}
+use Prim.Native.Nat.{ℕ, _^_, _≤_, _<_}
 use lib.Dec.{T, eqb, ltb, leb}
-use lib.ListN.{length, getElem?}
+use lib.ListN.{length, getD, getElem?}
 use Rattle.order.specs.declared.Place.{Place}
 use Rattle.order.specs.declared.Place.the-variants.{Mem, Stack, Param}
 use Rattle.order.specs.declared.Unary as U
@@ -117,5 +117,7 @@ pub record Good (p : Program) : Type 0 where
   pub counts : T (epilogue-holds (p .head))
   pub cap : T (cap-holds (p .head))
   pub orders : (n : ℕ) (o : Order) → getElem? (p .lines) n ≡ some (order o) → GoodOrder p o
+  -- a constant has 64 bits
+  pub bits : (k : ℕ) → k < length (constants (p .lines)) → getD (constants (p .lines)) k 0 < 2 ^ 64
   -- 7: all words have room
   pub room : code-length p ≤ 65536
