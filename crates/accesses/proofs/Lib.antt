@@ -6,3 +6,5 @@ pub mod Stack
 pub mod Runs
 pub mod Table
 pub mod Edges
+pub mod Collect
+pub mod Numbers

@@ -1,3 +1,4 @@
 pub mod Code
 pub mod Fault
 pub mod Stands
+pub mod Plans

@@ -1,1 +1,206 @@
-// mod.rs, accesses: li, loads, stores, pairs and stack sizes.
+// mod.rs, accesses: li, loads, stores, pairs and stack sizes. Each is placed whole, or refused and nothing changes.
+// A plan's words are the encoder's answers, collected; orders above go on from a plan.
+ghost use mathlib.Core.Path.{_≡_};
+ghost use mathlib.Core.List.{[], _∷_, map};
+ghost use Prim.Native.Nat.{_+_, _≤_, _<_};
+ghost use lib.IntN.{pos, negℤ};
+ghost use Rattle.isa.specs.Immediate.{hi, lo};
+ghost use Rattle.isa.specs.Instr.{R, I, U, ADD, ADDI, LUI};
+ghost use Rattle.assembler.specs.Item.{instr};
+ghost use Rattle.assembler.specs.State.{state, outcome};
+ghost use Rattle.assembler.specs.Put.{put};
+ghost use Rattle.accesses.specs.Code.{li-code, point-code, load-float-code, save-float-code, load-int-code, load-complex-code, save-complex-code, sub-stack-code, add-stack-code, allocate-stack-code};
+ghost use Rattle.accesses.specs.Fault.{li-fault, one-fault, pair-fault, stack-fault};
+ghost use Rattle.accesses.specs.Plans.{pushes, plan-of};
+use assembler::Asm;
+use assembler::Done;
+use assembler::Plan;
+use assembler::Tail;
+use encoder::Encoded;
+use encoder::Sign;
+
+const SP: u32 = 2;
+
+const T0: u32 = 5;
+
+const STACK: u32 = 21;
+
+// ---- plans of one to five words
+
+pub fn one(a: Encoded) -> Plan
+    ensures { λ r. ⌜ r ≡ pushes (a ∷ []) ⌝ }
+{
+    assembler::push(assembler::no_plan(), a)
+}
+
+pub fn two(a: Encoded, b: Encoded) -> Plan
+    ensures { λ r. ⌜ r ≡ pushes (a ∷ b ∷ []) ⌝ }
+{
+    assembler::push(one(a), b)
+}
+
+pub fn three(a: Encoded, b: Encoded, c: Encoded) -> Plan
+    ensures { λ r. ⌜ r ≡ pushes (a ∷ b ∷ c ∷ []) ⌝ }
+{
+    assembler::push(two(a, b), c)
+}
+
+pub fn four(a: Encoded, b: Encoded, c: Encoded, d: Encoded) -> Plan
+    ensures { λ r. ⌜ r ≡ pushes (a ∷ b ∷ c ∷ d ∷ []) ⌝ }
+{
+    assembler::push(three(a, b, c), d)
+}
+
+pub fn five(a: Encoded, b: Encoded, c: Encoded, d: Encoded, e: Encoded) -> Plan
+    ensures { λ r. ⌜ r ≡ pushes (a ∷ b ∷ c ∷ d ∷ e ∷ []) ⌝ }
+{
+    assembler::push(four(a, b, c, d), e)
+}
+
+// ---- li
+
+// The 32-bit number x in two words.
+fn wide(d: u32, x: u32) -> Plan
+    ensures { λ r. ⌜ r ≡ plan-of (U LUI d (pos (hi x)) ∷ I ADDI d d (lo x) ∷ []) ⌝ }
+{
+    two(
+        encoder::lui(d, encoder::hi(x)),
+        encoder::addi(d, d, encoder::lo(x)),
+    )
+}
+
+pub fn li_plan(d: u32, z: i32) -> Plan
+    ensures { λ r. ⌜ r ≡ plan-of (li-code d z) ⌝ }
+{
+    let s = encoder::split(z);
+    match s {
+        Sign::NonNeg(n) => {
+            if n < 2048 {
+                return one(encoder::addi(d, 0, z));
+            }
+            wide(d, n)
+        }
+        Sign::Neg(n) => {
+            if n < 2048 {
+                return one(encoder::addi(d, 0, z));
+            }
+            wide(d, 4294967295 - n)
+        }
+    }
+}
+
+// ---- accesses: direct where the offset is near, else through t0
+
+// t0 = n
+fn li_offset(n: u32) -> Plan
+    ensures { λ r. ⌜ r ≡ plan-of (li-code 5 (pos n)) ⌝ }
+{
+    if n < 2048 {
+        return one(encoder::addi(T0, 0, n as i32));
+    }
+    wide(T0, n)
+}
+
+// t0 = base + n
+fn point(base: u32, n: u32) -> Plan
+    ensures { λ r. ⌜ r ≡ plan-of (point-code base n) ⌝ }
+{
+    assembler::push(li_offset(n), encoder::add(T0, T0, base))
+}
+
+pub fn load_float_plan(d: u32, base: u32, n: u32) -> Plan
+    ensures { λ r. ⌜ r ≡ plan-of (load-float-code d base n) ⌝ }
+{
+    if n < 2048 {
+        return one(encoder::fld(d, base, n as i32));
+    }
+    assembler::push(point(base, n), encoder::fld(d, T0, 0))
+}
+
+pub fn save_float_plan(s: u32, base: u32, n: u32) -> Plan
+    ensures { λ r. ⌜ r ≡ plan-of (save-float-code s base n) ⌝ }
+{
+    if n < 2048 {
+        return one(encoder::fsd(s, base, n as i32));
+    }
+    assembler::push(point(base, n), encoder::fsd(s, T0, 0))
+}
+
+pub fn load_int_plan(d: u32, base: u32, n: u32) -> Plan
+    ensures { λ r. ⌜ r ≡ plan-of (load-int-code d base n) ⌝ }
+{
+    if n < 2048 {
+        return one(encoder::ld(d, base, n as i32));
+    }
+    assembler::push(point(base, n), encoder::ld(d, T0, 0))
+}
+
+// Pairs are placed only where r is below 31, so the sum fits.
+fn load_complex_plan(r: u32, base: u32, n: u32) -> Plan
+    requires { ⌜ (r < 31) × (n ≤ 0x7FFFF7FF) ⌝ }
+    ensures { λ p. ⌜ p ≡ plan-of (load-complex-code r base n) ⌝ }
+{
+    if n < 2040 {
+        return two(
+            encoder::fld(r, base, n as i32),
+            encoder::fld(r + 1, base, (n + 8) as i32),
+        );
+    }
+    let p = assembler::push(point(base, n), encoder::fld(r, T0, 0));
+    assembler::push(p, encoder::fld(r + 1, T0, 8))
+}
+
+fn save_complex_plan(r: u32, base: u32, n: u32) -> Plan
+    requires { ⌜ (r < 31) × (n ≤ 0x7FFFF7FF) ⌝ }
+    ensures { λ p. ⌜ p ≡ plan-of (save-complex-code r base n) ⌝ }
+{
+    if n < 2040 {
+        return two(
+            encoder::fsd(r, base, n as i32),
+            encoder::fsd(r + 1, base, (n + 8) as i32),
+        );
+    }
+    let p = assembler::push(point(base, n), encoder::fsd(r, T0, 0));
+    assembler::push(p, encoder::fsd(r + 1, T0, 8))
+}
+
+// ---- stack sizes
+
+// -n
+fn minus(n: u32) -> i32
+    requires { ⌜ n ≤ 0x7FFFFFFF ⌝ }
+    ensures { λ r. ⌜ r ≡ negℤ (pos n) ⌝ }
+{
+    0 - (n as i32)
+}
+
+fn sub_stack_plan(n: u32) -> Plan
+    requires { ⌜ n ≤ 0x7FFFF7FF ⌝ }
+    ensures { λ r. ⌜ r ≡ plan-of (sub-stack-code n) ⌝ }
+{
+    if n < 2048 {
+        return one(encoder::addi(SP, SP, minus(n)));
+    }
+    assembler::push(li_plan(T0, minus(n)), encoder::add(SP, SP, T0))
+}
+
+fn add_stack_plan(n: u32) -> Plan
+    requires { ⌜ n ≤ 0x7FFFF7FF ⌝ }
+    ensures { λ r. ⌜ r ≡ plan-of (add-stack-code n) ⌝ }
+{
+    if n < 2048 {
+        return one(encoder::addi(SP, SP, n as i32));
+    }
+    assembler::push(li_offset(n), encoder::add(SP, SP, T0))
+}
+
+fn allocate_stack_plan(n: u32) -> Plan
+    requires { ⌜ n ≤ 0x7FFFF7FF ⌝ }
+    ensures { λ r. ⌜ r ≡ plan-of (allocate-stack-code n) ⌝ }
+{
+    if n < 2048 {
+        return two(encoder::addi(SP, SP, minus(n)), encoder::mv(STACK, SP));
+    }
+    let p = assembler::push(li_offset(n), encoder::sub(SP, SP, T0));
+    assembler::push(p, encoder::mv(STACK, SP))
+}

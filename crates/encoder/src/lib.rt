@@ -249,12 +249,12 @@ fn rounding(rm: u32) -> bool
 }
 
 // A signed number by its sign: n for NonNeg(n), -1 - n for Neg(n).
-enum Sign {
+pub enum Sign {
     NonNeg(u32),
     Neg(u32),
 }
 
-fn split(z: i32) -> Sign
+pub fn split(z: i32) -> Sign
     ensures { λ r. ⌜ r ≡ sign-of z ⌝ }
 {
     if z >= 0 {

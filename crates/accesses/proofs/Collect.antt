@@ -1,0 +1,196 @@
+-- The encoder's answers for valid instructions, collected, are a plan of their words. Assumes nothing.
+use mathlib.Core.Path.{_≡_, refl, sym, ap, ap₂, _∙_}
+use mathlib.Core.Bool.{Bool, true, false, cond}
+use mathlib.Core.List.{List, [], _∷_, _++_, map, map-append, append-nil}
+use Prim.Native.Nat.{ℕ, zero, suc, _+_, _-_, _%_, _≤_, _<_, min}
+use native.Mathlib.Nat.{min-eq-left, mod-eq-of-lt}
+use native.Mathlib.Omega.{arith}
+use native.Mathlib.Numerals.{add-one}
+use borrow.Author.Tests.{lt-ltb, le-ltb}
+use lib.Dec.{ltb}
+use lib.ListN.{length, take, set, getD, length-set, length-append, length-map, replicate}
+use lib.Seq.{take-suc-set, append-snoc}
+use lib.IntN.{ℤ, pos, negsuc}
+use lib.Signed.{mag}
+use mir.Syntax.{w32}
+use mir.Val.{SFits}
+use Rattle.isa.specs.Immediate.{twos, hi, lo}
+use Rattle.isa.specs.Instr.{Instr, I, U, ADDI, LUI, Valid, operands, registers-hold, valid}
+use Rattle.isa.specs.Encode.{encode}
+use Rattle.refusal.specs.Answer.{Answer, accepted, refused}
+use Rattle.refusal.specs.Number.{number-of}
+use Rattle.refusal.specs.declared.Refusal.{Refusal}
+use Rattle.refusal.specs.declared.Refusal.the-variants.{Register, Value, Label, Twice, Unset, Far, Full, Closed, Count, Base, Unsaved, Line}
+use Rattle.encoder.specs.Answer.{told, encoded}
+use Rattle.encoder.specs.Field.{sign-of}
+use Rattle.encoder.specs.declared.Sign.the-variants.{NonNeg, Neg}
+use Rattle.encoder.specs.declared.Encoded.{Encoded}
+use Rattle.encoder.specs.declared.Encoded.the-variants.{Word, Refused}
+use Rattle.isa.proofs.Validity.{Valid-valid, Valid-registers}
+use Rattle.assembler.specs.Plan.{no-words, pushed, plan-words}
+use Rattle.assembler.specs.declared.Plan.{Plan}
+use Rattle.accesses.specs.Plans.{answer-of, pushes-from, pushes, plan-of, Built}
+use Rattle.accesses.specs.Code.{li-code}
+
+-- the encoder's promise gives its answer
+refusal1 : (r : Refusal) → number-of r ≡ 1 → r ≡ Register
+refusal1 Register e = refl
+refusal1 Value e = absurd (omega arith)
+refusal1 Label e = absurd (omega arith)
+refusal1 Twice e = absurd (omega arith)
+refusal1 Unset e = absurd (omega arith)
+refusal1 Far e = absurd (omega arith)
+refusal1 Full e = absurd (omega arith)
+refusal1 Closed e = absurd (omega arith)
+refusal1 Count e = absurd (omega arith)
+refusal1 Base e = absurd (omega arith)
+refusal1 Unsaved e = absurd (omega arith)
+refusal1 Line e = absurd (omega arith)
+
+refusal2 : (r : Refusal) → number-of r ≡ 2 → r ≡ Value
+refusal2 Value e = refl
+refusal2 Register e = absurd (omega arith)
+refusal2 Label e = absurd (omega arith)
+refusal2 Twice e = absurd (omega arith)
+refusal2 Unset e = absurd (omega arith)
+refusal2 Far e = absurd (omega arith)
+refusal2 Full e = absurd (omega arith)
+refusal2 Closed e = absurd (omega arith)
+refusal2 Count e = absurd (omega arith)
+refusal2 Base e = absurd (omega arith)
+refusal2 Unsaved e = absurd (omega arith)
+refusal2 Line e = absurd (omega arith)
+
+by-told : (e : Encoded) (w : ℕ) (b c : Bool) → told e ≡ cond b (cond c (accepted w) (refused 2 0)) (refused 1 0)
+    → e ≡ cond b (cond c (Word w) (Refused Value 0)) (Refused Register 0)
+by-told (Word x) w true true t = let z : x ≡ w = cc in ap Word z
+by-told (Word x) w true false t = let z : _≡_ {A = ℕ} 0 1 = cc in absurd (omega arith)
+by-told (Word x) w false c t = let z : _≡_ {A = ℕ} 0 1 = cc in absurd (omega arith)
+by-told (Refused r p) w true true t = let z : _≡_ {A = ℕ} 0 1 = cc in absurd (omega arith)
+by-told (Refused r p) w true false t =
+    let z : number-of r ≡ 2 = cc in
+    let q : p ≡ 0 = cc in
+    let s : r ≡ Value = refusal2 r z in
+    rw (s, q)
+by-told (Refused r p) w false c t =
+    let z : number-of r ≡ 1 = cc in
+    let q : p ≡ 0 = cc in
+    let s : r ≡ Register = refusal1 r z in
+    rw (s, q)
+
+pub answered : (e : Encoded) (i : Instr) → told e ≡ encoded i → e ≡ answer-of i
+unfolding encoded
+answered e i t = by-told e (encode i) (registers-hold (operands i)) (valid i) t
+
+word : (i : Instr) → Valid i → answer-of i ≡ Word (encode i)
+word i v = rw (Valid-registers i v, Valid-valid i v)
+
+-- a plan that holds the words ws, the first of its twelve
+record Holding (p : Plan) (ws : List ℕ) : Type 0 where
+  n : p .n ≡ length ws
+  fault : p .fault ≡ 0
+  size : length (p .w) ≡ 12
+  words : take (length ws) (p .w) ≡ ws
+
+one-more : (p : Plan) (ws : List ℕ) (e : Encoded) (w : ℕ) → e ≡ Word w → length ws < 12 → Holding p ws → Holding (pushed p e) (ws ++ (w ∷ []))
+unfolding pushed
+one-more p ws e w q l h =
+    let t : ltb (p .n) 12 ≡ true = lt-ltb (p .n) 12 (omega (arith, h .n)) in
+    let s : length (ws ++ (w ∷ [])) ≡ length ws + 1 = length-append ws (w ∷ []) in
+    rw (q, t)
+    (record {
+      n = ap (λ (k : ℕ). k + 1) (h .n) ∙ sym s;
+      fault = h .fault;
+      size = length-set (p .w) (p .n) w ∙ h .size;
+      words =
+          rw (s, add-one, h .n)
+          (take-suc-set (p .w) (length ws) w (omega (arith, h .size)) ∙ ap (λ (l : List ℕ). l ++ (w ∷ [])) (h .words));
+    })
+
+abbrev pub AllValid : List Instr → Type 0
+AllValid [] = Unit {0}
+AllValid (i ∷ is) = Valid i × AllValid is
+
+collect : (is : List Instr) (p : Plan) (ws : List ℕ) → AllValid is → length ws + length is ≤ 12 → Holding p ws
+    → Holding (pushes-from p (map answer-of is)) (ws ++ map encode is)
+collect [] p ws a l h = rw append-nil h
+collect (i ∷ is) p ws a l h =
+    let k : Holding (pushed p (answer-of i)) (ws ++ (encode i ∷ [])) = one-more p ws (answer-of i) (encode i) (word i (a .0)) (omega arith) h in
+    let s : length (ws ++ (encode i ∷ [])) ≡ length ws + 1 = length-append ws (encode i ∷ []) in
+    rw append-snoc at (collect is (pushed p (answer-of i)) (ws ++ (encode i ∷ [])) (a .1) (omega arith) k)
+
+empty : Holding no-words []
+empty = record { n = refl; fault = refl; size = refl; words = refl }
+
+-- The plan of up to twelve valid instructions holds their words.
+pub built : (is : List Instr) → length is ≤ 12 → AllValid is → Built (plan-of is) is
+built is l a =
+    let h : Holding (plan-of is) (map encode is) = collect is no-words [] a (omega arith) empty in
+    let m : min (plan-of is .n) 12 ≡ length (map encode is) = rw (h .n) (min-eq-left (rw length-map l)) in
+    record { words = ap (λ (k : ℕ). take k (plan-of is .w)) m ∙ h .words; fault = h .fault }
+
+-- answers that are those for the instructions
+abbrev pub Answers : List Encoded → List Instr → Type 0
+Answers [] [] = Unit {0}
+Answers [] (i ∷ is) = ⊥
+Answers (e ∷ es) [] = ⊥
+Answers (e ∷ es) (i ∷ is) = (e ≡ answer-of i) × Answers es is
+
+same : (es : List Encoded) (is : List Instr) → Answers es is → es ≡ map answer-of is
+same [] [] a = refl
+same [] (i ∷ is) a = absurd a
+same (e ∷ es) [] a = absurd a
+same (e ∷ es) (i ∷ is) a = ap₂ _∷_ (a .0) (same es is (a .1))
+
+-- They are collected into the instructions' plan.
+pub collected : (es : List Encoded) (is : List Instr) → Answers es is → pushes es ≡ plan-of is
+collected es is a = ap pushes (same es is a)
+
+-- ---- li, by the sign of its number
+
+module _ (d : ℕ) where
+  pub li-near : (z : ℤ) → mag z < 2048 → I ADDI d 0 z ∷ [] ≡ li-code d z
+  unfolding li-code
+  li-near z h = rw (lt-ltb (mag z) 2048 h)
+
+  pub li-far : (z : ℤ) → 2048 ≤ mag z → U LUI d (pos (hi (twos 32 z))) ∷ I ADDI d d (lo (twos 32 z)) ∷ [] ≡ li-code d z
+  unfolding li-code
+  li-far z h = rw (le-ltb (mag z) 2048 h)
+
+-- a number by its sign: its size, and its 32 bits
+pub size-of : (z : ℤ) (n : ℕ) → sign-of z ≡ NonNeg n → mag z ≡ n
+size-of (pos m) n e = cc
+size-of (negsuc m) n e = let z : _≡_ {A = ℕ} 0 1 = cc in absurd (omega arith)
+
+pub size-of-neg : (z : ℤ) (n : ℕ) → sign-of z ≡ Neg n → mag z ≡ n
+size-of-neg (negsuc m) n e = cc
+size-of-neg (pos m) n e = let z : _≡_ {A = ℕ} 0 1 = cc in absurd (omega arith)
+
+pub bits-of : (z : ℤ) (n : ℕ) → sign-of z ≡ NonNeg n → SFits w32 z → n ≡ twos 32 z
+bits-of (pos m) n e h = let q : m ≡ n = cc in sym (mod-eq-of-lt (omega (arith, h .sfits)) ∙ q)
+bits-of (negsuc m) n e h = let z : _≡_ {A = ℕ} 0 1 = cc in absurd (omega arith)
+
+pub bits-of-neg : (z : ℤ) (n : ℕ) → sign-of z ≡ Neg n → SFits w32 z → 4294967295 - n ≡ twos 32 z
+bits-of-neg (negsuc m) n e h =
+    let q : m ≡ n = cc in
+    let r : m % 4294967296 ≡ m = mod-eq-of-lt (omega (arith, h .sfits)) in
+    rw (r, q)
+bits-of-neg (pos m) n e h = let z : _≡_ {A = ℕ} 0 1 = cc in absurd (omega arith)
+
+-- one instruction more
+pushes-more : (es : List Encoded) (e : Encoded) (p : Plan) → pushed (pushes-from p es) e ≡ pushes-from p (es ++ (e ∷ []))
+pushes-more [] e p = refl
+pushes-more (f ∷ es) e p = pushes-more es e (pushed p f)
+
+pub pushed-last : (is : List Instr) (i : Instr) {e : Encoded} → e ≡ answer-of i → pushed (plan-of is) e ≡ plan-of (is ++ (i ∷ []))
+pushed-last is i {e} q =
+    pushes-more (map answer-of is) e no-words
+    ∙ ap pushes (ap (λ (x : Encoded). map answer-of is ++ (x ∷ [])) q ∙ sym (map-append answer-of is (i ∷ [])))
+
+-- two more
+pub pushed-two : (is : List Instr) (i j : Instr) {d e : Encoded} → d ≡ answer-of i → e ≡ answer-of j
+    → pushed (pushed (plan-of is) d) e ≡ plan-of (is ++ (i ∷ j ∷ []))
+pushed-two is i j {d} {e} p q =
+    ap (λ (x : Plan). pushed x e) (pushed-last is i p)
+    ∙ pushed-last (is ++ (i ∷ [])) j q
+    ∙ ap plan-of (append-snoc is i (j ∷ []))

@@ -1,0 +1,105 @@
+use borrow.Author.Needs.{needs}
+use mathlib.Core.List.{[], _∷_, _++_}
+use Prim.Native.Nat.{ℕ}
+use Rattle.isa.specs.Instr.{U, LUI, I, ADDI}
+use Rattle.accesses.specs.Plans.{plan-of}
+use Rattle.accesses.proofs.Collect.{li-near, li-far, size-of, size-of-neg, bits-of, bits-of-neg}
+use mathlib.Core.Path.{_≡_, refl, sym, _∙_, ap}
+use lib.IntN.{ℤ, pos}
+use Rattle.isa.specs.Immediate.{hi, lo}
+use Rattle.accesses.specs.Plans.{answer-of}
+use Rattle.accesses.proofs.Collect.{answered, collected}
+use Rattle.accesses.proofs.Numbers.{answered-at}
+use Rattle.encoder.proofs.Signs.{handed}
+use mathlib.Core.List.{[], _∷_}
+use mir.Syntax.{w32}
+use mir.ValLaws.{toZ-ofZ}
+use Rattle.isa.specs.Instr.{I, ADDI}
+use Rattle.encoder.specs.Field.{sign-of}
+use Rattle.encoder.specs.declared.Sign.the-variants.{NonNeg, Neg}
+use Rattle.encoder.proofs.Signs.{handed}
+use Rattle.accesses.proofs.li_plan.Statement.{statement}
+use Rattle.accesses.proofs.li_plan.Tie as tie
+
+split-requires : tie.Need-split-requires
+split-requires c κs = search needs
+
+enum-known-s : tie.Need-enum-known-s
+enum-known-s c = search needs
+
+addi-requires : tie.Need-addi-requires
+addi-requires c κs = search needs
+
+one-requires : tie.Need-one-requires
+one-requires c κs = search needs
+
+returns : tie.Need-returns
+returns c =
+    let a = c .before .before .before .before .before .before .before .args in
+    let m = size-of (a .z) _ (sym (handed sign-of (c .before .before .before .before .before .before .before .args .z) (c .before .before .before .before .before .before .before .fits .z) (c .before .before .before .before .before .before .split .ensures)) ∙ c .before .before .before .before .s .given .1) in
+    c .one .ensures
+    ∙ collected (c .before .addi .result ∷ []) (I ADDI (a .d) 0 (a .z) ∷ [])
+    (answered-at _ (λ (z : ℤ). I ADDI (a .d) 0 z) (c .before .addi .ensures) (toZ-ofZ w32 (a .z) (c .before .before .before .before .before .before .before .fits .z)), tt)
+    ∙ ap plan-of (li-near (a .d) (a .z) (rw m (c .before .before .if1 .taken)))
+
+wide-requires : tie.Need-wide-requires
+wide-requires c κs = search needs
+
+enum-known-s-2 : tie.Need-enum-known-s-2
+enum-known-s-2 c = search needs
+
+addi-requires-2 : tie.Need-addi-requires-2
+addi-requires-2 c κs = search needs
+
+one-requires-2 : tie.Need-one-requires-2
+one-requires-2 c κs = search needs
+
+returns-2 : tie.Need-returns-2
+returns-2 c =
+    let a = c .before .before .before .before .before .before .before .args in
+    let m = size-of-neg (a .z) _ (sym (handed sign-of (c .before .before .before .before .before .before .before .args .z) (c .before .before .before .before .before .before .before .fits .z) (c .before .before .before .before .before .before .split .ensures)) ∙ c .before .before .before .before .s2 .given .1) in
+    c .one2 .ensures
+    ∙ collected (c .before .addi2 .result ∷ []) (I ADDI (a .d) 0 (a .z) ∷ [])
+    (answered-at _ (λ (z : ℤ). I ADDI (a .d) 0 z) (c .before .addi2 .ensures) (toZ-ofZ w32 (a .z) (c .before .before .before .before .before .before .before .fits .z)), tt)
+    ∙ ap plan-of (li-near (a .d) (a .z) (rw m (c .before .before .if2 .taken)))
+
+sub-wide : tie.Need-sub-wide
+sub-wide c = search needs
+
+wide-requires-2 : tie.Need-wide-requires-2
+wide-requires-2 c κs = search needs
+
+returns-3 : tie.Need-returns-3
+returns-3 c =
+    let a = c .before .before .before .before .before .before .args in
+    let e = sym (handed sign-of (c .before .before .before .before .before .before .args .z) (c .before .before .before .before .before .before .fits .z) (c .before .before .before .before .before .split .ensures)) ∙ c .before .before .before .s .given .1 in
+    c .wide .ensures
+    ∙ ap (λ (x : ℕ). plan-of (U LUI (a .d) (pos (hi x)) ∷ I ADDI (a .d) (a .d) (lo x) ∷ [])) (bits-of (a .z) _ e (c .before .before .before .before .before .before .fits .z))
+    ∙ ap plan-of (li-far (a .d) (a .z) (rw (size-of (a .z) _ e) (c .before .if1 .left)))
+
+returns-4 : tie.Need-returns-4
+returns-4 c =
+    let a = c .before .before .before .before .before .before .args in
+    let e = sym (handed sign-of (c .before .before .before .before .before .before .args .z) (c .before .before .before .before .before .before .fits .z) (c .before .before .before .before .before .split .ensures)) ∙ c .before .before .before .s2 .given .1 in
+    c .wide2 .ensures
+    ∙ ap (λ (x : ℕ). plan-of (U LUI (a .d) (pos (hi x)) ∷ I ADDI (a .d) (a .d) (lo x) ∷ [])) (bits-of-neg (a .z) _ e (c .before .before .before .before .before .before .fits .z))
+    ∙ ap plan-of (li-far (a .d) (a .z) (rw (size-of-neg (a .z) _ e) (c .before .if2 .left)))
+
+pub li-plan-spec : {M : Type 1} → statement M
+li-plan-spec =
+    tie.close
+    (tie.spec
+    split-requires
+    enum-known-s
+    addi-requires
+    one-requires
+    returns
+    wide-requires
+    enum-known-s-2
+    addi-requires-2
+    one-requires-2
+    returns-2
+    sub-wide
+    wide-requires-2
+    returns-3
+    returns-4)

@@ -1,0 +1,34 @@
+use borrow.Author.Needs.{needs}
+use mathlib.Core.Path.{_≡_, refl, sym, _∙_, ap}
+use lib.IntN.{ℤ, pos}
+use Rattle.isa.specs.Immediate.{hi, lo}
+use Rattle.accesses.specs.Plans.{answer-of}
+use Rattle.accesses.proofs.Collect.{answered, collected}
+use Rattle.accesses.proofs.Numbers.{answered-at, back-hi, back-lo, back-small}
+use mathlib.Core.List.{[], _∷_, _++_}
+use Rattle.isa.specs.Instr.{R, ADD}
+use Rattle.assembler.specs.Plan.{pushed}
+use Rattle.accesses.specs.Code.{li-code, point-code}
+use Rattle.accesses.proofs.Collect.{pushed-last}
+use Rattle.accesses.proofs.point.Statement.{statement}
+use Rattle.accesses.proofs.point.Tie as tie
+
+li-offset-requires : tie.Need-li-offset-requires
+li-offset-requires c κs = search needs
+
+add-requires : tie.Need-add-requires
+add-requires c κs = search needs
+
+push-requires : tie.Need-push-requires
+push-requires c κs = search needs
+
+returns : tie.Need-returns
+unfolding point-code
+returns c =
+    let a = c .before .before .before .args in
+    c .push .ensures
+    ∙ ap (λ p. pushed p (c .before .add .result)) (c .before .before .li-offset .ensures)
+    ∙ pushed-last (li-code 5 (pos (a .n))) (R ADD 5 5 (a .base)) (answered _ _ (c .before .add .ensures))
+
+pub point-spec : {M : Type 1} → statement M
+point-spec = tie.close (tie.spec li-offset-requires add-requires push-requires returns)

@@ -1,0 +1,98 @@
+use borrow.Author.Needs.{needs}
+use mathlib.Core.Path.{_≡_, refl, sym, _∙_, ap}
+use lib.IntN.{ℤ, pos}
+use Rattle.isa.specs.Immediate.{hi, lo}
+use Rattle.accesses.specs.Plans.{answer-of}
+use Rattle.accesses.proofs.Collect.{answered, collected}
+use Rattle.accesses.proofs.Numbers.{answered-at, back-hi, back-lo, back-small}
+use mathlib.Core.List.{[], _∷_, _++_}
+use borrow.Author.Tests.{lt-ltb, le-ltb}
+use Prim.Native.Nat.{_+_}
+use native.Mathlib.Omega.{arith}
+use Rattle.isa.specs.Instr.{S, FSD}
+use Rattle.assembler.specs.Plan.{pushed}
+use Rattle.accesses.proofs.Collect.{pushed-two}
+use Rattle.accesses.specs.Code.{access-code, point-code}
+use Rattle.accesses.proofs.save_complex_plan.Statement.{statement}
+use Rattle.accesses.proofs.save_complex_plan.Tie as tie
+
+cast-fsd : tie.Need-cast-fsd
+cast-fsd c = search needs
+
+fsd-requires : tie.Need-fsd-requires
+fsd-requires c κs = search needs
+
+add-fsd : tie.Need-add-fsd
+add-fsd c = search needs
+
+add-fsd-2 : tie.Need-add-fsd-2
+add-fsd-2 c = search needs
+
+cast-fsd-2 : tie.Need-cast-fsd-2
+cast-fsd-2 c = search needs
+
+fsd-requires-2 : tie.Need-fsd-requires-2
+fsd-requires-2 c κs = search needs
+
+two-requires : tie.Need-two-requires
+two-requires c κs = search needs
+
+returns : tie.Need-returns
+unfolding access-code
+returns c =
+    let a = c .before .before .before .before .args in
+    rw (lt-ltb (a .n) 2040 (c .before .before .before .if1 .taken))
+    (c .two .ensures
+    ∙ collected (c .before .before .fsd .result ∷ c .before .fsd2 .result ∷ []) (S FSD (a .base) (a .r) (pos (a .n)) ∷ S FSD (a .base) (a .r + 1) (pos (a .n + 8)) ∷ []) (
+      answered-at _ (λ (z : ℤ). S FSD (a .base) (a .r) z) (c .before .before .fsd .ensures) (back-small (a .n) (omega arith)),
+      (answered-at _ (λ (z : ℤ). S FSD (a .base) (a .r + 1) z) (c .before .fsd2 .ensures) (back-small (a .n + 8) (omega arith)), tt),
+    ))
+
+point-requires : tie.Need-point-requires
+point-requires c κs = search needs
+
+fsd-requires-3 : tie.Need-fsd-requires-3
+fsd-requires-3 c κs = search needs
+
+push-requires : tie.Need-push-requires
+push-requires c κs = search needs
+
+add-fsd-3 : tie.Need-add-fsd-3
+add-fsd-3 c = search needs
+
+fsd-requires-4 : tie.Need-fsd-requires-4
+fsd-requires-4 c κs = search needs
+
+push-requires-2 : tie.Need-push-requires-2
+push-requires-2 c κs = search needs
+
+returns-2 : tie.Need-returns-2
+unfolding access-code
+returns-2 c =
+    let a = c .before .before .before .before .before .before .args in
+    rw (le-ltb (a .n) 2040 (c .before .before .before .before .before .if1 .left))
+    (c .push2 .ensures
+    ∙ ap (λ p. pushed p (c .before .fsd4 .result)) (c .before .before .push .ensures ∙ ap (λ p. pushed p (c .before .before .before .fsd3 .result)) (c .before .before .before .before .point .ensures))
+    ∙ pushed-two (point-code (a .base) (a .n)) (S FSD 5 (a .r) (pos 0)) (S FSD 5 (a .r + 1) (pos 8))
+    (answered-at _ (λ (z : ℤ). S FSD 5 (a .r) z) (c .before .before .before .fsd3 .ensures) refl)
+    (answered-at _ (λ (z : ℤ). S FSD 5 (a .r + 1) z) (c .before .fsd4 .ensures) refl))
+
+pub save-complex-plan-spec : {M : Type 1} → statement M
+save-complex-plan-spec =
+    tie.close
+    (tie.spec
+    cast-fsd
+    fsd-requires
+    add-fsd
+    add-fsd-2
+    cast-fsd-2
+    fsd-requires-2
+    two-requires
+    returns
+    point-requires
+    fsd-requires-3
+    push-requires
+    add-fsd-3
+    fsd-requires-4
+    push-requires-2
+    returns-2)

@@ -1,0 +1,42 @@
+use borrow.Author.Needs.{needs}
+use mathlib.Core.List.{[], _∷_, _++_}
+use mathlib.Core.Path.{_≡_, refl, sym, _∙_, ap}
+use Rattle.accesses.proofs.Collect.{answered, collected}
+use mathlib.Core.List.{[], _∷_}
+use mathlib.Core.Path.{_≡_}
+use lib.IntN.{ℤ, pos}
+use Rattle.isa.specs.Immediate.{hi, lo}
+use Rattle.accesses.specs.Plans.{answer-of}
+use Rattle.accesses.proofs.Collect.{answered}
+use Rattle.accesses.proofs.Numbers.{answered-at, back-hi, back-lo, back-small}
+use Rattle.isa.specs.Instr.{U, LUI, I, ADDI}
+use Rattle.accesses.proofs.wide.Statement.{statement}
+use Rattle.accesses.proofs.wide.Tie as tie
+
+hi-requires : tie.Need-hi-requires
+hi-requires c κs = search needs
+
+lui-requires : tie.Need-lui-requires
+lui-requires c κs = search needs
+
+lo-requires : tie.Need-lo-requires
+lo-requires c κs = search needs
+
+addi-requires : tie.Need-addi-requires
+addi-requires c κs = search needs
+
+two-requires : tie.Need-two-requires
+two-requires c κs = search needs
+
+returns : tie.Need-returns
+returns c =
+    let a = c .before .before .before .before .before .args in
+    c .two .ensures
+    ∙ collected (c .before .before .before .lui .result ∷ c .before .addi .result ∷ []) (U LUI (a .d) (pos (hi (a .x))) ∷ I ADDI (a .d) (a .d) (lo (a .x)) ∷ []) (
+      answered-at _ (λ (z : ℤ). U LUI (a .d) z) (c .before .before .before .lui .ensures) (back-hi _ (a .x) (c .before .before .before .before .hi .ensures)),
+      (answered-at _ (λ (z : ℤ). I ADDI (a .d) (a .d) z) (c .before .addi .ensures) (back-lo _ (a .x) (c .before .before .lo .ensures)), tt),
+    )
+
+pub wide-spec : {M : Type 1} → statement M
+wide-spec =
+    tie.close (tie.spec hi-requires lui-requires lo-requires addi-requires two-requires returns)

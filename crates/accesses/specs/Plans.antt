@@ -1,0 +1,32 @@
+-- How words are collected into a plan: what the encoder answers for each instruction, one after the other.
+use mathlib.Core.Path.{_≡_}
+use mathlib.Core.Bool.{cond}
+use mathlib.Core.List.{List, [], _∷_, map}
+use Prim.Native.Nat.{ℕ}
+use Rattle.isa.specs.Instr.{Instr, operands, registers-hold, valid}
+use Rattle.isa.specs.Encode.{encode}
+use Rattle.refusal.specs.declared.Refusal.the-variants.{Register, Value}
+use Rattle.encoder.specs.declared.Encoded.{Encoded}
+use Rattle.encoder.specs.declared.Encoded.the-variants.{Word, Refused}
+use Rattle.assembler.specs.Plan.{no-words, pushed, plan-words}
+use Rattle.assembler.specs.declared.Plan.{Plan}
+
+-- the encoder's answer for an instruction
+abbrev pub answer-of : Instr → Encoded
+answer-of i = cond (registers-hold (operands i)) (cond (valid i) (Word (encode i)) (Refused Value 0)) (Refused Register 0)
+
+abbrev pub pushes-from : Plan → List Encoded → Plan
+pushes-from p [] = p
+pushes-from p (e ∷ es) = pushes-from (pushed p e) es
+
+abbrev pub pushes : List Encoded → Plan
+pushes es = pushes-from no-words es
+
+-- the plan of a list of instructions
+abbrev pub plan-of : List Instr → Plan
+plan-of is = pushes (map answer-of is)
+
+-- the plan holds the words of these instructions, and no fault
+pub record Built (p : Plan) (is : List Instr) : Type 0 where
+  pub words : plan-words p ≡ map encode is
+  pub fault : p .fault ≡ 0
