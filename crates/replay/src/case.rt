@@ -1,0 +1,185 @@
+// A case: calls on one assembler, from fresh memory on, and how far its code is compared.
+ghost use mathlib.Core.Path.{_≡_};
+ghost use Prim.Native.Nat.{_≤_};
+ghost use Rattle.replay.specs.Code.{word-of, all-zero-of};
+use assembler::Answer;
+use assembler::Asm;
+use assembler::Done;
+
+pub struct Case {
+    pub asm: Asm,
+    // the record before the last call
+    pub before: Asm,
+    // the number of the last call's refusal, 0 for none, and its place
+    pub number: u32,
+    pub place: u32,
+    // what the last call answered, if that is a number
+    pub value: u32,
+    // the place of the next word to compare
+    pub at: usize,
+    // no row of the case disagreed
+    pub good: bool,
+    // the answer is not reached yet
+    pub open: bool,
+}
+
+pub fn fresh() -> Case {
+    let asm = Asm {
+        len: 0,
+        jumps: 0,
+        closed: false,
+    };
+    Case {
+        asm,
+        before: asm,
+        number: 0,
+        place: 0,
+        value: 0,
+        at: 0,
+        good: true,
+        open: true,
+    }
+}
+
+pub fn closed(c: Case) -> Case {
+    let mut d = c;
+    d.good = true;
+    d.open = false;
+    d
+}
+
+pub fn bad(c: Case) -> Case {
+    let mut d = c;
+    d.good = false;
+    d
+}
+
+// n words further.
+pub fn moved(c: Case, n: usize) -> Case {
+    let mut d = c;
+    let at = c.at;
+    if at > 65536 {
+        return c;
+    }
+    if n > 65536 {
+        return c;
+    }
+    d.at = at + 4 * n;
+    d
+}
+
+// A call refused for this reason.
+pub fn refused(c: Case, why: u32, place: u32) -> Case {
+    let mut d = c;
+    let before = c.asm;
+    d.before = before;
+    d.number = why;
+    d.place = place;
+    d
+}
+
+// A call done. Behind a refused one there is none.
+pub fn done(c: Case, r: Done) -> Case {
+    if c.number != 0 {
+        return bad(c);
+    }
+    let asm = r.asm;
+    let answer = r.answer;
+    let mut d = c;
+    match answer {
+        Answer::Accepted => {}
+        Answer::Refused(why, place) => d = refused(c, refusal::number(why) as u32, place),
+    }
+    d.asm = asm;
+    d
+}
+
+// A call that answered a number.
+pub fn valued(c: Case, n: u32) -> Case {
+    let mut d = c;
+    d.value = n;
+    d
+}
+
+// The last call left the record as it was.
+pub fn kept(c: Case) -> bool {
+    let a = c.before;
+    let b = c.asm;
+    a.len == b.len && a.jumps == b.jumps && a.closed == b.closed
+}
+
+// ---- the code
+
+pub fn blank_code(buf: &mut [u8; 65536]) {
+    for i in 0..65536 {
+        buf[i] = 0;
+    }
+}
+
+pub fn blank_labels(labels: &mut [u64; 2039]) {
+    for i in 0..2039 {
+        labels[i] = 0;
+    }
+}
+
+fn wide(b: u8) -> u32
+    ensures { λ r. ⌜ (r ≡ b) × (r ≤ 255) ⌝ }
+{
+    b as u32
+}
+
+// The word at a place, little-endian; 0 where there is none.
+pub fn word_at(buf: &[u8; 65536], at: usize) -> u32
+    ensures { λ r. ⌜ r ≡ word-of (now (buf .entry)) at ⌝ }
+{
+    if at > 65532 {
+        return 0;
+    }
+    let a = wide(buf[at]);
+    let b = wide(buf[at + 1]);
+    let c = wide(buf[at + 2]);
+    let d = wide(buf[at + 3]);
+    a + b * 256 + c * 65536 + d * 16777216
+}
+
+// The first n of four words stand at a place.
+pub fn stand(buf: &[u8; 65536], at: usize, a: u32, b: u32, c: u32, d: u32, n: u32) -> bool {
+    if at > 65536 {
+        return false;
+    }
+    if n >= 1 && word_at(buf, at) != a {
+        return false;
+    }
+    if n >= 2 && word_at(buf, at + 4) != b {
+        return false;
+    }
+    if n >= 3 && word_at(buf, at + 8) != c {
+        return false;
+    }
+    n < 4 || word_at(buf, at + 12) == d
+}
+
+fn all_zero(s: &[u8]) -> bool
+    ensures { λ r. ⌜ r ≡ all-zero-of (now (s .entry)) ⌝ }
+{
+    let mut i = 0;
+    while i < s.len() {
+        if s[i] != 0 {
+            return false;
+        }
+        i += 1;
+    }
+    true
+}
+
+// The bytes from a up to e are zero.
+pub fn blank(buf: &[u8; 65536], a: usize, e: usize) -> bool {
+    if e > 65536 {
+        return false;
+    }
+    if a > e {
+        return false;
+    }
+    let t = &buf[..];
+    all_zero(&t[a..e])
+}
