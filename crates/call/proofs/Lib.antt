@@ -13,3 +13,5 @@ pub mod Bytes
 pub mod Left
 pub mod Call
 pub mod Words
+pub mod Decks
+pub mod Calls
