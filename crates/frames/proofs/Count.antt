@@ -16,7 +16,7 @@ use Rattle.assembler.specs.Item.{Item, jump, label}
 use Rattle.assembler.specs.declared.Kind.the-variants.{Bne}
 use Rattle.assembler.specs.Resolved.{resolved}
 use Rattle.accesses.specs.Code.{li-code, sub-stack-code, allocate-stack-code}
-use Rattle.frames.specs.Items.{code, times-over, repeated}
+use Rattle.frames.specs.Items.{code, times-over, count-down, repeated}
 use Rattle.frames.proofs.Walk.{resolved-code, resolved-all}
 
 pub li-length : (d : ℕ) (z : ℤ) → length (li-code d z) ≤ 2
@@ -36,9 +36,6 @@ sub-stack-length n = by (ltb n 2048)
     by false = omega (arith, length-append (li-code 5 (negℤ (pos n))) (R ADD 2 2 5 ∷ []), li-length 5 (negℤ (pos n)))
 
 module _ (at : ℕ → ℕ) (here n l : ℕ) (first each : List Instr) (six : length each ≡ 6) where
-  abbrev less : Instr
-  less = I ADDI 7 7 (negsuc 0)
-
   pub over-length : (k : ℕ) → length (times-over k each) ≡ 6 * k
   over-length zero = refl
   over-length (suc k) = omega (arith, length-append each (times-over k each), over-length k)
@@ -51,17 +48,17 @@ module _ (at : ℕ → ℕ) (here n l : ℕ) (first each : List Instr) (six : le
   start = first ++ li-code 7 (pos n)
 
   -- by the loop
-  pub loop-words : length (resolved at here (code start ++ (label l ∷ (code (each ++ (less ∷ [])) ++ (jump Bne l 0 ∷ []))))) ≡ length first + length (li-code 7 (pos n)) + 8
+  pub loop-words : length (resolved at here (code start ++ (label l ∷ (code (each ++ (count-down ∷ [])) ++ (jump Bne l 0 ∷ []))))) ≡ length first + length (li-code 7 (pos n)) + 8
   unfolding resolved
   loop-words =
-      rw (resolved-code at here start (label l ∷ (code (each ++ (less ∷ [])) ++ (jump Bne l 0 ∷ []))), length-append (map encode start) (resolved at (here + 4 * length start) (code (each ++ (less ∷ [])) ++ (jump Bne l 0 ∷ []))), length-map start encode, resolved-code at (here + 4 * length start) (each ++ (less ∷ [])) (jump Bne l 0 ∷ []), length-append (map encode (each ++ (less ∷ []))) _, length-map (each ++ (less ∷ [])) encode)
-      (omega (arith, length-append each (less ∷ []), six, length-append first (li-code 7 (pos n))))
+      rw (resolved-code at here start (label l ∷ (code (each ++ (count-down ∷ [])) ++ (jump Bne l 0 ∷ []))), length-append (map encode start) (resolved at (here + 4 * length start) (code (each ++ (count-down ∷ [])) ++ (jump Bne l 0 ∷ []))), length-map start encode, resolved-code at (here + 4 * length start) (each ++ (count-down ∷ [])) (jump Bne l 0 ∷ []), length-append (map encode (each ++ (count-down ∷ []))) _, length-map (each ++ (count-down ∷ [])) encode)
+      (omega (arith, length-append each (count-down ∷ []), six, length-append first (li-code 7 (pos n))))
 
   pub repeated-words : length (resolved at here (repeated n first each l)) ≤ length first + 96
   unfolding repeated resolved
   repeated-words = by (eqb n 0) (leb n 16) refl
     where
-      by : (z t : Bool) → leb n 16 ≡ t → length (resolved at here (cond z [] (cond t (code (first ++ times-over n each)) (code start ++ (label l ∷ (code (each ++ (less ∷ [])) ++ (jump Bne l 0 ∷ []))))))) ≤ length first + 96
+      by : (z t : Bool) → leb n 16 ≡ t → length (resolved at here (cond z [] (cond t (code (first ++ times-over n each)) (code start ++ (label l ∷ (code (each ++ (count-down ∷ [])) ++ (jump Bne l 0 ∷ []))))))) ≤ length first + 96
       by true t e = omega arith
       by false true e = omega (arith, row-words, leb-true n 16 e)
       by false false e = omega (arith, loop-words, li-length 7 (pos n))

@@ -22,6 +22,7 @@ use Rattle.assembler.specs.Resolved.{resolved}
 use Rattle.frames.specs.Size.{frame-size, stack-size}
 use Rattle.frames.specs.Mask.{saved}
 use Rattle.frames.specs.Items.{code, kept, closing, reloads, epilogue}
+use Rattle.frames.specs.Fault.{result-limit}
 use Rattle.frames.proofs.Land.{not-or}
 use Rattle.frames.proofs.Walk.{Stood, stood-right, piece, behind, Came, came-at, run-rm}
 use Rattle.frames.proofs.Seg.{Seg, onward-seg}
@@ -41,10 +42,10 @@ module _ (Q : Floats) (cap states obs last mask : ℕ) (at : ℕ → ℕ) (s : S
     abbrev fp : ℕ
     fp = bottom + (stack-size H + frame-size H)
 
-    near : last ≤ 255
+    near : last ≤ result-limit
     near =
         let h = and-r (leb cap 4096 && (leb (states + obs) 4096 && leb states 8)) _ (l .counts) in
-        leb→le last 255 (and-l (leb last 255) _ h)
+        leb→le last result-limit (and-l (leb last result-limit) _ h)
 
     one : (w : State) × Reloaded Q H at s a here u w
     one = reloaded Q H at s bottom a here u l

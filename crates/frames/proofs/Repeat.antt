@@ -22,7 +22,7 @@ use Rattle.assembler.specs.Item.{Item, instr, jump, label}
 use Rattle.assembler.specs.Resolved.{resolved}
 use Rattle.assembler.specs.declared.Kind.the-variants.{Bne}
 use Rattle.accesses.specs.Code.{li-code}
-use Rattle.frames.specs.Items.{code, times-over, repeated}
+use Rattle.frames.specs.Items.{code, times-over, count-down, repeated}
 use Rattle.frames.proofs.Walk.{Stands, Words, Stood, piece, behind, behind-label, jump-word, stood-code, Came, came-at, onward, hop}
 use Rattle.frames.proofs.Stack.{li}
 use Rattle.frames.proofs.Count.{over-length, row-words, loop-words}
@@ -37,9 +37,6 @@ back-by here = rw (lt-ltb here (here + 28) (omega arith)) (ap negsuc (omega arit
 abbrev back : Instr
 back = B BNE 7 0 (negsuc 27)
 
-abbrev less : Instr
-less = I ADDI 7 7 (negsuc 0)
-
 module _ (Q : Floats) (u : State) where
   back-keeps : ((exec Q back u) .x ≡ u .x) × ((exec Q back u) .f ≡ u .f) × ((exec Q back u) .mem ≡ u .mem)
   unfolding effect apply setx
@@ -53,7 +50,7 @@ module _ (Q : Floats) (u : State) where
   unfolding effect apply
   turns b k p e = rw (e, p, ne-eqb (suc k) 0 (λ z. omega arith)) (omega arith)
 
-  less-does : ((exec Q less u) .f ≡ u .f) × ((exec Q less u) .mem ≡ u .mem) × ((r : ℕ) → r ≢ 7 → (exec Q less u) .x r ≡ u .x r) × ((k : ℕ) → u .x 7 ≡ suc k → suc k < 2 ^ 64 → (exec Q less u) .x 7 ≡ k)
+  less-does : ((exec Q count-down u) .f ≡ u .f) × ((exec Q count-down u) .mem ≡ u .mem) × ((r : ℕ) → r ≢ 7 → (exec Q count-down u) .x r ≡ u .x r) × ((k : ℕ) → u .x 7 ≡ suc k → suc k < 2 ^ 64 → (exec Q count-down u) .x 7 ≡ k)
   unfolding effect apply
   less-does = (refl, refl, λ r h. setx-other (u .x) 7 _ r h, λ k e l. setx-same (u .x) 7 _ (λ z. omega arith) ∙ omega (arith, e))
 
@@ -80,18 +77,18 @@ module _ (Q : Floats) (P : ℕ → Type 0) (each : List Instr) (n : ℕ) (Inv : 
         (t .0, seg-join {is = each} (record { fit = r .fit; lands = r .lands; end = refl }) (t .1), t .2)
 
     -- the loop
-    module _ (at : ℕ → ℕ) (s : State) (b : ℕ) (w : Words P (s .mem) b (map encode (each ++ (less ∷ [])))) (j : Words P (s .mem) (b + 28) (encode back ∷ [])) where
+    module _ (at : ℕ → ℕ) (s : State) (b : ℕ) (w : Words P (s .mem) b (map encode (each ++ (count-down ∷ [])))) (j : Words P (s .mem) (b + 28) (encode back ∷ [])) where
       module _ (k i c : ℕ) (u : State) (e : i + suc k ≡ n) (l : suc k < 2 ^ 64) (h : Inv i u) (x : u .x 7 ≡ suc k) (m : Came Q P s b c u) where
         abbrev low : State
-        low = exec Q less (execs Q each u)
+        low = exec Q count-down (execs Q each u)
 
         down : Came Q P s (b + 28) (c + 7) low
         unfolding effect
         down =
             let r = round i u (omega arith) h in
-            let g = length-append each (less ∷ []) in
+            let g = length-append each (count-down ∷ []) in
             came-at (omega (arith, g, six)) (omega (arith, g, six))
-            (onward-seg (each ++ (less ∷ [])) b c u w m (seg-join {is = each} (record { fit = r .fit; lands = r .lands; end = refl }) (record { fit = omega arith; lands = omega arith; end = refl })))
+            (onward-seg (each ++ (count-down ∷ [])) b c u w m (seg-join {is = each} (record { fit = r .fit; lands = r .lands; end = refl }) (record { fit = omega arith; lands = omega arith; end = refl })))
 
         low-x : low .x 7 ≡ k
         low-x = less-does Q (execs Q each u) .3 k ((round i u (omega arith) h) .t2 ∙ x) l
@@ -140,12 +137,12 @@ module _ (Q : Floats) (P : ℕ → Type 0) (each : List Instr) (n : ℕ) (Inv : 
       start = first ++ li-code 7 (pos n)
 
       abbrev inner : List Item
-      inner = code (each ++ (less ∷ [])) ++ (jump Bne l 0 ∷ [])
+      inner = code (each ++ (count-down ∷ [])) ++ (jump Bne l 0 ∷ [])
 
-      seven : length (each ++ (less ∷ [])) ≡ 7
-      seven = omega (arith, length-append each (less ∷ []), six)
+      seven : length (each ++ (count-down ∷ [])) ≡ 7
+      seven = omega (arith, length-append each (count-down ∷ []), six)
 
-      back-word : (p there : ℕ) → p ≡ there → Words P (s .mem) (a + (there + 4 * length (each ++ (less ∷ [])))) (encode (B BNE 7 0 (subℕ p (there + 4 * length (each ++ (less ∷ []))))) ∷ []) → Words P (s .mem) (a + there + 28) (encode back ∷ [])
+      back-word : (p there : ℕ) → p ≡ there → Words P (s .mem) (a + (there + 4 * length (each ++ (count-down ∷ [])))) (encode (B BNE 7 0 (subℕ p (there + 4 * length (each ++ (count-down ∷ []))))) ∷ []) → Words P (s .mem) (a + there + 28) (encode back ∷ [])
       back-word p there e w =
           let z : a + there + 28 ≡ a + (there + 28) = omega arith in
           rw (z, ← (back-by there)) (rw (seven, e) at w)
@@ -160,9 +157,9 @@ module _ (Q : Floats) (P : ℕ → Type 0) (each : List Instr) (n : ℕ) (Inv : 
           let st2 = behind here start (label l ∷ inner) st in
           let st3 = behind-label (here + 4 * length start) l inner st2 in
           let there = here + 4 * length start in
-          let jw = jump-word (there + 4 * length (each ++ (less ∷ []))) Bne l 0 [] (behind there (each ++ (less ∷ [])) (jump Bne l 0 ∷ []) st3) in
+          let jw = jump-word (there + 4 * length (each ++ (count-down ∷ []))) Bne l 0 [] (behind there (each ++ (count-down ∷ [])) (jump Bne l 0 ∷ []) st3) in
           let t =
-          loop at s (a + there) (piece there (each ++ (less ∷ [])) (jump Bne l 0 ∷ []) st3) (back-word (at l) there (st2 .labels .0) jw) (n - 1) 0 (c + length start) w2
+          loop at s (a + there) (piece there (each ++ (count-down ∷ [])) (jump Bne l 0 ∷ []) st3) (back-word (at l) there (st2 .labels .0) jw) (n - 1) 0 (c + length start) w2
           (omega arith) (omega arith) i2 (q .1 ∙ omega arith) (came-at (omega arith) refl m2)
           in
           (t .0, came-at {u = t .0} (omega (arith, loop-words at here n l first each six, k)) (omega (arith, k)) (t .1), t .2)

@@ -24,8 +24,8 @@ use Rattle.accesses.proofs.Li.{li-valid}
 use Rattle.accesses.proofs.Stack.{sub-stack-valid, add-stack-valid, allocate-stack-valid}
 use Rattle.frames.specs.Size.{cells, frame-size, stack-size}
 use Rattle.frames.specs.Mask.{saved, save-cell}
-use Rattle.frames.specs.Items.{code, mv, kept, opening, closing, loads-from, states-from, state-copy, obs-copy, times-over, repeated, at-main, at-pro, at-epi, at-done, by-frame, prologue-fast, prologue-indirect, epilogue-fast, epilogue-indirect, prologue, epilogue, save, reload, saves, reloads}
-use Rattle.frames.specs.Fault.{counts-hold, result-holds, prologue-holds, epilogue-holds}
+use Rattle.frames.specs.Items.{code, mv, kept, opening, closing, loads-from, states-from, state-copy, obs-copy, times-over, count-down, repeated, at-main, at-pro, at-epi, at-done, by-frame, prologue-fast, prologue-indirect, epilogue-fast, epilogue-indirect, prologue, epilogue, save, reload, saves, reloads}
+use Rattle.frames.specs.Fault.{counts-hold, result-limit, result-holds, prologue-holds, epilogue-holds}
 use Rattle.frames.proofs.Walk.{Stands, stands-code, stands-left, stands-right}
 use Rattle.frames.proofs.Rows.{proper, saved-proper, proper-fits}
 use Rattle.frames.proofs.Count.{li-length, sub-stack-length, repeated-words}
@@ -90,11 +90,8 @@ module _ (at : ℕ → ℕ) (here n l : ℕ) (first each : List Instr) (six : le
   abbrev start : List Instr
   start = first ++ li-code 7 (pos n)
 
-  abbrev less : Instr
-  less = I ADDI 7 7 (negsuc 0)
-
   abbrev inner : List Item
-  inner = code (each ++ (less ∷ [])) ++ (jump Bne l 0 ∷ [])
+  inner = code (each ++ (count-down ∷ [])) ++ (jump Bne l 0 ∷ [])
 
   -- the loop's jump goes back over seven words
   back-valid : (p there : ℕ) → p ≡ there → Valid (jump-instr Bne 0 (subℕ p (there + 28)))
@@ -106,8 +103,8 @@ module _ (at : ℕ → ℕ) (here n l : ℕ) (first each : List Instr) (six : le
   unfolding repeated
   repeated-valid s = by (eqb n 0) (leb n 16) s
     where
-      seven : length (each ++ (less ∷ [])) ≡ 7
-      seven = omega (arith, length-append each (less ∷ []), six)
+      seven : length (each ++ (count-down ∷ [])) ≡ 7
+      seven = omega (arith, length-append each (count-down ∷ []), six)
 
       by : (z t : Bool) → Stands at here (cond z [] (cond t (code (first ++ times-over n each)) (code start ++ (label l ∷ inner)))) → AllValid at here (cond z [] (cond t (code (first ++ times-over n each)) (code start ++ (label l ∷ inner))))
       by true t s = tt
@@ -116,7 +113,7 @@ module _ (at : ℕ → ℕ) (here n l : ℕ) (first each : List Instr) (six : le
           let there = here + 4 * length start in
           let q = stands-code at here start (label l ∷ inner) s in
           valid-then at here start (label l ∷ inner) (valids-join first (li-code 7 (pos n)) v (li-valid 7 (pos n) (omega arith)))
-          (valid-then at there (each ++ (less ∷ [])) (jump Bne l 0 ∷ []) (valids-join each (less ∷ []) w (omega arith)) (rw seven (back-valid (at l) there (q .0), tt)))
+          (valid-then at there (each ++ (count-down ∷ [])) (jump Bne l 0 ∷ []) (valids-join each (count-down ∷ []) w (omega arith)) (rw seven (back-valid (at l) there (q .0), tt)))
 
 -- a branch forward over `way` words, its own among them
 branch-valid : (p here way : ℕ) → p ≡ here + 4 * way → way < 1024 → Valid (jump-instr Beq 0 (subℕ p here))
@@ -176,7 +173,7 @@ module _ (at : ℕ → ℕ) (here : ℕ) where
     where
       by : (F : Frame) → T ((leb (H .cap) 4096 && (leb (cells H) 4096 && counts-hold H F)) && result-holds H F) → Stands at here (by-frame F (epilogue-fast H) (epilogue-indirect H)) → AllValid at here (by-frame F (epilogue-fast H) (epilogue-indirect H))
       by Fast h s =
-          let near : H .last ≤ 255 = leb→le (H .last) 255 (and-l (leb (H .last) 255) _ (and-r (leb (H .cap) 4096 && (leb (cells H) 4096 && leb (H .states) 8)) _ h)) in
+          let near : H .last ≤ result-limit = leb→le (H .last) result-limit (and-l (leb (H .last) result-limit) _ (and-r (leb (H .cap) 4096 && (leb (cells H) 4096 && leb (H .states) 8)) _ h)) in
           (omega arith, valid-code at (here + 4) (closing Fast) (closing-valid Fast))
       by Indirect h s =
           let first = li-code 6 (pos (8 * H .states)) ++ (R ADD 6 6 9 ∷ []) in

@@ -14,9 +14,12 @@ abbrev pub counts-hold : Head → Frame → Bool
 counts-hold H Fast = leb (H .states) 8
 counts-hold H Indirect = leb (H .last) 4096
 
--- a fast result cell is at most 255, and one of the cells
+-- a fast result cell is at most this, and one of the cells
+abbrev pub result-limit : ℕ
+result-limit = 255
+
 abbrev pub result-holds : Head → Frame → Bool
-result-holds H Fast = leb (H .last) 255 && ltb (H .last) (cells H)
+result-holds H Fast = leb (H .last) result-limit && ltb (H .last) (cells H)
 result-holds H Indirect = true
 
 abbrev pub prologue-holds : Head → Bool

@@ -74,12 +74,16 @@ module _ {A : Type 0} where
   times-over zero is = []
   times-over (suc n) is = is ++ times-over n is
 
+-- one round less to go
+abbrev pub count-down : Instr
+count-down = I ADDI 7 7 (negsuc 0)
+
 -- `first`, then n times `each`: a loop that counts t2 down where n is above 16
 unfoldable pub repeated : ℕ → (first each : List Instr) → (l : ℕ) → List Item
 repeated n first each l =
     cond (eqb n 0) []
     (cond (leb n 16) (code (first ++ times-over n each))
-    (code (first ++ li-code 7 (pos n)) ++ (label l ∷ (code (each ++ (I ADDI 7 7 (negsuc 0) ∷ [])) ++ (jump Bne l 0 ∷ [])))))
+    (code (first ++ li-code 7 (pos n)) ++ (label l ∷ (code (each ++ (count-down ∷ [])) ++ (jump Bne l 0 ∷ [])))))
 
 -- ---- the two frames
 
