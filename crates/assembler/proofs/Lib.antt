@@ -3,3 +3,5 @@ pub mod Checks
 pub mod Writes
 pub mod Items
 pub mod Steps
+pub mod Plans
+pub mod Handed

@@ -17,6 +17,7 @@ use Rattle.isa.proofs.Validity.{valid-Valid, Valid-valid}
 use Rattle.refusal.specs.Answer.{accepted, refused}
 use Rattle.encoder.specs.Answer.{encoded}
 use Rattle.encoder.proofs.Answers.{accepted-valid, valid-accepted}
+use Rattle.assembler.proofs.Handed.{kept}
 use Rattle.assembler.specs.Jump.{kind-of, jump-instr}
 use Rattle.assembler.specs.declared.Kind.the-variants.{Bne}
 
@@ -55,16 +56,6 @@ pub low-part : (u : ℕ) → lo (u % 4096 + 4) ≡ lo (u + 4)
 low-part u =
     let e : (u % 4096 + 4) % 4096 ≡ (u + 4) % 4096 = omega arith in
     rw e
-
--- a number handed on is read back from its bits
-kept : (z y : ℤ) → z ≡ y → SFits w32 y → toZ w32 (ofZ w32 z) ≡ y
-kept z y e f = ap (λ (v : ℤ). toZ w32 (ofZ w32 v)) e ∙ toZ-ofZ w32 y f
-
-pub hi-kept : (u : ℕ) (z : ℤ) → z ≡ pos (hi u) → toZ w32 (ofZ w32 z) ≡ pos (hi u)
-hi-kept u z e = kept z _ e (record { sfits = omega (arith, hi-fits u) })
-
-pub lo-kept : (u : ℕ) (z : ℤ) → z ≡ lo u → toZ w32 (ofZ w32 z) ≡ lo u
-lo-kept u z e = kept z _ e (record { sfits = omega (arith, lo-fits u) })
 
 pub offset-kept : (a b : ℕ) (z : ℤ) → a ≤ 65536 → b ≤ 65536 → z ≡ subℕ a b → toZ w32 (ofZ w32 z) ≡ subℕ a b
 offset-kept a b z h k e = kept z _ e (fits a b h k)

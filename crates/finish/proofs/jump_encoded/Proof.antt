@@ -6,7 +6,8 @@ use borrow.Author.Needs.{needs}
 use Rattle.isa.specs.Immediate.{hi, lo}
 use Rattle.isa.specs.Instr.{U, I, B, AUIPC, LD, JALR, FLD, BEQ, BNE}
 use Rattle.encoder.specs.Answer.{encoded}
-use Rattle.finish.proofs.Near.{hi-kept, lo-kept, offset-kept, last-kind}
+use Rattle.assembler.proofs.Handed.{hi-kept, lo-kept}
+use Rattle.finish.proofs.Near.{offset-kept, last-kind}
 use Rattle.finish.proofs.jump_encoded.Statement.{statement}
 use Rattle.finish.proofs.jump_encoded.Tie as tie
 

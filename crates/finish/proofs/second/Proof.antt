@@ -1,7 +1,8 @@
 use Prim.Native.Nat.{_+_, _%_}
 use mathlib.Core.Path.{_∙_}
 use borrow.Author.Needs.{needs}
-use Rattle.finish.proofs.Near.{lo-kept, low-part}
+use Rattle.assembler.proofs.Handed.{lo-kept}
+use Rattle.finish.proofs.Near.{low-part}
 use Rattle.finish.proofs.second.Statement.{statement}
 use Rattle.finish.proofs.second.Tie as tie
 
