@@ -1,3 +1,2 @@
-mod Names
-pub mod Inverse
-mod Shapes
+mod Ranges
+mod Whole

@@ -1,3 +1,1 @@
-pub mod Line
-pub mod Read
-pub mod Form
+pub mod Judge

@@ -1,0 +1,173 @@
+-- Document 01, "Numbers of refusal": which numbers a line's fields may be, and what the line then says.
+use mathlib.Core.Bool.{Bool, true, false, _&&_, _||_, not, cond}
+use mathlib.Core.List.{List, [], _∷_}
+use Prim.Native.Nat.{ℕ, _+_, _/_, _%_, _^_}
+use lib.Dec.{eqb, ltb, leb}
+use lib.Ieee.{ofInt, binary64}
+use lib.IntN.{ℤ, pos, negℤ}
+use Rattle.refusal.specs.Answer.{Answer, accepted, refused}
+use Rattle.refusal.specs.Number.{number-of}
+use Rattle.refusal.specs.declared.Refusal.{Refusal}
+use Rattle.refusal.specs.declared.Refusal.the-variants.{Register, Value as Valued, Label, Count, Line}
+use Rattle.order.specs.declared.Place.{Place}
+use Rattle.order.specs.declared.Place.the-variants.{Mem, Stack, Param}
+use Rattle.order.specs.declared.Frame.{Frame}
+use Rattle.order.specs.declared.Frame.the-variants.{Fast, Indirect}
+use Rattle.order.specs.declared.Head.{Head}
+use Rattle.order.specs.declared.Order.{Order}
+use Rattle.order.specs.declared.Order.the-variants as Order
+use Rattle.order.specs.declared.Constant.{Constant}
+use Rattle.order.specs.declared.Constant.the-variants as Constant
+use Rattle.text.specs.declared.Number.{Number}
+use Rattle.text.specs.declared.Number.the-variants.{Value, TooBig}
+use Rattle.form.specs.declared.Form.{Form}
+use Rattle.form.specs.declared.Form.the-variants as Form
+use Rattle.deck.specs.declared.Judged.{Judged}
+use Rattle.deck.specs.declared.Judged.the-variants as Judged
+use Rattle.deck.specs.declared.Bounded.{Bounded}
+use Rattle.deck.specs.declared.Bounded.the-variants as Bounded
+
+-- ---- answers
+
+-- what an accepted line says
+pub data Content : Type 0 where
+  head : Head → Content
+  order : Order → Content
+  constant : Constant → Content
+
+-- an answer's content, or its number; the place 0 stands for the line's, which the routine knows
+abbrev pub told : Judged → Answer Content
+told (Judged.Head h) = accepted (head h)
+told (Judged.Order o) = accepted (order o)
+told (Judged.Constant c) = accepted (constant c)
+told (Judged.Refused r) = refused (number-of r) 0
+
+-- the answer, if the test holds; else the refusal
+abbrev pub demand : Bool → Refusal → Answer Content → Answer Content
+demand true r a = a
+demand false r a = refused (number-of r) 0
+
+-- ---- fields
+
+abbrev pub below : ℕ → Number → Bool
+below k (Value n) = ltb n k
+below k TooBig = false
+
+abbrev pub value : Number → ℕ
+value (Value n) = n
+value TooBig = 0
+
+abbrev pub register : Number → Bool
+register n = below 32 n
+
+-- a user's label
+abbrev pub label : Number → Bool
+label n = below 1024 n
+
+-- no count is more than 4,096, so no index is 4,096 or more
+abbrev pub index : Number → Bool
+index n = below 4096 n
+
+-- `k` of `load_const`
+abbrev pub constant-index : Number → Bool
+constant-index n = below 1008 n
+
+abbrev pub mask : Number → Bool
+mask n = below (2 ^ 32) n
+
+abbrev pub count : Number → Bool
+count n = below 4097 n
+
+-- magnitudes up to 2^53
+abbrev pub exact : Number → Bool
+exact n = below 9007199254740993 n
+
+abbrev pub signed : Bool → ℕ → ℤ
+signed false n = pos n
+signed true n = negℤ (pos n)
+
+-- ---- the head's counts
+
+-- fs0..fs11
+abbrev pub preserved : List ℕ
+preserved = 8 ∷ 9 ∷ 18 ∷ 19 ∷ 20 ∷ 21 ∷ 22 ∷ 23 ∷ 24 ∷ 25 ∷ 26 ∷ 27 ∷ []
+
+-- bit r of the mask is set
+abbrev pub in-mask : (m r : ℕ) → Bool
+in-mask m r = eqb (m / 2 ^ r % 2) 1
+
+abbrev pub any : (ℕ → Bool) → List ℕ → Bool
+any p [] = false
+any p (r ∷ rs) = p r || any p rs
+
+-- the mask has a preserved register
+unfoldable pub saves : ℕ → Bool
+saves m = any (in-mask m) preserved
+
+abbrev pub cells : Head → ℕ
+cells h = h .states + h .obs
+
+-- a fast frame has at most 8 states, and its result cell is at most 255 and one of its cells
+abbrev pub frame-holds : Head → Frame → Bool
+frame-holds h Fast = leb (h .states) 8 && (leb (h .last) 255 && ltb (h .last) (cells h))
+frame-holds h Indirect = true
+
+-- at most 4,096 cells; cap at least 16 if the mask has a preserved register
+unfoldable pub counts-hold : Head → Bool
+counts-hold h = leb (cells h) 4096 && ((leb 16 (h .cap) || not (saves (h .mask))) && frame-holds h (h .frame))
+
+abbrev pub head-of : Frame → (cap states obs last mask : Number) → Head
+head-of f c s o l m = record { frame = f; cap = value c; states = value s; obs = value o; last = value l; mask = value m }
+
+-- ---- a line: 12, then 1, 3, 2, 9
+
+unfoldable pub judged : Form → Answer Content
+judged Form.Malformed = refused (number-of Line) 0
+judged (Form.Head f c s o l m) =
+    demand (mask m) Valued (demand (count c && (count s && (count o && (count l && counts-hold (head-of f c s o l m))))) Count (accepted (head (head-of f c s o l m))))
+judged (Form.Unary u d s) = demand (register d && register s) Register (accepted (order (Order.Unary u (value d) (value s))))
+judged (Form.Scratched u d s t) =
+    demand (register d && (register s && register t)) Register (accepted (order (Order.Scratched u (value d) (value s) (value t))))
+judged (Form.Binary u d s t) =
+    demand (register d && (register s && register t)) Register (accepted (order (Order.Binary u (value d) (value s) (value t))))
+judged (Form.Fused u d s t v) =
+    demand (register d && (register s && (register t && register v))) Register (accepted (order (Order.Fused u (value d) (value s) (value t) (value v))))
+judged (Form.Ifelse d s t i) =
+    demand (register d && (register s && register t)) Register (demand (index i) Count (accepted (order (Order.Ifelse (value d) (value s) (value t) (value i)))))
+judged (Form.LoadConst d k) = demand (register d) Register (demand (constant-index k) Count (accepted (order (Order.LoadConst (value d) (value k)))))
+judged (Form.Load d p i) = demand (register d) Register (demand (index i) Count (accepted (order (Order.Load (value d) p (value i)))))
+judged (Form.Save s p i) = demand (register s) Register (demand (index i) Count (accepted (order (Order.Save (value s) p (value i)))))
+judged (Form.BranchIf c l e) = demand (register c) Register (demand (label l) Label (accepted (order (Order.BranchIf (value c) (value l) e))))
+judged (Form.SetLabel l) = demand (label l) Label (accepted (order (Order.SetLabel (value l))))
+judged (Form.Float minus n) = demand (exact n) Valued (accepted (constant (Constant.Float (ofInt binary64 (signed minus (value n))))))
+judged (Form.Bits n) = accepted (constant (Constant.Bits n))
+
+-- ---- an order's cell, with the head
+
+-- how many cells a place has; a fast frame has no parameters
+abbrev pub params : Head → Frame → ℕ
+params h Fast = 0
+params h Indirect = h .last
+
+abbrev pub count-of : Head → Place → ℕ
+count-of h Mem = cells h
+count-of h Stack = h .cap
+count-of h Param = params h (h .frame)
+
+-- the index of the cell that an order names is below its count; where not, it is refused by number 9
+abbrev pub within : Order → Head → Bool
+within (Order.Unary u d s) h = true
+within (Order.Scratched u d s t) h = true
+within (Order.Binary u d s t) h = true
+within (Order.Fused u d s t v) h = true
+within (Order.Ifelse d s t i) h = ltb i (count-of h Stack)
+within (Order.LoadConst d k) h = true
+within (Order.Load d p i) h = ltb i (count-of h p)
+within (Order.Save s p i) h = ltb i (count-of h p)
+within (Order.BranchIf c l e) h = true
+within (Order.SetLabel l) h = true
+
+-- ---- the parts of the judge
+
+abbrev pub bounded : ℕ → Number → Bounded
+bounded k n = cond (below k n) (Bounded.Is (value n)) Bounded.Beyond

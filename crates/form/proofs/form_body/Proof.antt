@@ -1,0 +1,58 @@
+use lib.Seq.{length-take-le}
+use mathlib.Core.Path.{sym, _∙_}
+use denote.Ref.{now}
+use native.Mathlib.Omega.{arith}
+use Rattle.form.proofs.Shapes.{line-is, line-bad}
+use borrow.Author.Needs.{needs}
+use Rattle.form.proofs.form_body.Statement.{statement}
+use Rattle.form.proofs.form_body.Tie as tie
+
+field-end-requires : tie.Need-field-end-requires
+field-end-requires c κs = search needs
+
+slice-aggregate-kind-named : tie.Need-slice-aggregate-kind-named
+slice-aggregate-kind-named c = sym (length-take-le _ _ (c .before .field-end .ensures .2 (omega arith)))
+
+kind-named-requires : tie.Need-kind-named-requires
+kind-named-requires c κs = search needs
+
+enum-known-k : tie.Need-enum-known-k
+enum-known-k c = search needs
+
+add-form-kind : tie.Need-add-form-kind
+add-form-kind c =
+    let f = c .before .before .before .before .before in
+    let h = f .field-end .ensures .2 (omega arith) in
+    record { fits = omega arith }
+
+form-kind-requires : tie.Need-form-kind-requires
+form-kind-requires c κs = search needs
+
+enum-told : tie.Need-enum-told
+enum-told c = search needs
+
+returns : tie.Need-returns
+returns c =
+    let f = c .before .before .before .before .before .before in
+    let a = f .before .before .args in
+    c .form-kind .ensures ∙ line-is (now (a .s)) _ (f .field-end .ensures .0) _ (sym (c .before .before .before .before .kind-named .ensures) ∙ c .before .before .k .given .1)
+
+returns-2 : tie.Need-returns-2
+returns-2 c =
+    let f = c .before .before .before .before in
+    let a = f .before .before .args in
+    line-bad (now (a .s)) _ (f .field-end .ensures .0) (sym (c .before .before .kind-named .ensures) ∙ c .enum-told .given .1)
+
+pub form-body-spec : {M : Type 1} → statement M
+form-body-spec =
+    tie.close
+    (tie.spec
+    field-end-requires
+    slice-aggregate-kind-named
+    kind-named-requires
+    enum-known-k
+    add-form-kind
+    form-kind-requires
+    enum-told
+    returns
+    returns-2)

@@ -1,0 +1,60 @@
+use mathlib.Core.Path.{sym, _∙_}
+use denote.Ref.{now}
+use Rattle.form.proofs.Shapes.{float-not-last, float-is, float-bad}
+use borrow.Author.Needs.{needs}
+use Rattle.form.proofs.form_float.Statement.{statement}
+use Rattle.form.proofs.form_float.Tie as tie
+
+field-end-requires : tie.Need-field-end-requires
+field-end-requires c κs = search needs
+
+returns : tie.Need-returns
+returns c =
+    let f = c .before in
+    let a = f .before .before .args in
+    float-not-last (now (a .s)) (a .a) _ (f .field-end .ensures .0) (f .field-end .ensures .1) (f .field-end .ensures .2) (c .if1 .taken)
+
+sub-read-integer : tie.Need-sub-read-integer
+sub-read-integer c = search needs
+
+part-read-integer-start : tie.Need-part-read-integer-start
+part-read-integer-start c = search needs
+
+part-read-integer-end : tie.Need-part-read-integer-end
+part-read-integer-end c = search needs
+
+read-integer-requires : tie.Need-read-integer-requires
+read-integer-requires c κs = search needs
+
+enum-known-minus : tie.Need-enum-known-minus
+enum-known-minus c = search needs
+
+enum-told : tie.Need-enum-told
+enum-told c = search needs
+
+returns-2 : tie.Need-returns-2
+returns-2 c =
+    let f = c .before .before .before .before .before .before in
+    let a = f .before .before .args in
+    float-is (now (a .s)) (a .a) _ (f .field-end .ensures .0) (f .field-end .ensures .1) (f .field-end .ensures .2) (c .before .before .before .before .before .if1 .left) _ _ (sym (c .before .before .before .read-integer .ensures) ∙ c .before .minus .given .1)
+
+returns-3 : tie.Need-returns-3
+returns-3 c =
+    let f = c .before .before .before .before .before in
+    let a = f .before .before .args in
+    float-bad (now (a .s)) (a .a) _ (f .field-end .ensures .0) (f .field-end .ensures .1) (f .field-end .ensures .2) (c .before .before .before .before .if1 .left) (sym (c .before .before .read-integer .ensures) ∙ c .enum-told .given .1)
+
+pub form-float-spec : {M : Type 1} → statement M
+form-float-spec =
+    tie.close
+    (tie.spec
+    field-end-requires
+    returns
+    sub-read-integer
+    part-read-integer-start
+    part-read-integer-end
+    read-integer-requires
+    enum-known-minus
+    enum-told
+    returns-2
+    returns-3)

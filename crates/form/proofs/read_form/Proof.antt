@@ -1,0 +1,43 @@
+use lib.Seq.{length-take-le}
+use mathlib.Core.Path.{refl, sym, _∙_}
+use denote.Ref.{now}
+use native.Mathlib.Omega.{arith}
+use Rattle.form.proofs.Shapes.{no-line, no-newline, newline}
+use borrow.Author.Needs.{needs}
+use Rattle.form.proofs.read_form.Statement.{statement}
+use Rattle.form.proofs.read_form.Tie as tie
+
+returns : tie.Need-returns
+returns c = no-line _ (c .if1 .taken)
+
+sub-e : tie.Need-sub-e
+sub-e c = search needs
+
+shared-slice-read-if2 : tie.Need-shared-slice-read-if2
+shared-slice-read-if2 c = search needs
+
+returns-2 : tie.Need-returns-2
+returns-2 c = no-newline _ _ refl (c .if2 .taken)
+
+slice-aggregate-form-body : tie.Need-slice-aggregate-form-body
+slice-aggregate-form-body c = sym (length-take-le _ _ (omega arith))
+
+form-body-requires : tie.Need-form-body-requires
+form-body-requires c κs = search needs
+
+returns-3 : tie.Need-returns-3
+returns-3 c =
+    let a = c .before .before .before .before .before .before .args in
+    c .form-body .ensures ∙ newline (now (a .line)) _ refl (c .before .before .if2 .left)
+
+pub read-form-spec : {M : Type 1} → statement M
+read-form-spec =
+    tie.close
+    (tie.spec
+    returns
+    sub-e
+    shared-slice-read-if2
+    returns-2
+    slice-aggregate-form-body
+    form-body-requires
+    returns-3)
