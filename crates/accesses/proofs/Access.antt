@@ -21,7 +21,7 @@ use Rattle.accesses.specs.Code.{li-code, point-code, access-code}
 use Rattle.accesses.specs.Fault.{offset-limit, access-fault, last-pair}
 use Rattle.accesses.specs.Stands.{Stands, behind, cell-at, with-t0}
 use Rattle.accesses.proofs.Then.{passed, leads, through, behind-both}
-use Rattle.accesses.proofs.Li.{eight, li-runs}
+use Rattle.accesses.proofs.LoadImmediate.{eight, li-runs}
 
 -- ---- what is not refused
 

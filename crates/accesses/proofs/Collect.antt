@@ -7,7 +7,7 @@ use native.Mathlib.Nat.{min-eq-left, mod-eq-of-lt}
 use native.Mathlib.Omega.{arith}
 use native.Mathlib.Numerals.{add-one}
 use borrow.Author.Tests.{lt-ltb, le-ltb}
-use lib.Dec.{ltb}
+use lib.Dec.{ltb, leb}
 use lib.ListN.{length, take, set, getD, length-set, length-append, length-map, replicate}
 use lib.Seq.{take-suc-set, append-snoc}
 use lib.IntN.{ℤ, pos, negsuc}
@@ -26,11 +26,13 @@ use Rattle.encoder.specs.Field.{sign-of}
 use Rattle.encoder.specs.declared.Sign.the-variants.{NonNeg, Neg}
 use Rattle.encoder.specs.declared.Encoded.{Encoded}
 use Rattle.encoder.specs.declared.Encoded.the-variants.{Word, Refused}
+use Rattle.machine.proofs.Placed.{Valids}
 use Rattle.isa.proofs.Validity.{Valid-valid, Valid-registers}
 use Rattle.assembler.specs.Plan.{no-words, pushed, plan-words}
 use Rattle.assembler.specs.declared.Plan.{Plan}
 use Rattle.accesses.specs.Plans.{answer-of, pushes-from, pushes, plan-of, Built}
 use Rattle.accesses.specs.Code.{li-code}
+use Rattle.accesses.specs.Fault.{li-takes, offset-limit}
 
 -- the encoder's promise gives its answer
 refusal1 : (r : Refusal) → number-of r ≡ 1 → r ≡ Register
@@ -108,8 +110,7 @@ one-more p ws e w q l h =
     })
 
 abbrev pub AllValid : List Instr → Type 0
-AllValid [] = Unit {0}
-AllValid (i ∷ is) = Valid i × AllValid is
+AllValid is = Valids is
 
 collect : (is : List Instr) (p : Plan) (ws : List ℕ) → AllValid is → length ws + length is ≤ 12 → Holding p ws
     → Holding (pushes-from p (map answer-of is)) (ws ++ map encode is)
@@ -194,3 +195,12 @@ pushed-two is i j {d} {e} p q =
     ap (λ (x : Plan). pushed x e) (pushed-last is i p)
     ∙ pushed-last (is ++ (i ∷ [])) j q
     ∙ ap plan-of (append-snoc is i (j ∷ []))
+
+-- what li takes, by the sign
+pub takes-pos : (z : ℤ) (n : ℕ) → sign-of z ≡ NonNeg n → li-takes z ≡ leb n offset-limit
+takes-pos (pos m) n e = let q : m ≡ n = cc in rw q
+takes-pos (negsuc m) n e = let z : _≡_ {A = ℕ} 0 1 = cc in absurd (omega arith)
+
+pub takes-neg : (z : ℤ) → ((n : ℕ) × (sign-of z ≡ Neg n)) → SFits w32 z → li-takes z ≡ true
+takes-neg (negsuc m) e h = lt-ltb m 2147483648 (h .sfits)
+takes-neg (pos m) e h = let q = e .1 in let z : _≡_ {A = ℕ} 0 1 = cc in absurd (omega arith)

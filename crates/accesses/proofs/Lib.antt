@@ -1,6 +1,6 @@
 pub mod Parts
 pub mod Then
-pub mod Li
+pub mod LoadImmediate
 pub mod Access
 pub mod Stack
 pub mod Runs
@@ -8,3 +8,5 @@ pub mod Table
 pub mod Edges
 pub mod Collect
 pub mod Numbers
+pub mod Placed
+pub mod Lengths

@@ -21,7 +21,7 @@ use Rattle.accesses.specs.Code.{near-li, li-code, point-code, access-cod
 use Rattle.accesses.specs.Fault.{one-fault, last-pair, pair-fault}
 use Rattle.accesses.specs.Stands.{Stands, behind, cell-at, with-t0}
 use Rattle.accesses.proofs.Then.{valids-join}
-use Rattle.accesses.proofs.Li.{li-valid}
+use Rattle.accesses.proofs.LoadImmediate.{li-valid}
 use Rattle.accesses.proofs.Access.{Accepted, accepted, access-runs, load-float-direct, load-int-direct, save-float-direct, load-pair-direct, save-pair-direct}
 
 -- ---- validity

@@ -21,7 +21,7 @@ use Rattle.accesses.specs.Code.{near-size, li-code, sub-stack-code, add-
 use Rattle.accesses.specs.Fault.{offset-limit, li-takes, stack-fault}
 use Rattle.accesses.specs.Stands.{Stands, behind, with-size}
 use Rattle.accesses.proofs.Then.{passed, leads, valids-join, through, behind-both}
-use Rattle.accesses.proofs.Li.{li-valid, li-runs}
+use Rattle.accesses.proofs.LoadImmediate.{li-valid, li-runs}
 
 pub size-fits : (n : ℕ) → stack-fault n ≡ 0 → n ≤ offset-limit
 size-fits n e = leb→le n offset-limit ((passed (leb n offset-limit) 0 1 e) .0)

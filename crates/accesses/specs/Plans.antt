@@ -8,7 +8,11 @@ use Rattle.isa.specs.Encode.{encode}
 use Rattle.refusal.specs.declared.Refusal.the-variants.{Register, Value}
 use Rattle.encoder.specs.declared.Encoded.{Encoded}
 use Rattle.encoder.specs.declared.Encoded.the-variants.{Word, Refused}
-use Rattle.assembler.specs.Plan.{no-words, pushed, plan-words}
+use lib.Dec.{eqb}
+use Rattle.assembler.specs.State.{State, Outcome}
+use Rattle.assembler.specs.Put.{put}
+use Rattle.assembler.specs.Plan.{no-words, pushed, plan-words, plan-fault, plan-items}
+use Rattle.assembler.specs.declared.Tail.the-variants.{Nothing}
 use Rattle.assembler.specs.declared.Plan.{Plan}
 
 -- the encoder's answer for an instruction
@@ -25,6 +29,10 @@ pushes es = pushes-from no-words es
 -- the plan of a list of instructions
 abbrev pub plan-of : List Instr → Plan
 plan-of is = pushes (map answer-of is)
+
+-- a plan placed where its operands have no fault, else the fault
+unfoldable pub settled-plan : (fault : ℕ) → Plan → State → Outcome
+settled-plan fault p s = cond (eqb fault 0) (put 0 (plan-fault p Nothing) (plan-items p Nothing) s) (put 0 fault [] s)
 
 -- the plan holds the words of these instructions, and no fault
 pub record Built (p : Plan) (is : List Instr) : Type 0 where

@@ -3,6 +3,7 @@
 ghost use mathlib.Core.Path.{_≡_};
 ghost use mathlib.Core.List.{[], _∷_, map};
 ghost use Prim.Native.Nat.{_+_, _≤_, _<_};
+ghost use lib.Dec.{ltb};
 ghost use lib.IntN.{pos, negℤ};
 ghost use Rattle.isa.specs.Immediate.{hi, lo};
 ghost use Rattle.isa.specs.Instr.{R, I, U, ADD, ADDI, LUI};
@@ -10,8 +11,8 @@ ghost use Rattle.assembler.specs.Item.{instr};
 ghost use Rattle.assembler.specs.State.{state, outcome};
 ghost use Rattle.assembler.specs.Put.{put};
 ghost use Rattle.accesses.specs.Code.{li-code, point-code, load-float-code, save-float-code, load-int-code, load-complex-code, save-complex-code, sub-stack-code, add-stack-code, allocate-stack-code};
-ghost use Rattle.accesses.specs.Fault.{li-fault, one-fault, pair-fault, stack-fault};
-ghost use Rattle.accesses.specs.Plans.{pushes, plan-of};
+ghost use Rattle.accesses.specs.Fault.{li-fault, access-fault, one-fault, pair-fault, stack-fault};
+ghost use Rattle.accesses.specs.Plans.{pushes, plan-of, settled-plan};
 use assembler::Asm;
 use assembler::Done;
 use assembler::Plan;
@@ -203,4 +204,228 @@ fn allocate_stack_plan(n: u32) -> Plan
     }
     let p = assembler::push(li_offset(n), encoder::sub(SP, SP, T0));
     assembler::push(p, encoder::mv(STACK, SP))
+}
+
+// ---- placed: all words, or a refusal and nothing
+
+// A plan whose operands have the number `fault`, 0 for none.
+fn settle(
+    fault: u8,
+    p: Plan,
+    buf: &mut [u8],
+    labels: &mut [u64; 2039],
+    jumps: &mut [u32; 20480],
+    asm: Asm,
+) -> Done
+    requires { ⌜ fault ≤ 12 ⌝ }
+    ensures { λ x. ⌜ outcome x (now (labels .exit)) (now (jumps .exit)) (now (buf .exit)) ≡ settled-plan fault p (state asm (now (labels .entry)) (now (jumps .entry)) (now (buf .entry))) ⌝ }
+{
+    if fault == 0 {
+        return assembler::place(p, Tail::Nothing, 0, buf, labels, jumps, asm);
+    }
+    let q = Plan {
+        n: 0,
+        fault,
+        w: [0u32; 12],
+    };
+    assembler::place(q, Tail::Nothing, 0, buf, labels, jumps, asm)
+}
+
+// document 01's number for `li`, 0 for none.
+fn li_refusal(d: u32, z: i32) -> u8
+    ensures { λ r. ⌜ (r ≡ li-fault d z) × (r ≤ 12) ⌝ }
+{
+    if d >= 32 {
+        return 1;
+    }
+    let s = encoder::split(z);
+    match s {
+        Sign::NonNeg(n) => if n <= 0x7FFFF7FF { 0 } else { 2 },
+        Sign::Neg(_) => 0,
+    }
+}
+
+// For an access of one cell.
+fn one_refusal(r: u32, base: u32, n: u32) -> u8
+    ensures { λ x. ⌜ (x ≡ one-fault r base n) × (x ≤ 12) ⌝ }
+{
+    if r >= 32 {
+        return 1;
+    }
+    access_refusal(2048, base, n)
+}
+
+// For an access of two cells.
+fn pair_refusal(r: u32, base: u32, n: u32) -> u8
+    ensures { λ x. ⌜ (x ≡ pair-fault r base n) × (x ≤ 12) ⌝ }
+{
+    if r > 30 {
+        return 1;
+    }
+    access_refusal(2040, base, n)
+}
+
+// For the base and the offset of an access that is direct below `near`.
+fn access_refusal(near: u32, base: u32, n: u32) -> u8
+    ensures { λ x. ⌜ (x ≡ access-fault near (ltb base 32) base n) × (x ≤ 12) ⌝ }
+{
+    if base >= 32 {
+        return 1;
+    }
+    if n > 0x7FFFF7FF {
+        return 2;
+    }
+    if n < near {
+        return 0;
+    }
+    if base == T0 { 10 } else { 0 }
+}
+
+fn stack_refusal(n: u32) -> u8
+    ensures { λ x. ⌜ (x ≡ stack-fault n) × (x ≤ 12) ⌝ }
+{
+    if n <= 0x7FFFF7FF { 0 } else { 2 }
+}
+
+pub fn li(
+    d: u32,
+    z: i32,
+    buf: &mut [u8],
+    labels: &mut [u64; 2039],
+    jumps: &mut [u32; 20480],
+    asm: Asm,
+) -> Done
+    ensures { λ x. ⌜ outcome x (now (labels .exit)) (now (jumps .exit)) (now (buf .exit)) ≡ put 0 (li-fault d z) (map instr (li-code d z)) (state asm (now (labels .entry)) (now (jumps .entry)) (now (buf .entry))) ⌝ }
+{
+    let f = li_refusal(d, z);
+    settle(f, li_plan(d, z), buf, labels, jumps, asm)
+}
+
+pub fn load_float(
+    d: u32,
+    base: u32,
+    n: u32,
+    buf: &mut [u8],
+    labels: &mut [u64; 2039],
+    jumps: &mut [u32; 20480],
+    asm: Asm,
+) -> Done
+    ensures { λ x. ⌜ outcome x (now (labels .exit)) (now (jumps .exit)) (now (buf .exit)) ≡ put 0 (one-fault d base n) (map instr (load-float-code d base n)) (state asm (now (labels .entry)) (now (jumps .entry)) (now (buf .entry))) ⌝ }
+{
+    let f = one_refusal(d, base, n);
+    settle(f, load_float_plan(d, base, n), buf, labels, jumps, asm)
+}
+
+pub fn save_float(
+    s: u32,
+    base: u32,
+    n: u32,
+    buf: &mut [u8],
+    labels: &mut [u64; 2039],
+    jumps: &mut [u32; 20480],
+    asm: Asm,
+) -> Done
+    ensures { λ x. ⌜ outcome x (now (labels .exit)) (now (jumps .exit)) (now (buf .exit)) ≡ put 0 (one-fault s base n) (map instr (save-float-code s base n)) (state asm (now (labels .entry)) (now (jumps .entry)) (now (buf .entry))) ⌝ }
+{
+    let f = one_refusal(s, base, n);
+    settle(f, save_float_plan(s, base, n), buf, labels, jumps, asm)
+}
+
+pub fn load_int(
+    d: u32,
+    base: u32,
+    n: u32,
+    buf: &mut [u8],
+    labels: &mut [u64; 2039],
+    jumps: &mut [u32; 20480],
+    asm: Asm,
+) -> Done
+    ensures { λ x. ⌜ outcome x (now (labels .exit)) (now (jumps .exit)) (now (buf .exit)) ≡ put 0 (one-fault d base n) (map instr (load-int-code d base n)) (state asm (now (labels .entry)) (now (jumps .entry)) (now (buf .entry))) ⌝ }
+{
+    let f = one_refusal(d, base, n);
+    settle(f, load_int_plan(d, base, n), buf, labels, jumps, asm)
+}
+
+pub fn load_complex(
+    r: u32,
+    base: u32,
+    n: u32,
+    buf: &mut [u8],
+    labels: &mut [u64; 2039],
+    jumps: &mut [u32; 20480],
+    asm: Asm,
+) -> Done
+    ensures { λ x. ⌜ outcome x (now (labels .exit)) (now (jumps .exit)) (now (buf .exit)) ≡ put 0 (pair-fault r base n) (map instr (load-complex-code r base n)) (state asm (now (labels .entry)) (now (jumps .entry)) (now (buf .entry))) ⌝ }
+{
+    let f = pair_refusal(r, base, n);
+    if f != 0 {
+        return settle(f, assembler::no_plan(), buf, labels, jumps, asm);
+    }
+    settle(f, load_complex_plan(r, base, n), buf, labels, jumps, asm)
+}
+
+pub fn save_complex(
+    r: u32,
+    base: u32,
+    n: u32,
+    buf: &mut [u8],
+    labels: &mut [u64; 2039],
+    jumps: &mut [u32; 20480],
+    asm: Asm,
+) -> Done
+    ensures { λ x. ⌜ outcome x (now (labels .exit)) (now (jumps .exit)) (now (buf .exit)) ≡ put 0 (pair-fault r base n) (map instr (save-complex-code r base n)) (state asm (now (labels .entry)) (now (jumps .entry)) (now (buf .entry))) ⌝ }
+{
+    let f = pair_refusal(r, base, n);
+    if f != 0 {
+        return settle(f, assembler::no_plan(), buf, labels, jumps, asm);
+    }
+    settle(f, save_complex_plan(r, base, n), buf, labels, jumps, asm)
+}
+
+pub fn sub_stack(
+    n: u32,
+    buf: &mut [u8],
+    labels: &mut [u64; 2039],
+    jumps: &mut [u32; 20480],
+    asm: Asm,
+) -> Done
+    ensures { λ x. ⌜ outcome x (now (labels .exit)) (now (jumps .exit)) (now (buf .exit)) ≡ put 0 (stack-fault n) (map instr (sub-stack-code n)) (state asm (now (labels .entry)) (now (jumps .entry)) (now (buf .entry))) ⌝ }
+{
+    let f = stack_refusal(n);
+    if f != 0 {
+        return settle(f, assembler::no_plan(), buf, labels, jumps, asm);
+    }
+    settle(f, sub_stack_plan(n), buf, labels, jumps, asm)
+}
+
+pub fn add_stack(
+    n: u32,
+    buf: &mut [u8],
+    labels: &mut [u64; 2039],
+    jumps: &mut [u32; 20480],
+    asm: Asm,
+) -> Done
+    ensures { λ x. ⌜ outcome x (now (labels .exit)) (now (jumps .exit)) (now (buf .exit)) ≡ put 0 (stack-fault n) (map instr (add-stack-code n)) (state asm (now (labels .entry)) (now (jumps .entry)) (now (buf .entry))) ⌝ }
+{
+    let f = stack_refusal(n);
+    if f != 0 {
+        return settle(f, assembler::no_plan(), buf, labels, jumps, asm);
+    }
+    settle(f, add_stack_plan(n), buf, labels, jumps, asm)
+}
+
+pub fn allocate_stack(
+    n: u32,
+    buf: &mut [u8],
+    labels: &mut [u64; 2039],
+    jumps: &mut [u32; 20480],
+    asm: Asm,
+) -> Done
+    ensures { λ x. ⌜ outcome x (now (labels .exit)) (now (jumps .exit)) (now (buf .exit)) ≡ put 0 (stack-fault n) (map instr (allocate-stack-code n)) (state asm (now (labels .entry)) (now (jumps .entry)) (now (buf .entry))) ⌝ }
+{
+    let f = stack_refusal(n);
+    if f != 0 {
+        return settle(f, assembler::no_plan(), buf, labels, jumps, asm);
+    }
+    settle(f, allocate_stack_plan(n), buf, labels, jumps, asm)
 }

@@ -1,0 +1,56 @@
+-- No access has more than twelve words. Assumes nothing.
+use mathlib.Core.Path.{_≡_, refl}
+use mathlib.Core.Bool.{Bool, true, false, cond}
+use mathlib.Core.List.{List, [], _∷_, _++_}
+use Prim.Native.Nat.{ℕ, _≤_}
+use native.Mathlib.Omega.{arith}
+use lib.Dec.{ltb, lit≤}
+use lib.IntN.{ℤ, pos, negℤ}
+use lib.ListN.{length, length-append}
+use lib.Signed.{mag}
+use Rattle.isa.specs.Instr.{Instr, I, R, ADDI, ADD, SUB}
+use Rattle.accesses.specs.Code.{li-code, load-float-code, save-float-code, load-int-code, load-complex-code, save-complex-code, sub-stack-code, add-stack-code, allocate-stack-code, near-one, near-pair, near-li, near-size}
+use Rattle.accesses.proofs.Runs.{access-length}
+
+either : (t : Bool) (is js : List Instr) (k : ℕ) → length is ≤ k → length js ≤ k → length (cond t is js) ≤ k
+either true is js k h l = h
+either false is js k h l = l
+
+pub li-length : (d : ℕ) (z : ℤ) → length (li-code d z) ≤ 2
+unfolding li-code
+li-length d z = either (ltb (mag z) near-li) _ _ 2 (lit≤ tt) (lit≤ tt)
+
+li-and : (d : ℕ) (z : ℤ) (i : Instr) → length (li-code d z ++ (i ∷ [])) ≤ 3
+li-and d z i = omega (arith, length-append (li-code d z) (i ∷ []), li-length d z)
+
+pub sub-stack-length : (n : ℕ) → length (sub-stack-code n) ≤ 3
+unfolding sub-stack-code
+sub-stack-length n = either (ltb n near-size) _ _ 3 (lit≤ tt) (li-and 5 _ _)
+
+pub add-stack-length : (n : ℕ) → length (add-stack-code n) ≤ 3
+unfolding add-stack-code
+add-stack-length n = either (ltb n near-size) _ _ 3 (lit≤ tt) (li-and 5 _ _)
+
+pub load-float-length : (d b n : ℕ) → length (load-float-code d b n) ≤ 4
+load-float-length d b n = access-length near-one _ b n 1 (lit≤ tt) (lit≤ tt)
+
+pub save-float-length : (s b n : ℕ) → length (save-float-code s b n) ≤ 4
+save-float-length s b n = access-length near-one _ b n 1 (lit≤ tt) (lit≤ tt)
+
+pub load-int-length : (d b n : ℕ) → length (load-int-code d b n) ≤ 4
+load-int-length d b n = access-length near-one _ b n 1 (lit≤ tt) (lit≤ tt)
+
+pub load-complex-length : (r b n : ℕ) → length (load-complex-code r b n) ≤ 5
+load-complex-length r b n = access-length near-pair _ b n 2 (lit≤ tt) (lit≤ tt)
+
+pub save-complex-length : (r b n : ℕ) → length (save-complex-code r b n) ≤ 5
+save-complex-length r b n = access-length near-pair _ b n 2 (lit≤ tt) (lit≤ tt)
+
+pub allocate-stack-length : (n : ℕ) → length (allocate-stack-code n) ≤ 4
+unfolding allocate-stack-code
+allocate-stack-length n =
+    omega (
+      arith,
+      length-append (cond (ltb n near-size) (I ADDI 2 2 (negℤ (pos n)) ∷ []) (li-code 5 (pos n) ++ (R SUB 2 2 5 ∷ []))) (R ADD 21 2 0 ∷ []),
+      either (ltb n near-size) (I ADDI 2 2 (negℤ (pos n)) ∷ []) (li-code 5 (pos n) ++ (R SUB 2 2 5 ∷ [])) 3 (lit≤ tt) (li-and 5 (pos n) (R SUB 2 2 5)),
+    )
