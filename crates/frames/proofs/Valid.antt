@@ -20,7 +20,7 @@ use Rattle.assembler.specs.Resolved.{resolved}
 use Rattle.assembler.specs.declared.Kind.the-variants.{Beq, Bne}
 use Rattle.accesses.specs.Code.{li-code, sub-stack-code, add-stack-code, allocate-stack-code}
 use Rattle.accesses.proofs.Then.{valids-join}
-use Rattle.accesses.proofs.Li.{li-valid}
+use Rattle.accesses.proofs.LoadImmediate.{li-valid}
 use Rattle.accesses.proofs.Stack.{sub-stack-valid, add-stack-valid, allocate-stack-valid}
 use Rattle.frames.specs.Size.{cells, frame-size, stack-size}
 use Rattle.frames.specs.Mask.{saved, save-cell}
