@@ -1,0 +1,331 @@
+// One row: the line it holds, what the reader answers, and what the row expects.
+ghost use Prim.Native.Nat.{_≤_};
+use deck::Judged;
+use order::Binary;
+use order::Constant;
+use order::Frame;
+use order::Fused;
+use order::Head;
+use order::Order;
+use order::Place;
+use order::Scratched;
+use order::Unary;
+
+// Bytes in front of a row's line, and room for the line.
+const FRONT: usize = 48;
+
+const ROOM: usize = 80;
+
+// Only the first mismatches are printed.
+const SHOWN: u64 = 10;
+
+const STDOUT: i32 = 1;
+
+// An answer as a row's numbers.
+struct Answer {
+    tag: u32,
+    a: u32,
+    b: u32,
+    c: u32,
+    d: u32,
+    e: u32,
+    last: u64,
+}
+
+// Rows so far.
+pub struct Tally {
+    pub rows: u64,
+    pub accepted: u64,
+    pub refused: u64,
+    pub cells: u64,
+    pub mismatches: u64,
+    pub ended: bool,
+}
+
+pub fn start() -> Tally {
+    Tally {
+        rows: 0,
+        accepted: 0,
+        refused: 0,
+        cells: 0,
+        mismatches: 0,
+        ended: false,
+    }
+}
+
+// One more, up to the greatest number.
+fn more(n: u64) -> u64 {
+    if n < u64::MAX { n + 1 } else { n }
+}
+
+fn answer_of(tag: u32, a: u32, b: u32, c: u32, d: u32, e: u32, last: u64) -> Answer {
+    Answer {
+        tag,
+        a,
+        b,
+        c,
+        d,
+        e,
+        last,
+    }
+}
+
+// ---- answers as numbers
+
+fn unary(u: Unary) -> u32 {
+    match u {
+        Unary::Fmov => 0,
+        Unary::Recip => 1,
+        Unary::Round => 2,
+        Unary::Floor => 3,
+        Unary::Not => 4,
+    }
+}
+
+fn scratched(u: Scratched) -> u32 {
+    match u {
+        Scratched::Sign => 0,
+        Scratched::Frac => 1,
+    }
+}
+
+fn binary(u: Binary) -> u32 {
+    match u {
+        Binary::Minus => 0,
+        Binary::Times => 1,
+        Binary::Divide => 2,
+        Binary::Gt => 3,
+        Binary::Neq => 4,
+        Binary::And => 5,
+        Binary::Andnot => 6,
+        Binary::Or => 7,
+        Binary::Xor => 8,
+    }
+}
+
+fn fused(u: Fused) -> u32 {
+    match u {
+        Fused::MulAdd => 0,
+        Fused::MulSub => 1,
+        Fused::NegMulAdd => 2,
+        Fused::NegMulSub => 3,
+    }
+}
+
+fn place(p: Place) -> u32 {
+    match p {
+        Place::Mem => 0,
+        Place::Stack => 1,
+        Place::Param => 2,
+    }
+}
+
+fn order(o: Order) -> Answer {
+    match o {
+        Order::Unary(u, d, s) => answer_of(2, unary(u), d, s, 0, 0, 0),
+        Order::Scratched(u, d, s, t) => answer_of(3, scratched(u), d, s, t, 0, 0),
+        Order::Binary(u, d, s, t) => answer_of(4, binary(u), d, s, t, 0, 0),
+        Order::Fused(u, d, s, t, v) => answer_of(5, fused(u), d, s, t, v, 0),
+        Order::Ifelse(d, s, t, i) => answer_of(6, d, s, t, i, 0, 0),
+        Order::LoadConst(d, k) => answer_of(7, d, k, 0, 0, 0, 0),
+        Order::Load(d, p, i) => answer_of(8, d, place(p), i, 0, 0, 0),
+        Order::Save(s, p, i) => answer_of(9, s, place(p), i, 0, 0, 0),
+        Order::BranchIf(c, l, e) => answer_of(10, c, l, if e { 1 } else { 0 }, 0, 0, 0),
+        Order::SetLabel(l) => answer_of(11, l, 0, 0, 0, 0, 0),
+    }
+}
+
+fn head(h: Head) -> Answer {
+    let f = h.frame;
+    let k = match f {
+        Frame::Fast => 0,
+        Frame::Indirect => 1,
+    };
+    answer_of(1, k, h.cap, h.states, h.obs, h.last, h.mask as u64)
+}
+
+// A NaN, which differs from itself, has no bits of its own; no line gives one.
+fn constant(c: Constant) -> Answer {
+    match c {
+        Constant::Float(x) => if x == x {
+            answer_of(12, 0, 0, 0, 0, 0, f64::to_bits(x))
+        } else {
+            answer_of(12, 0, 0, 0, 0, 0, 0x7ff8000000000000)
+        },
+        Constant::Bits(n) => answer_of(13, 0, 0, 0, 0, 0, n),
+    }
+}
+
+fn line(s: &[u8]) -> Answer {
+    match deck::read_line(s) {
+        Judged::Head(h) => head(h),
+        Judged::Order(o) => order(o),
+        Judged::Constant(c) => constant(c),
+        Judged::Refused(r) => answer_of(0, refusal::number(r) as u32, 0, 0, 0, 0, 0),
+    }
+}
+
+// A head's line and an order's: is the cell within its count.
+fn cell(s: &[u8]) -> Answer {
+    let e = text::line_end(s, 0);
+    if e > s.len() {
+        return answer_of(0, 0, 0, 0, 0, 0, 0);
+    }
+    let Judged::Head(h) = deck::read_line(&s[..e]) else {
+        return answer_of(0, 0, 0, 0, 0, 0, 0);
+    };
+    let Judged::Order(o) = deck::read_line(&s[e..]) else {
+        return answer_of(0, 0, 0, 0, 0, 0, 0);
+    };
+    if deck::cell_within(o, h) {
+        answer_of(14, 1, 0, 0, 0, 0, 0)
+    } else {
+        answer_of(14, 0, 0, 0, 0, 0, 0)
+    }
+}
+
+// ---- rows
+
+// The value of a hexadecimal digit; 16 for any other byte.
+fn digit(b: u8) -> u32 {
+    match b {
+        48..=57 => b as u32 - 48,
+        97..=102 => b as u32 - 87,
+        _ => 16,
+    }
+}
+
+// The number that s spells in hexadecimal digits.
+fn number(s: &[u8]) -> u64 {
+    let mut v: u64 = 0;
+    let mut i = 0;
+    while i < s.len() {
+        v = (v % 0x1000000000000000) * 16 + (digit(s[i]) % 16) as u64;
+        i += 1;
+    }
+    v
+}
+
+// One of at most four digits.
+fn small(s: &[u8]) -> u32 {
+    (number(s) % 0x10000) as u32
+}
+
+fn expected(s: &[u8]) -> Answer {
+    if s.len() < FRONT {
+        return answer_of(255, 0, 0, 0, 0, 0, 0);
+    }
+    answer_of(
+        small(&s[0..2]),
+        small(&s[3..7]),
+        small(&s[8..12]),
+        small(&s[13..17]),
+        small(&s[18..22]),
+        small(&s[23..27]),
+        number(&s[28..44]),
+    )
+}
+
+// The byte at place i: its own, or the one that the two digits behind a backslash spell.
+fn byte_at(s: &[u8], i: usize) -> u8 {
+    if i >= s.len() {
+        return 0;
+    }
+    if s[i] != b'\\' {
+        return s[i];
+    }
+    if s.len() - i < 3 {
+        return 0;
+    }
+    let hi = digit(s[i + 1]) % 16;
+    let lo = digit(s[i + 2]) % 16;
+    (hi * 16 + lo) as u8
+}
+
+// How many bytes of the row it takes.
+fn width(b: u8) -> usize
+    ensures { λ r. ⌜ (1 ≤ r) × (r ≤ 3) ⌝ }
+{
+    if b == b'\\' { 3 } else { 1 }
+}
+
+// The bytes of a row's line, as far as it has `count` of them.
+fn unescape(s: &[u8], count: usize, out: &mut [u8]) -> usize {
+    let mut i = 0;
+    let mut n = 0;
+    while i < s.len() {
+        if n >= count {
+            return n;
+        }
+        if n >= out.len() {
+            return n;
+        }
+        out[n] = byte_at(s, i);
+        i += width(s[i]);
+        n += 1;
+    }
+    n
+}
+
+fn same(x: Answer, y: Answer) -> bool {
+    x.tag == y.tag
+        && x.a == y.a
+        && x.b == y.b
+        && x.c == y.c
+        && x.d == y.d
+        && x.e == y.e
+        && x.last == y.last
+}
+
+// What the reader answers for a row.
+fn came(s: &[u8], want: Answer) -> Answer {
+    if s.len() < FRONT {
+        return answer_of(254, 0, 0, 0, 0, 0, 0);
+    }
+    let mut buf = [0u8; ROOM];
+    let count = number(&s[45..47]) as usize;
+    let n = unescape(&s[48..], count, &mut buf);
+    if n != count {
+        return answer_of(254, 0, 0, 0, 0, 0, 0);
+    }
+    if n > ROOM {
+        return answer_of(254, 0, 0, 0, 0, 0, 0);
+    }
+    if want.tag == 14 {
+        cell(&buf[..n])
+    } else {
+        line(&buf[..n])
+    }
+}
+
+fn mismatch(t: Tally, s: &[u8]) -> Tally {
+    if t.mismatches < SHOWN {
+        io::write_all(STDOUT, b"row ");
+        io::print_decimal(STDOUT, t.rows);
+        io::write_all(STDOUT, b": ");
+        io::write_all(STDOUT, s);
+    }
+    let mut u = t;
+    u.mismatches = more(t.mismatches);
+    u
+}
+
+pub fn judged(before: Tally, s: &[u8]) -> Tally {
+    let mut t = before;
+    t.rows = more(before.rows);
+    let want = expected(s);
+    let got = came(s, want);
+    if !same(want, got) {
+        return mismatch(t, s);
+    }
+    if want.tag == 0 {
+        t.refused = more(t.refused);
+        return t;
+    }
+    if want.tag == 14 {
+        t.cells = more(t.cells);
+        return t;
+    }
+    t.accepted = more(t.accepted);
+    t
+}
