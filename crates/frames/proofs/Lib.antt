@@ -19,3 +19,6 @@ pub mod LeaveFast
 pub mod LeaveIndirect
 pub mod Closing
 pub mod Valid
+pub mod Digits
+pub mod Tests
+pub mod Pushes

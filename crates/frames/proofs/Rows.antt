@@ -28,7 +28,7 @@ pub record Stored (Q : Floats) (base n : ℕ) (is : List Instr) (u v : State) : 
 
 -- ---- states
 
-abbrev from : ℕ → ℕ → List ℕ
+abbrev pub from : ℕ → ℕ → List ℕ
 from i zero = []
 from i (suc k) = i ∷ from (suc i) k
 

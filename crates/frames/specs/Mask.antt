@@ -1,8 +1,8 @@
 -- Preserved float registers of a mask, and the stack cells that hold them (document 01, "mod.rs, frames").
-use mathlib.Core.Bool.{Bool, cond}
+use mathlib.Core.Bool.{Bool, _&&_, _||_, cond}
 use mathlib.Core.List.{List, [], _∷_}
 use Prim.Native.Nat.{ℕ, _-_, _/_, _%_, _^_}
-use lib.Dec.{eqb, ltb}
+use lib.Dec.{eqb, ltb, leb}
 
 -- fs0..fs11
 abbrev pub preserved : List ℕ
@@ -24,3 +24,7 @@ saved mask = chosen (in-mask mask) preserved
 -- f8, f9 go to stack cells 4, 5 and f18..f27 to 6..15
 abbrev pub save-cell : ℕ → ℕ
 save-cell r = cond (ltb r 18) (r - 4) (r - 12)
+
+-- the same as a test
+abbrev pub is-preserved : ℕ → Bool
+is-preserved r = (leb 8 r && leb r 9) || (leb 18 r && leb r 27)
