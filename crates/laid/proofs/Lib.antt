@@ -5,3 +5,4 @@ pub mod Each
 pub mod All
 pub mod Finished
 pub mod Both
+pub mod Behind
