@@ -6,4 +6,5 @@ pub mod Jumps
 pub mod Cases
 pub mod Does
 pub mod Laws
+pub mod Whole
 pub mod Examples

@@ -1,3 +1,5 @@
 pub mod Code
 pub mod Fault
 pub mod Does
+pub mod Parts
+pub mod Emitted
