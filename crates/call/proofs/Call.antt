@@ -1,20 +1,20 @@
 -- DEMAND 3, proved: prologue and saves, the body, reloads and epilogue, one behind another. Assumes nothing.
 use mathlib.Core.Path.{_≡_, refl, ap, sym, subst, _∙_}
 use mathlib.Core.Logic.{_⊎_, inl, inr}
-use mathlib.Core.Bool.{Bool, true, false, not, _&&_, _||_, cond}
-use mathlib.Core.List.{List, [], _∷_, _++_, List·Memᴰ, List·Memᴰ·head, List·Memᴰ·tail, List·Memᴰ·not-nil, List·Memᴰ·cases-cons}
+use mathlib.Core.Bool.{Bool, true, false, not, _||_, cond}
+use mathlib.Core.List.{List, [], _∷_, List·Memᴰ, List·Memᴰ·head, List·Memᴰ·tail, List·Memᴰ·not-nil, List·Memᴰ·cases-cons}
 use Prim.Native.Nat.{ℕ, zero, suc, _+_, _-_, _*_, _/_, _%_, _^_, _≤_, _<_}
 use native.Mathlib.Decide.{decLe, decLt}
 use native.Mathlib.Omega.{arith}
-use borrow.Author.Tests.{eqb-true, ltb-true}
-use lib.Dec.{T, eqb, ltb, leb, lit<, ltb→lt, T-not, not-T}
+use borrow.Author.Tests.{eqb-true}
+use lib.Dec.{T, eqb, leb, lit<, ltb→lt, T-not}
 use lib.ListN.{length, getD}
 use Rattle.machine.specs.Word.{w64, upd, dist, load8}
 use Rattle.machine.specs.Floats.{Floats}
 use Rattle.machine.specs.State.{State, Sound}
-use Rattle.machine.specs.Step.{CodeAt, Run}
-use Rattle.machine.proofs.Memory.{inside, dist-near, dist-back, dist-lt, load8-local, upd-other}
-use Rattle.machine.proofs.Effects.{and-l, and-r}
+use Rattle.machine.specs.Step.{CodeAt}
+use Rattle.machine.proofs.Memory.{inside, dist-near, dist-back, load8-local, upd-other}
+use Rattle.machine.proofs.Effects.{and-r}
 use Rattle.machine.proofs.Runs.{joined}
 use Rattle.order.specs.declared.Place.{Place}
 use Rattle.order.specs.declared.Place.the-variants.{Mem, Stack, Param}
@@ -23,17 +23,17 @@ use Rattle.order.specs.declared.Frame.the-variants.{Fast, Indirect}
 use Rattle.order.specs.declared.Head.{Head}
 use Rattle.frames.specs.Size.{cells, uses-table, holds-mem}
 use Rattle.frames.specs.Items.{kept}
-use Rattle.frames.specs.Mask.{preserved, chosen, in-mask, saved, save-cell}
+use Rattle.frames.specs.Mask.{preserved, chosen, in-mask, saved}
 use Rattle.frames.specs.Fault.{prologue-holds, result-holds}
-use Rattle.frames.proofs.Claim.{mem-at, Observed-at, sets, end-sets, prologue-steps, epilogue-steps, indirect, Ready, Leaving}
+use Rattle.frames.proofs.Claim.{mem-at, Observed-at, sets, end-sets, prologue-steps, epilogue-steps, Ready}
 use Rattle.frames.proofs.Claim as F
 use Rattle.frames.proofs.Closing.{leaves}
 use Rattle.call.specs.Program.{Program}
 use Rattle.call.specs.Plain.{Reading, Reads, Ended}
-use Rattle.call.specs.Terms.{table-used, frame-bytes, bottom, base, cell-count, cell-address, as-called, table-cell, start-f, start, observed, end-obs, Within, frame, Terms}
+use Rattle.call.specs.Terms.{table-used, bottom, base, cell-count, cell-address, as-called, table-cell, start-f, start, observed, end-obs, Within, frame, Terms}
 use Rattle.call.specs.Layout.{place, code-length, routine-words, line-offset}
 use Rattle.call.specs.Good.{member, Good}
-use Rattle.call.specs.Claim.{callers, frame-steps, Byte-of, Observation, Returned, Called, Claim, ForwardClaim}
+use Rattle.call.specs.Claim.{callers, Byte-of, Observation, Returned, Claim, ForwardClaim}
 use Rattle.call.proofs.Forth.{ends}
 use Rattle.call.proofs.Words.{code-stands}
 use Rattle.call.proofs.Cells.{Inside, at-cell}

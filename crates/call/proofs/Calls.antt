@@ -1,30 +1,25 @@
 -- The claim applied to closed calls: document 01's sample, an indirect frame with a1 zero, and one with a table.
-use mathlib.Core.Path.{_≡_, refl, ap, sym, subst, _∙_}
+use mathlib.Core.Path.{_≡_, refl, sym, subst}
 use mathlib.Core.Bool.{Bool, true, false, _&&_, cond}
-use mathlib.Core.List.{List, [], _∷_, _++_, flatMap}
+use mathlib.Core.List.{List, [], _∷_, flatMap}
 use mathlib.Core.Option.{some}
-use Prim.Native.Nat.{ℕ, zero, suc, _+_, _-_, _*_, _/_, _%_, _^_, _≤_, _<_}
+use Prim.Native.Nat.{ℕ, zero, suc, _+_, _-_, _*_, _^_, _≤_, _<_}
 use native.Mathlib.Omega.{arith}
 use borrow.Author.Tests.{le-leb, lt-leb, lt-ltb}
 use lib.Dec.{T, eqb, ltb, leb, ltb→lt}
-use lib.IntN.{pos}
 use lib.ListN.{length, getD, getElem?}
-use Rattle.isa.specs.Immediate.{hi, lo}
 use Rattle.machine.specs.Word.{w64, upd, dist, load8, store8}
 use Rattle.machine.specs.Floats.{Floats}
 use Rattle.machine.specs.Binary64.{binary64}
-use Rattle.machine.specs.State.{State, Sound}
+use Rattle.machine.specs.State.{State}
 use Rattle.machine.specs.Step.{Loaded, Run}
 use Rattle.machine.proofs.Effects.{and-l, and-r}
-use Rattle.order.specs.declared.Place.{Place}
-use Rattle.order.specs.declared.Place.the-variants.{Mem, Stack, Param}
+use Rattle.order.specs.declared.Place.the-variants.{Mem, Param}
 use Rattle.order.specs.declared.Binary.the-variants.{Times}
 use Rattle.order.specs.declared.Order.{Order}
 use Rattle.order.specs.declared.Order.the-variants.{Binary, Load, Save}
 use Rattle.order.specs.declared.Frame.the-variants.{Fast, Indirect}
-use Rattle.order.specs.declared.Head.{Head}
 use Rattle.assembler.specs.Bytes.{bytes}
-use Rattle.assembler.specs.Resolved.{resolved}
 use Rattle.accesses.specs.Code.{li-code, sub-stack-code, add-stack-code, allocate-stack-code, access-code, point-code}
 use Rattle.reading.specs.Meaning.{meaning, binary}
 use Rattle.reading.specs.Line.{Line, order, constant}
@@ -33,7 +28,7 @@ use Rattle.orders.specs.Fault.{fault}
 use Rattle.frames.specs.Mask.{saved}
 use Rattle.frames.specs.Items.{repeated, prologue, saves, reloads, epilogue}
 use Rattle.call.specs.Program.{Program, constants}
-use Rattle.call.specs.Plain.{Reading, with-cell, means, with-meaning, Step, does, Reads, none-read, line-read}
+use Rattle.call.specs.Plain.{Reading, with-cell, means, with-meaning, does, Reads, none-read, line-read}
 use Rattle.call.specs.Terms.{table-cell, start, Clear, frame, regions, Terms}
 use Rattle.call.specs.Layout.{span, body, constants-from, items, place, code-length, routine-words}
 use Rattle.call.specs.Good.{GoodOrder, Good}

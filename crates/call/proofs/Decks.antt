@@ -1,26 +1,22 @@
 -- The plain reading of small decks on IEEE 754 binary64, computed, with what document 01 gives by hand.
 use mathlib.Core.Path.{_≡_, refl}
-use mathlib.Core.Bool.{true, false}
-use mathlib.Core.List.{List, [], _∷_}
-use mathlib.Core.Option.{some}
-use Prim.Native.Nat.{ℕ, _+_}
+use mathlib.Core.Bool.{true}
+use mathlib.Core.List.{[], _∷_}
+use Prim.Native.Nat.{ℕ}
 use lib.ListN.{getD}
 use Rattle.machine.specs.Word.{upd}
 use Rattle.machine.specs.Floats.{one}
 use Rattle.machine.specs.Binary64.{binary64}
-use Rattle.order.specs.declared.Place.{Place}
-use Rattle.order.specs.declared.Place.the-variants.{Mem, Stack, Param}
+use Rattle.order.specs.declared.Place.the-variants.{Mem, Stack}
 use Rattle.order.specs.declared.Unary.the-variants.{Recip}
 use Rattle.order.specs.declared.Binary.the-variants.{Gt, Times}
-use Rattle.order.specs.declared.Order.{Order}
 use Rattle.order.specs.declared.Order.the-variants.{Unary, Binary, Ifelse, LoadConst, Load, Save, BranchIf, SetLabel}
 use Rattle.order.specs.declared.Constant.the-variants.{Bits}
 use Rattle.order.specs.declared.Frame.the-variants.{Fast}
-use Rattle.order.specs.declared.Head.{Head}
 use Rattle.reading.specs.Meaning.{meaning, binary, unary, choose}
-use Rattle.reading.specs.Line.{Line, order, constant}
+use Rattle.reading.specs.Line.{order, constant}
 use Rattle.call.specs.Program.{Program, constants, label-line}
-use Rattle.call.specs.Plain.{Reading, with-cell, means, with-meaning, passed, Step, does, passes, Reads, none-read, line-read}
+use Rattle.call.specs.Plain.{Reading, with-cell, does, passes, Reads, none-read, line-read}
 
 abbrev two : ℕ
 two = 0x4000000000000000

@@ -1,17 +1,17 @@
 -- From the terms of a call to where the body starts: behind prologue and saves the machine stands at the reading's start. Assumes nothing.
-use mathlib.Core.Path.{_≡_, refl, ap, sym, subst, _∙_}
+use mathlib.Core.Path.{_≡_, refl, ap, sym, _∙_}
 use mathlib.Core.Logic.{_⊎_, inl, inr}
 use mathlib.Core.Bool.{Bool, true, false, not, _&&_, _||_, cond}
 use mathlib.Core.List.{List, [], _∷_, _++_, List·Memᴰ, List·Memᴰ·head, List·Memᴰ·tail, List·Memᴰ·not-nil, List·Memᴰ·cases-cons}
-use Prim.Native.Nat.{ℕ, zero, suc, _+_, _-_, _*_, _%_, _^_, _≤_, _<_}
+use Prim.Native.Nat.{ℕ, zero, suc, _+_, _-_, _*_, _^_, _≤_, _<_}
 use native.Mathlib.Omega.{arith}
 use borrow.Author.Tests.{ltb-true, ltb-false, eqb-true, eqb-false, leb-true}
-use lib.Dec.{T, eqb, ltb, leb, leb→le, eqb→eq, eqb·suc-zero}
+use lib.Dec.{T, eqb, ltb, leb, eqb·suc-zero}
 use lib.ListN.{length}
 use Rattle.machine.specs.Word.{w64, upd, dist, load8}
 use Rattle.machine.specs.Floats.{Floats}
 use Rattle.machine.specs.State.{State, Sound}
-use Rattle.machine.specs.Step.{CodeAt, Run}
+use Rattle.machine.specs.Step.{CodeAt}
 use Rattle.machine.proofs.Memory.{inside, dist-back, load8-local}
 use Rattle.machine.proofs.Effects.{and-l}
 use Rattle.machine.proofs.Runs.{run-sound}
@@ -23,19 +23,18 @@ use Rattle.order.specs.declared.Frame.the-variants.{Fast, Indirect}
 use Rattle.order.specs.declared.Head.{Head}
 use Rattle.assembler.specs.Resolved.{resolved}
 use Rattle.orders.specs.Code as O
-use Rattle.frames.specs.Size.{cells, uses-table, holds-mem, stack-size}
+use Rattle.frames.specs.Size.{cells, holds-mem, stack-size}
 use Rattle.frames.specs.Fault.{prologue-holds}
 use Rattle.frames.specs.Mask.{saved, save-cell}
-use Rattle.frames.proofs.Claim.{mem-at, state-of, indirect, floats-of, Called, Ready}
+use Rattle.frames.proofs.Claim.{mem-at, state-of, indirect, Called, Ready}
 use Rattle.frames.proofs.Opened.{opens}
 use Rattle.call.specs.Program.{Program}
-use Rattle.call.specs.Plain.{Reading}
 use Rattle.call.specs.Terms.{table-used, frame-bytes, bottom, base, param-count, cell-count, as-called, table-cell, state-value, stack-value, start-cells, start-f, start, Terms}
 use Rattle.call.specs.Layout.{span, body, items, place, entry, exit, code-items, data-items, code-length, routine-words, line-offset}
 use Rattle.call.specs.Good.{cap-holds, Good}
 use Rattle.call.proofs.Items.{span-append, resolved-length}
 use Rattle.call.proofs.Whole.{entry-part, entry-stands}
-use Rattle.call.proofs.Cells.{Inside, at-cell}
+use Rattle.call.proofs.Cells.{at-cell}
 use Rattle.call.proofs.Follow.{Rel, Ground}
 use Rattle.call.proofs.Lies.{Lies, lies}
 

@@ -1,20 +1,19 @@
 -- The machine follows the plain reading, line by line. Assumes nothing.
-use mathlib.Core.Path.{_≡_, refl, ap, sym, _∙_}
-use mathlib.Core.Bool.{Bool, true, false, not, _&&_, _||_, cond}
+use mathlib.Core.Path.{_≡_, refl, ap, _∙_}
+use mathlib.Core.Bool.{Bool, not, _&&_, _||_}
 use mathlib.Core.List.{List, [], _∷_}
-use mathlib.Core.Option.{Option, some, none}
+use mathlib.Core.Option.{some}
 use Prim.Native.Nat.{ℕ, suc, _+_, _*_, _%_, _^_, _≤_, _<_}
-use native.Mathlib.Nat.{add-assoc}
 use native.Mathlib.Omega.{arith}
 use borrow.Author.Tests.{ne-eqb}
 use lib.Dec.{T, eqb, leb}
-use lib.ListN.{length, getD, getElem?}
-use Rattle.machine.specs.Word.{w64, dist, load8, store8}
+use lib.ListN.{length, getElem?}
+use Rattle.machine.specs.Word.{w64, load8}
 use Rattle.machine.specs.Floats.{Floats}
 use Rattle.machine.specs.State.{State, Sound, getx}
 use Rattle.machine.specs.Step.{CodeAt, Run, stop}
-use Rattle.machine.specs.Ends.{temporary, Ends}
-use Rattle.machine.proofs.Memory.{wrap-l, inside, Agree}
+use Rattle.machine.specs.Ends.{temporary}
+use Rattle.machine.proofs.Memory.{inside}
 use Rattle.machine.proofs.Runs.{joined, run-sound}
 use Rattle.machine.proofs.Placed.{code-kept}
 use Rattle.order.specs.declared.Place.{Place}
@@ -25,14 +24,13 @@ use Rattle.reading.specs.Meaning.{Exit, on, to, Written, Meaning, meaning}
 use Rattle.reading.specs.Line.{Line, order, constant, weight}
 use Rattle.orders.specs.Code.{code, line-code}
 use Rattle.orders.specs.Code as O
-use Rattle.orders.specs.Fault.{fault}
 use Rattle.orders.specs.Does.{At, Does, cell-value, const-value, written, exit-address}
 use Rattle.orders.proofs.Does.{order-does}
 use Rattle.orders.proofs.Laws.{line-length}
-use Rattle.call.specs.Program.{Program, constants, label-line}
-use Rattle.call.specs.Plain.{Reading, with-cells, goes, const, means, with-meaning, passed, Step, does, passes, Reads, none-read, line-read}
+use Rattle.call.specs.Program.{Program}
+use Rattle.call.specs.Plain.{Reading, goes, const, means, with-meaning, passed, Step, does, passes, Reads, none-read, line-read}
 use Rattle.call.specs.Terms.{cell-count}
-use Rattle.call.specs.Layout.{span, place, items, code-length, constants-offset, routine-words, line-offset}
+use Rattle.call.specs.Layout.{span, place, items, code-length, routine-words, line-offset}
 use Rattle.call.specs.Good.{GoodOrder, Good}
 use Rattle.call.proofs.Items.{resolved-length}
 use Rattle.call.proofs.Whole.{line-part, constant-part, offset-next, offset-four, offset-small, user-place, constants-place, placed}

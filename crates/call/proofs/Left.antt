@@ -1,11 +1,10 @@
 -- Behind the body: what reloads and epilogue ask for. Assumes nothing.
-use mathlib.Core.Path.{_≡_, refl, ap, sym, subst, _∙_}
-use mathlib.Core.Bool.{Bool, true, false, not, _&&_, _||_, cond}
-use mathlib.Core.List.{List, [], _∷_, _++_, List·Memᴰ}
-use Prim.Native.Nat.{ℕ, zero, suc, _+_, _-_, _*_, _%_, _^_, _≤_, _<_}
+use mathlib.Core.Path.{_≡_, ap, sym, _∙_}
+use mathlib.Core.List.{_++_, List·Memᴰ}
+use Prim.Native.Nat.{ℕ, _+_, _*_, _^_, _≤_, _<_}
 use native.Mathlib.Omega.{arith}
-use lib.Dec.{T, eqb, ltb, leb, ltb→lt}
-use lib.ListN.{length, getD}
+use lib.Dec.{T, ltb, ltb→lt}
+use lib.ListN.{length}
 use Rattle.machine.specs.Word.{w64, dist, load8}
 use Rattle.machine.specs.Floats.{Floats}
 use Rattle.machine.specs.State.{State, Sound}
@@ -13,7 +12,7 @@ use Rattle.machine.specs.Step.{CodeAt}
 use Rattle.machine.proofs.Memory.{inside, load8-local}
 use Rattle.machine.proofs.Effects.{and-l, and-r}
 use Rattle.order.specs.declared.Place.{Place}
-use Rattle.order.specs.declared.Place.the-variants.{Mem, Stack, Param}
+use Rattle.order.specs.declared.Place.the-variants.{Stack}
 use Rattle.order.specs.declared.Frame.{Frame}
 use Rattle.order.specs.declared.Frame.the-variants.{Fast, Indirect}
 use Rattle.order.specs.declared.Head.{Head}
@@ -22,19 +21,19 @@ use Rattle.frames.specs.Size.{cells, save-size, below-saves}
 use Rattle.frames.specs.Items.{kept}
 use Rattle.frames.specs.Mask.{saved, save-cell}
 use Rattle.frames.proofs.Rows.{saved-proper}
-use Rattle.frames.proofs.Claim.{mem-at, Observed-at, Ready, Leaving}
+use Rattle.frames.proofs.Claim.{Observed-at, Ready, Leaving}
 use Rattle.call.specs.Program.{Program}
 use Rattle.call.specs.Plain.{Reading, Reads, Ended}
-use Rattle.call.specs.Terms.{table-used, frame-bytes, bottom, base, cell-count, table-cell, start-cells, start, Within, frame, Terms}
+use Rattle.call.specs.Terms.{table-used, frame-bytes, bottom, base, cell-count, start, Within, frame, Terms}
 use Rattle.call.specs.Layout.{span, body, items, place, entry, exit, code-items, data-items, code-length, routine-words, line-offset}
 use Rattle.call.specs.Good.{Good}
-use Rattle.call.proofs.Items.{span-append, span-four, resolved-length}
+use Rattle.call.proofs.Items.{span-append, resolved-length}
 use Rattle.call.proofs.Whole.{exit-part, exit-stands, offset-four, part}
 use Rattle.call.proofs.Cells.{Inside, at-cell}
 use Rattle.call.proofs.Follow.{Rel, code-now}
-use Rattle.call.proofs.Saved.{Held, held}
-use Rattle.call.proofs.Lies.{Lies, lies}
-use Rattle.call.proofs.Entered.{saves-room, lying, opened, ready, outside-frame, start-cell, start-rel, ground, mem-base-is}
+use Rattle.call.proofs.Saved.{held}
+use Rattle.call.proofs.Lies.{Lies}
+use Rattle.call.proofs.Entered.{saves-room, lying, opened, ready, outside-frame, start-cell, ground}
 
 -- the cell of a saved register is one of the 16
 cell-low : (mask r : ℕ) → List·Memᴰ r (saved mask) → save-cell r < 16

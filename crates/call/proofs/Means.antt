@@ -1,22 +1,22 @@
 -- What an order's meaning rests on, and what it leaves, for an order of a good program. Assumes nothing.
-use mathlib.Core.Path.{_≡_, refl, ap, sym, _∙_}
-use mathlib.Core.Bool.{Bool, true, false, _&&_, cond}
+use mathlib.Core.Path.{_≡_, refl, ap}
+use mathlib.Core.Bool.{Bool, true, false, cond}
 use mathlib.Core.List.{List, [], _∷_}
-use Prim.Native.Nat.{ℕ, suc, _+_, _*_, _^_, _≤_, _<_}
+use Prim.Native.Nat.{ℕ, _^_, _≤_, _<_}
 use native.Mathlib.Omega.{arith}
 use lib.Dec.{T, leb, leb→le, ltb→lt}
 use lib.ListN.{length}
 use Rattle.machine.specs.Floats.{Floats}
 use Rattle.order.specs.declared.Place.{Place}
-use Rattle.order.specs.declared.Place.the-variants.{Mem, Stack, Param}
+use Rattle.order.specs.declared.Place.the-variants.{Stack}
 use Rattle.order.specs.declared.Head.{Head}
 use Rattle.order.specs.declared.Order.{Order}
 use Rattle.order.specs.declared.Order.the-variants.{Unary, Scratched, Binary, Fused, Ifelse, LoadConst, Load, Save, BranchIf, SetLabel}
 use Rattle.accesses.proofs.Then.{passed}
-use Rattle.reading.specs.Meaning.{Exit, on, to, Written, Meaning, jumps, meaning}
+use Rattle.reading.specs.Meaning.{on, to, jumps, meaning}
 use Rattle.reading.specs.Line.{Line}
 use Rattle.orders.specs.Fault.{registers-fit, fault}
-use Rattle.call.specs.Program.{constants, label-line}
+use Rattle.call.specs.Program.{constants}
 use Rattle.call.specs.Terms.{cell-count}
 use Rattle.call.specs.Good.{index-holds, Named}
 use Rattle.call.proofs.Cells.{Fine}

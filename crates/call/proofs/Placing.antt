@@ -1,9 +1,9 @@
 -- Where a routine's lines, labels and constants stand. Assumes nothing.
-use mathlib.Core.Path.{_≡_, refl, ap, sym, _∙_}
+use mathlib.Core.Path.{_≡_, refl, ap, _∙_}
 use mathlib.Core.Bool.{Bool, true, false, cond}
-use mathlib.Core.List.{List, [], _∷_, _++_, map}
+use mathlib.Core.List.{List, [], _∷_, _++_}
 use mathlib.Core.Option.{Option, some, none}
-use Prim.Native.Nat.{ℕ, zero, suc, _+_, _*_, _/_, _%_, _^_, _≤_, _<_}
+use Prim.Native.Nat.{ℕ, zero, suc, _+_, _*_, _/_, _%_, _^_, _<_}
 use native.Mathlib.Nat.{add-assoc, add-zero}
 use native.Mathlib.Omega.{arith}
 use borrow.Author.Tests.{eq-eqb, ne-eqb, eqb-false}
@@ -11,19 +11,19 @@ use lib.Dec.{eqb}
 use lib.ListN.{length, getD, getElem?, take}
 use Rattle.machine.specs.Word.{w64, load8}
 use Rattle.machine.specs.Step.{CodeAt}
-use Rattle.machine.proofs.Memory.{wrap-l, load8-wrap}
+use Rattle.machine.proofs.Memory.{wrap-l}
 use Rattle.machine.proofs.Placed.{code-left, code-right, code-eight}
 use Rattle.order.specs.declared.Order.{Order}
 use Rattle.order.specs.declared.Order.the-variants.{Unary, Scratched, Binary, Fused, Ifelse, LoadConst, Load, Save, BranchIf, SetLabel}
-use Rattle.assembler.specs.Item.{Item, instr, raw, jump, label}
+use Rattle.assembler.specs.Item.{label}
 use Rattle.assembler.specs.Resolved.{resolved, label-place}
-use Rattle.assembler.specs.Constant.{constant-label, quad}
+use Rattle.assembler.specs.Constant.{constant-label}
 use Rattle.reading.specs.Line.{Line, order, constant}
 use Rattle.accesses.specs.Code.{load-int-code, load-float-code, save-float-code}
 use Rattle.orders.specs.Code.{base, unary-code, scratched-code, binary-code, choose-code, code, line-code}
 use Rattle.call.specs.Program.{sets, here-or, label-line}
 use Rattle.call.specs.Layout.{span, body, constants-from}
-use Rattle.call.proofs.Items.{span-append, resolved-append, resolved-length, Unset, unset-append, unset-instrs, past, found}
+use Rattle.call.proofs.Items.{span-append, resolved-append, resolved-length, Unset, unset-append, unset-instrs, past}
 
 -- ---- labels of an order
 

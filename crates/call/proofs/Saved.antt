@@ -4,10 +4,9 @@ use mathlib.Core.Logic.{_≢_, _⊎_, inl, inr}
 use mathlib.Core.Bool.{Bool, true, false, not, _&&_, _||_, cond}
 use mathlib.Core.List.{List, [], _∷_, map, List·Memᴰ, List·Memᴰ·not-nil, List·Memᴰ·cases-cons}
 use mathlib.Core.Option.{some}
-use Prim.Native.Nat.{ℕ, suc, _+_, _*_, _≤_, _<_}
-use native.Mathlib.Omega.{arith}
-use borrow.Author.Tests.{eq-eqb, ne-eqb, eqb-true, eqb-false}
-use lib.Dec.{T, T-not, eqb, ltb}
+use Prim.Native.Nat.{ℕ}
+use borrow.Author.Tests.{eq-eqb, ne-eqb, eqb-true}
+use lib.Dec.{T, T-not, eqb}
 use lib.ListN.{getElem?}
 use Rattle.machine.specs.Word.{upd}
 use Rattle.machine.specs.Floats.{Floats}
@@ -21,12 +20,12 @@ use Rattle.order.specs.declared.Scratched as S
 use Rattle.order.specs.declared.Scratched.the-variants.{Sign, Frac}
 use Rattle.order.specs.declared.Order.{Order}
 use Rattle.order.specs.declared.Order.the-variants.{Unary, Scratched, Binary, Fused, Ifelse, LoadConst, Load, Save, BranchIf, SetLabel}
-use Rattle.reading.specs.Meaning.{Meaning, unary, scratched, meaning}
-use Rattle.reading.specs.Line.{Line, order, constant}
+use Rattle.reading.specs.Meaning.{unary, scratched, meaning}
+use Rattle.reading.specs.Line.{Line}
 use Rattle.frames.specs.Mask.{preserved, in-mask, saved, save-cell}
 use Rattle.call.specs.Program.{Program}
-use Rattle.call.specs.Plain.{Reading, with-cell, with-cells, means, Step, does, passes, Reads, none-read, line-read}
-use Rattle.call.specs.Good.{member, all-hold, unary-writes, writes, free, open-cell, stores-open, saves-hold, Good}
+use Rattle.call.specs.Plain.{Reading, with-cell, with-cells, Step, does, passes, Reads, none-read, line-read}
+use Rattle.call.specs.Good.{member, all-hold, unary-writes, writes, free, stores-open, Good}
 
 upd-self : (f : ℕ → ℕ) (d y : ℕ) → upd f d (f d) y ≡ f y
 unfolding upd

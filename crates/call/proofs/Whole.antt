@@ -1,12 +1,10 @@
 -- The parts of a routine in memory: its entry, lines, exit and constants, and the places of its labels. Assumes nothing.
-use mathlib.Core.Path.{_≡_, refl, ap, sym, _∙_}
-use mathlib.Core.Bool.{Bool, true, false, cond}
+use mathlib.Core.Path.{_≡_, refl, _∙_}
 use mathlib.Core.List.{List, [], _∷_, _++_, append-nil, append-assoc}
 use mathlib.Core.Option.{Option, some, none, Option·getD}
 use Prim.Native.Nat.{ℕ, zero, suc, _+_, _*_, _%_, _^_, _≤_, _<_}
-use native.Mathlib.Nat.{add-assoc, add-zero, zero-add}
+use native.Mathlib.Nat.{add-assoc, zero-add}
 use native.Mathlib.Omega.{arith}
-use borrow.Author.Tests.{leb-true}
 use lib.Dec.{leb, leb→le}
 use lib.ListN.{length, getD, getElem?, take}
 use lib.Seq.{take-all}
@@ -14,16 +12,14 @@ use Rattle.machine.specs.Word.{w64, load8}
 use Rattle.machine.specs.Step.{CodeAt}
 use Rattle.machine.proofs.Memory.{wrap-l}
 use Rattle.machine.proofs.Placed.{code-left, code-right}
-use Rattle.refusal.specs.Number.{number-of}
 use Rattle.order.specs.declared.Frame.{Frame}
 use Rattle.order.specs.declared.Frame.the-variants.{Fast, Indirect}
 use Rattle.order.specs.declared.Head.{Head}
-use Rattle.order.specs.declared.Order.{Order}
-use Rattle.order.specs.declared.Order.the-variants.{Unary, Scratched, Binary, Fused, Ifelse, LoadConst, Load, Save, BranchIf, SetLabel}
-use Rattle.assembler.specs.Item.{Item, instr, raw, jump, label}
+use Rattle.order.specs.declared.Order.the-variants.{SetLabel}
+use Rattle.assembler.specs.Item.{Item, label}
 use Rattle.assembler.specs.Resolved.{resolved, label-place}
 use Rattle.assembler.specs.Constant.{constant-label}
-use Rattle.reading.specs.Line.{Line, order, constant}
+use Rattle.reading.specs.Line.{Line}
 use Rattle.orders.specs.Code.{line-code}
 use Rattle.orders.specs.Fault.{fault}
 use Rattle.orders.specs.Does.{Placed}
@@ -31,14 +27,14 @@ use Rattle.isa.specs.Instr.{R, I, ADD, FLD}
 use lib.IntN.{pos}
 use Rattle.accesses.specs.Code.{li-code}
 use Rattle.accesses.proofs.Then.{passed}
-use Rattle.frames.specs.Items.{code as instrs, obs-copy, at-epi, at-done, by-frame, repeated, closing, prologue, epilogue, epilogue-fast, epilogue-indirect, saves, reloads}
+use Rattle.frames.specs.Items.{code as instrs, obs-copy, at-epi, at-done, by-frame, repeated, closing, epilogue, epilogue-fast, epilogue-indirect, reloads}
 use Rattle.frames.proofs.Walk.{Stands}
-use Rattle.call.specs.Program.{Program, constants, sets, label-line}
-use Rattle.call.specs.Layout.{span, body, constants-from, entry, exit, code-items, data-items, items, constants-offset, code-length, place, routine-words, line-offset}
-use Rattle.call.specs.Good.{GoodOrder, Good}
+use Rattle.call.specs.Program.{Program, constants, label-line}
+use Rattle.call.specs.Layout.{span, body, constants-from, entry, exit, code-items, data-items, items, constants-offset, place, routine-words, line-offset}
+use Rattle.call.specs.Good.{Good}
 use Rattle.call.proofs.Items.{span-append, span-four, resolved-append, resolved-length, Unset, unset-append, past, found, within, fresh-unset, stands-of, Worded, worded-append, worded-instrs, before-end}
 use Rattle.call.proofs.Labels.{Early, Late, entry-fresh, exit-fresh}
-use Rattle.call.proofs.Placing.{Labelled, labelled, line-words, next-line, constant-place, constant-value, body-unset}
+use Rattle.call.proofs.Placing.{labelled, line-words, next-line, constant-place, constant-value, body-unset}
 
 -- ---- code in two parts
 

@@ -1,11 +1,10 @@
 -- The routine's words before the constants are those of valid instructions; and from its bytes in memory to its code. Assumes nothing.
-use mathlib.Core.Path.{_≡_, refl, ap, sym, subst, _∙_}
+use mathlib.Core.Path.{_≡_, refl, ap, subst}
 use mathlib.Core.List.{List, [], _∷_, _++_, flatMap}
 use mathlib.Core.Option.{some}
-use Prim.Native.Nat.{ℕ, zero, suc, _+_, _*_, _/_, _%_, _^_, _≤_, _<_}
+use Prim.Native.Nat.{ℕ, zero, suc, _+_, _*_, _/_, _%_, _^_, _<_}
 use native.Mathlib.Nat.{add-assoc, add-zero}
 use native.Mathlib.Omega.{arith}
-use lib.Dec.{T}
 use lib.ListN.{length, getD, getElem?, List·getD-append}
 use lib.Seq.{take-length}
 use Rattle.isa.specs.Instr.{Instr, Valid}
@@ -26,12 +25,12 @@ use Rattle.orders.specs.Fault.{fault}
 use Rattle.orders.proofs.Laws.{code-words, code-valid}
 use Rattle.frames.specs.Fault.{prologue-holds}
 use Rattle.frames.specs.Items.{prologue, saves, reloads, epilogue}
-use Rattle.frames.proofs.Walk.{Stands, stands-left, stands-right}
+use Rattle.frames.proofs.Walk.{stands-left, stands-right}
 use Rattle.frames.proofs.Valid.{AllValid, prologue-valid, saves-valid, reloads-valid, epilogue-valid}
 use Rattle.call.specs.Program.{Program, constants}
 use Rattle.call.specs.Layout.{span, body, constants-from, entry, exit, code-items, data-items, items, constants-offset, place, routine-words, line-offset}
 use Rattle.call.specs.Good.{Good}
-use Rattle.call.proofs.Items.{span-append, resolved-append, resolved-length, Fresh}
+use Rattle.call.proofs.Items.{resolved-append, resolved-length, Fresh}
 use Rattle.call.proofs.Labels.{Early, Late, entry-fresh, exit-fresh}
 use Rattle.call.proofs.Whole.{entry-stands, exit-stands}
 
