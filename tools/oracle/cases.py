@@ -1,4 +1,5 @@
-"""The calls that are recorded: families of cases, each a list of calls (the Rust's function name and operands) on a fresh assembler."""
+"""The calls that are recorded: families of cases, each a list of calls (the Rust's function name and operands) on a fresh assembler.
+A third entry of a call is the step that the Rust is asked in its place."""
 import random
 
 SEED = 20261115
@@ -63,8 +64,11 @@ def pairs(rng):
                 yield [(name, [rng.choice(firsts), 5, n])]
         for n in [0, 2032, 2039, 2040]:
             yield from ([(name, [r, b, n])] for r in firsts for b in (9, 31))
-    for name in ["load_c_from_loc", "save_c_to_loc"]:
-        yield from ([(name, [rng.choice(firsts), place, i])] for place in range(3) for i in INDEXES)
+    for name, located in [("load_complex", "load_c_from_loc"), ("save_complex", "save_c_to_loc")]:
+        for place, base in enumerate([9, 21, 20]):
+            for i in INDEXES:
+                r = rng.choice(firsts)
+                yield [(name, [r, base, 8 * i], (located, [r, place, i]))]
 
 
 def stack(rng):
@@ -308,7 +312,7 @@ def routines(rng):
     yield from (routine(rng) for _ in range(60))
 
 
-# The number of a family in the list is its place here.
+# In the order of the list.
 FAMILIES = [words, align, jumps, branches, li, accesses, pairs, stack, orders, sign, cells, constants, conditions, frames, saves, routines]
 
 

@@ -8,14 +8,14 @@ compiled unchanged with rustc (the list was made with 1.95.0) behind the driver 
 Cases come from cases.py, with a fixed seed; both programs must give the same answer to each. What document 01 refuses comes from
 refusals.py, with document 01's numbers. The Rust's `sign` is not asked for, since document 01's words differ: the driver has those.
 
-A row of the list has a name (20 bytes) and four numbers (8 hexadecimal digits each; negative ones in two's complement):
-    family   n                 the family of what follows, by its number in cases.FAMILIES (the last one is the refusals')
-    NAME     operands          a call, by the Rust's name; the first one behind an answer starts on fresh memory
-    words    four words        that stand next in the code
-    zeros    n                 n zero words stand next
-    last N   N words           stand next, and nothing behind them: the answer agrees
-    value    n                 the last call answered this number
-    refused  number place      the last call was refused and left all as it was
+A row of the list has a kind (two hexadecimal digits) and four numbers (eight each; negative ones in two's complement):
+    00  a name of 16 bytes     the family of what follows, by its name in cases.FAMILIES, or `refusals`
+    01  four words             that stand next in the code
+    02  n                      n zero words stand next
+    03 to 07                   0 to 4 words stand next, and nothing behind them: the answer agrees
+    08  n                      the last call answered this number
+    09  number place           the last call was refused and left all as it was
+    10 and above: operands     a call, by its number in CALLS; the first one behind an answer starts on fresh memory
 
 --check writes nothing, and fails where the files in --out differ from what is made.
 --differences prints what the Rust does with each refused input.
@@ -30,24 +30,45 @@ import build
 import cases
 import refusals
 
-ROW = 56
+ROW = 39
 # How many of cases.FAMILIES the program knows; refusals are listed where it knows their calls.
-LISTED = 4
+LISTED = 8
+
+FAMILY, WORDS, ZEROS, LAST, VALUE, REFUSED = 0x00, 0x01, 0x02, 0x03, 0x08, 0x09
+CALLS = {
+    0x10: "append_word append_quad set_label add_const add_float apply_jumps align_stack pad jumps beq bne load_x_from_label j",
+    0x20: "li load_float save_float load_int load_complex save_complex sub_stack add_stack allocate_stack",
+    0x30: "fmov recip round floor not sign frac minus times divide gt neq and andnot or xor",
+    0x40: "fused_mul_add fused_mul_sub fused_neg_mul_add fused_neg_mul_sub ifelse load_const branch_if label",
+    0x48: "load_mem load_stack load_param save_mem save_stack save_param",
+    0x50: "prologue_fast prologue_indirect epilogue_fast epilogue_indirect save_used_registers load_used_registers",
+}
+NUMBERS = {name: first + i for first, names in CALLS.items() for i, name in enumerate(names.split())}
 
 
-def row(name, numbers=()):
+def row(kind, numbers=()):
     columns = [f"{n % 2**32:08x}" for n in [*numbers, 0, 0, 0, 0][:4]]
-    text = f"{name:20}{' '.join(columns)}\n"
+    text = f"{kind:02x} {' '.join(columns)}\n"
     assert len(text) == ROW, text
     return text
 
 
+def family_row(name):
+    return row(FAMILY, struct.unpack(">IIII", f"{name:>16}".encode()))
+
+
 def bits(call):
     """A constant's index and the halves of its bits."""
-    name, operands = call
+    name, operands, *_ = call
     if name == "add_float":
         return operands[0], [*struct.unpack("<II", struct.pack("<d", operands[1]))]
     return (operands[0], operands[1:]) if name == "add_const" else (None, [])
+
+
+def asked(call):
+    """The driver's step: a call's own, or the one beside it that the Rust has for the same words."""
+    name, operands, *others = call
+    return others[0] if others else (name, operands)
 
 
 def steps(calls):
@@ -61,7 +82,7 @@ def steps(calls):
             told.append(("add_consts", [half for call in calls[i : i + run] for half in bits(call)[1]]))
         else:
             k, halves = bits(calls[i])
-            told.append(calls[i] if k is None else ("add_const", [k, *halves]))
+            told.append(asked(calls[i]) if k is None else ("add_const", [k, *halves]))
         i += max(run, 1)
     return told
 
@@ -78,35 +99,35 @@ def word_rows(code):
     while i < len(words):
         zeros = next((k for k in range(i, len(words)) if words[k]), len(words)) - i
         if not held and zeros >= 4:
-            rows.append(row("zeros", [zeros]))
+            rows.append(row(ZEROS, [zeros]))
             i += zeros
             continue
         held.append(words[i])
         i += 1
         if len(held) == 4 and i < len(words):
-            rows.append(row("words", held))
+            rows.append(row(WORDS, held))
             held = []
-    return rows + [row(f"last {len(held)}", held)]
+    return rows + [row(LAST + len(held), held)]
 
 
 def answer_rows(answer):
-    return word_rows(answer) if isinstance(answer, bytes) else [row("value", [answer])]
+    return word_rows(answer) if isinstance(answer, bytes) else [row(VALUE, [answer])]
 
 
 def call_rows(calls):
-    return [row(name, operands) for name, operands in calls]
+    return [row(NUMBERS[name], operands) for name, operands, *_ in calls]
 
 
 def recorded(programs):
     """Rows and the count of each family."""
     rows, counts = [], []
-    for number, (name, family) in enumerate(list(cases.families())[:LISTED]):
+    for name, family in list(cases.families())[:LISTED]:
         asked = [line(calls) for calls in family]
         checked, optimized = (build.ask(programs[mode], asked) for mode in ("checked", "optimized"))
         for text, a, b in zip(asked, checked, optimized):
             if a is None or a != b:
                 sys.exit(f"no single answer to: {text}")
-        rows.append(row("family", [number]))
+        rows.append(family_row(name))
         for calls, answer in zip(family, checked):
             rows += call_rows(calls) + answer_rows(answer)
         counts.append((name, len(family)))
@@ -116,15 +137,15 @@ def recorded(programs):
 def known():
     """The names of calls that the program knows."""
     listed = list(cases.families())[:LISTED]
-    return {"jumps"} | {name for _, family in listed for calls in family for name, _ in calls}
+    return {"jumps"} | {name for _, family in listed for calls in family for name, *_ in calls}
 
 
 def refused():
-    rows, count, names = [row("family", [len(cases.FAMILIES)])], 0, known()
+    rows, count, names = [family_row("refusals")], 0, known()
     for calls, number, place, _ in refusals.refusals():
-        if not {name for name, _ in calls} <= names:
+        if not {name for name, *_ in calls} <= names:
             continue
-        rows += call_rows(calls) + [row("refused", [number, place])]
+        rows += call_rows(calls) + [row(REFUSED, [number, place])]
         count += 1
     return rows, ("refusals", count)
 
@@ -162,7 +183,7 @@ def main():
         rows, counts = recorded(programs)
     more, count = refused()
     counts.append(count)
-    printed = "".join(f"{name}: {n}\n" for name, n in counts) + "0 mismatches\n"
+    printed = "".join(f"{name:>16}: {n}\n" for name, n in counts) + "0 mismatches\n"
     files = {"stdin": "".join(rows + more), "stdout": printed}
     for name, text in files.items():
         path = pathlib.Path(given.out, name)

@@ -1,24 +1,13 @@
-// Calls by the Rust's names, with their operands in the Rust's order. Labels and places are document 01's numbers.
+// Calls by the number of their row, with their operands in the Rust's order. Labels are document 01's numbers.
 use crate::case::Case;
+use crate::row::Row;
 use assembler::Aligned;
+use assembler::Asm;
 use assembler::Done;
 use assembler::Kind;
 use assembler::Plan;
 use assembler::Tail;
 use order::Constant;
-
-// A row's four numbers.
-pub struct Numbers {
-    pub a: u32,
-    pub b: u32,
-    pub c: u32,
-    pub d: u32,
-}
-
-// What no row expects.
-fn unknown(c: Case) -> Case {
-    crate::case::bad(c)
-}
 
 // ---- words, labels and jumps
 
@@ -42,42 +31,41 @@ fn repeat(
     c
 }
 
-// n zero words.
-fn pad(
-    n: u32,
-    buf: &mut [u8; 65536],
-    labels: &mut [u64; 2039],
-    jumps: &mut [u32; 20480],
-    c: Case,
-) -> Case {
-    repeat(
-        n,
-        Plan {
+// How often: a pad and `jumps` say it.
+fn times(r: Row) -> u32 {
+    let k = r.kind;
+    match k {
+        0x17 | 0x18 => r.a,
+        _ => 1,
+    }
+}
+
+// A pad is zero words.
+fn plan(r: Row) -> Plan {
+    let k = r.kind;
+    match k {
+        0x17 => Plan {
             n: 1,
             fault: 0,
             w: [0u32; 12],
         },
-        Tail::Nothing,
-        buf,
-        labels,
-        jumps,
-        c,
-    )
+        _ => assembler::no_plan(),
+    }
 }
 
-// Jumps, n times over.
-fn jump(
-    n: u32,
-    t: Tail,
-    buf: &mut [u8; 65536],
-    labels: &mut [u64; 2039],
-    jumps: &mut [u32; 20480],
-    c: Case,
-) -> Case {
-    repeat(n, assembler::no_plan(), t, buf, labels, jumps, c)
+fn tail(r: Row) -> Tail {
+    let k = r.kind;
+    match k {
+        0x18 => Tail::One(Kind::Beq, 0, 0),
+        0x19 => Tail::One(Kind::Beq, r.a, 0),
+        0x1a => Tail::One(Kind::Bne, r.a, 0),
+        0x1b => Tail::Pair(Kind::Ld, r.b, r.a),
+        0x1c => Tail::Pair(Kind::Jalr, r.a, r.b),
+        _ => Tail::Nothing,
+    }
 }
 
-fn finish(
+fn finishing(
     buf: &mut [u8; 65536],
     labels: &mut [u64; 2039],
     jumps: &mut [u32; 20480],
@@ -98,87 +86,80 @@ fn quad(low: u32, high: u32) -> u64 {
 fn aligned(n: u32, c: Case) -> Case {
     match assembler::align_stack(n) {
         Aligned::Size(m) => crate::case::valued(c, m),
-        Aligned::Refused(why, place) => crate::case::refused(c, refusal::number(why) as u32, place),
+        Aligned::Refused(why, place) => crate::case::refused(c, refusal::number(why), place),
     }
 }
 
-fn float(n: u32) -> Constant {
-    Constant::Float(rows::signed(n) as f64)
+// A raw word, or a whole number as a float.
+fn constant(r: Row) -> Constant {
+    let k = r.kind;
+    match k {
+        0x13 => Constant::Bits(quad(r.b, r.c)),
+        _ => Constant::Float(rows::signed(r.b) as f64),
+    }
 }
 
-fn constant(
-    k: u32,
-    v: Constant,
+fn assembling(
+    r: Row,
     buf: &mut [u8; 65536],
     labels: &mut [u64; 2039],
     jumps: &mut [u32; 20480],
     c: Case,
 ) -> Case {
     let asm = c.asm;
-    crate::case::done(c, assembler::append_const(k, v, buf, labels, jumps, asm))
-}
-
-fn jumping(
-    name: &[u8],
-    n: Numbers,
-    buf: &mut [u8; 65536],
-    labels: &mut [u64; 2039],
-    jumps: &mut [u32; 20480],
-    c: Case,
-) -> Case {
-    if check::same(name, b"load_x_from_label   ") {
-        return jump(1, Tail::Pair(Kind::Ld, n.b, n.a), buf, labels, jumps, c);
-    }
-    if check::same(name, b"j                   ") {
-        return jump(1, Tail::Pair(Kind::Jalr, n.a, n.b), buf, labels, jumps, c);
-    }
-    if check::same(name, b"beq                 ") {
-        return jump(1, Tail::One(Kind::Beq, n.a, 0), buf, labels, jumps, c);
-    }
-    if check::same(name, b"bne                 ") {
-        return jump(1, Tail::One(Kind::Bne, n.a, 0), buf, labels, jumps, c);
-    }
-    if check::same(name, b"jumps               ") {
-        return jump(n.a, Tail::One(Kind::Beq, 0, 0), buf, labels, jumps, c);
-    }
-    if check::same(name, b"apply_jumps         ") {
-        return finish(buf, labels, jumps, c);
-    }
-    unknown(c)
-}
-
-pub fn by_name(
-    name: &[u8],
-    n: Numbers,
-    buf: &mut [u8; 65536],
-    labels: &mut [u64; 2039],
-    jumps: &mut [u32; 20480],
-    c: Case,
-) -> Case {
-    let asm = c.asm;
-    if check::same(name, b"append_word         ") {
-        return crate::case::done(c, assembler::append_word(n.a, buf, labels, jumps, asm));
-    }
-    if check::same(name, b"append_quad         ") {
-        return crate::case::done(
+    let k = r.kind;
+    match k {
+        0x10 => crate::case::done(c, assembler::append_word(r.a, buf, labels, jumps, asm)),
+        0x11 => crate::case::done(
             c,
-            assembler::append_quad(quad(n.a, n.b), buf, labels, jumps, asm),
-        );
+            assembler::append_quad(quad(r.a, r.b), buf, labels, jumps, asm),
+        ),
+        0x12 => crate::case::done(c, assembler::set_label(r.a, buf, labels, jumps, asm)),
+        0x13 | 0x14 => crate::case::done(
+            c,
+            assembler::append_const(r.a, constant(r), buf, labels, jumps, asm),
+        ),
+        0x15 => finishing(buf, labels, jumps, c),
+        0x16 => aligned(r.a, c),
+        _ => repeat(times(r), plan(r), tail(r), buf, labels, jumps, c),
     }
-    if check::same(name, b"set_label           ") {
-        return crate::case::done(c, assembler::set_label(n.a, buf, labels, jumps, asm));
+}
+
+// ---- accesses
+
+fn access(
+    r: Row,
+    buf: &mut [u8; 65536],
+    labels: &mut [u64; 2039],
+    jumps: &mut [u32; 20480],
+    asm: Asm,
+) -> Done {
+    let k = r.kind;
+    match k {
+        0x20 => accesses::li(r.a, rows::signed(r.b), buf, labels, jumps, asm),
+        0x21 => accesses::load_float(r.a, r.b, r.c, buf, labels, jumps, asm),
+        0x22 => accesses::save_float(r.a, r.b, r.c, buf, labels, jumps, asm),
+        0x23 => accesses::load_int(r.a, r.b, r.c, buf, labels, jumps, asm),
+        0x24 => accesses::load_complex(r.a, r.b, r.c, buf, labels, jumps, asm),
+        0x25 => accesses::save_complex(r.a, r.b, r.c, buf, labels, jumps, asm),
+        0x26 => accesses::sub_stack(r.a, buf, labels, jumps, asm),
+        0x27 => accesses::add_stack(r.a, buf, labels, jumps, asm),
+        _ => accesses::allocate_stack(r.a, buf, labels, jumps, asm),
     }
-    if check::same(name, b"add_const           ") {
-        return constant(n.a, Constant::Bits(quad(n.b, n.c)), buf, labels, jumps, c);
+}
+
+pub fn by_kind(
+    r: Row,
+    buf: &mut [u8; 65536],
+    labels: &mut [u64; 2039],
+    jumps: &mut [u32; 20480],
+    c: Case,
+) -> Case {
+    let asm = c.asm;
+    let k = r.kind;
+    match k {
+        0x10..=0x1c => assembling(r, buf, labels, jumps, c),
+        0x20..=0x28 => crate::case::done(c, access(r, buf, labels, jumps, asm)),
+        _ => crate::case::bad(c),
     }
-    if check::same(name, b"add_float           ") {
-        return constant(n.a, float(n.b), buf, labels, jumps, c);
-    }
-    if check::same(name, b"pad                 ") {
-        return pad(n.a, buf, labels, jumps, c);
-    }
-    if check::same(name, b"align_stack         ") {
-        return aligned(n.a, c);
-    }
-    jumping(name, n, buf, labels, jumps, c)
 }

@@ -8,8 +8,6 @@ use assembler::Done;
 
 pub struct Case {
     pub asm: Asm,
-    // the record before the last call
-    pub before: Asm,
     // the number of the last call's refusal, 0 for none, and its place
     pub number: u32,
     pub place: u32,
@@ -24,14 +22,12 @@ pub struct Case {
 }
 
 pub fn fresh() -> Case {
-    let asm = Asm {
-        len: 0,
-        jumps: 0,
-        closed: false,
-    };
     Case {
-        asm,
-        before: asm,
+        asm: Asm {
+            len: 0,
+            jumps: 0,
+            closed: false,
+        },
         number: 0,
         place: 0,
         value: 0,
@@ -68,30 +64,33 @@ pub fn moved(c: Case, n: usize) -> Case {
     d
 }
 
-// A call refused for this reason.
-pub fn refused(c: Case, why: u32, place: u32) -> Case {
+// A call refused.
+pub fn refused(c: Case, number: u8, place: u32) -> Case {
     let mut d = c;
-    let before = c.asm;
-    d.before = before;
-    d.number = why;
+    d.number = number as u32;
     d.place = place;
     d
 }
 
-// A call done. Behind a refused one there is none.
+fn same(a: Asm, b: Asm) -> bool {
+    a.len == b.len && a.jumps == b.jumps && a.closed == b.closed
+}
+
+// A call done. A refused one leaves the record as it was, and no call comes behind it.
 pub fn done(c: Case, r: Done) -> Case {
-    if c.number != 0 {
-        return bad(c);
-    }
     let asm = r.asm;
     let answer = r.answer;
     let mut d = c;
-    match answer {
-        Answer::Accepted => {}
-        Answer::Refused(why, place) => d = refused(c, refusal::number(why) as u32, place),
-    }
     d.asm = asm;
-    d
+    d.good = c.good && c.number == 0;
+    match answer {
+        Answer::Accepted => d,
+        Answer::Refused(why, place) => {
+            let before = c.asm;
+            d.good = d.good && same(before, asm);
+            refused(d, refusal::number(why), place)
+        }
+    }
 }
 
 // A call that answered a number.
@@ -99,13 +98,6 @@ pub fn valued(c: Case, n: u32) -> Case {
     let mut d = c;
     d.value = n;
     d
-}
-
-// The last call left the record as it was.
-pub fn kept(c: Case) -> bool {
-    let a = c.before;
-    let b = c.asm;
-    a.len == b.len && a.jumps == b.jumps && a.closed == b.closed
 }
 
 // ---- the code

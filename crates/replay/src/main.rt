@@ -1,16 +1,16 @@
 // Replays the Rust's recorded answers. tools/oracle/record.py makes the list on standard input, and says what its rows are.
 // A row that cannot be read counts as a mismatch.
-
 mod call;
 mod case;
 mod judge;
+mod row;
 
 use judge::Tally;
 
 // Bytes of a row, and of as many rows as are read at once.
-const ROW: usize = 56;
+const ROW: usize = 39;
 
-const BLOCK: usize = 65464;
+const BLOCK: usize = 64974;
 
 const STDOUT: i32 = 1;
 
@@ -65,22 +65,10 @@ fn replay() -> Tally {
     t
 }
 
-// A family's name and how many of its answers agreed.
-fn print_family(name: &[u8], n: u64) {
-    io::write_all(STDOUT, name);
-    io::write_all(STDOUT, b": ");
-    io::print_decimal(STDOUT, n);
-    io::write_all(STDOUT, b"\n");
-}
-
 fn main() {
     let t = replay();
-    let n = t.answers;
-    print_family(b"words", n[0]);
-    print_family(b"align", n[1]);
-    print_family(b"jumps", n[2]);
-    print_family(b"branches", n[3]);
-    print_family(b"refusals", n[16]);
+    let f = t.family;
+    judge::print_family(f, t.agreed);
     io::print_decimal(STDOUT, t.mismatches);
     io::write_all(STDOUT, b" mismatches\n");
 }
