@@ -255,9 +255,11 @@ def masks(rng):
 
 
 def saves(rng):
-    for mask in unique(masks(rng)):
-        yield [("save_used_registers", [mask])]
-        yield [("load_used_registers", [mask])]
+    yield from ([("save_used_registers", [mask])] for mask in unique(masks(rng)))
+
+
+def reloads(rng):
+    yield from ([("load_used_registers", [mask])] for mask in unique(masks(rng)))
 
 
 # ---- everything called in turn, as a routine does
@@ -313,7 +315,8 @@ def routines(rng):
 
 
 # In the order of the list.
-FAMILIES = [words, align, jumps, branches, li, accesses, pairs, stack, orders, sign, cells, constants, conditions, frames, saves, routines]
+FAMILIES = [words, align, jumps, branches, li, accesses, pairs, stack]
+FAMILIES += [orders, sign, cells, constants, conditions, saves, reloads, frames, routines]
 
 
 def families():

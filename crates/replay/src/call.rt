@@ -1,5 +1,6 @@
 // Calls by the number of their row, with their operands in the Rust's order. Labels are document 01's numbers.
 use crate::case::Case;
+use crate::named::Found;
 use crate::row::Row;
 use assembler::Aligned;
 use assembler::Asm;
@@ -148,6 +149,32 @@ fn access(
     }
 }
 
+// ---- orders and frames
+
+fn ordered(
+    r: Row,
+    buf: &mut [u8; 65536],
+    labels: &mut [u64; 2039],
+    jumps: &mut [u32; 20480],
+    c: Case,
+) -> Case {
+    let Found::Is(o) = crate::named::order(r) else {
+        return crate::case::bad(c);
+    };
+    let asm = c.asm;
+    crate::case::done(c, orders::emit(o, 0, buf, labels, jumps, asm))
+}
+
+fn framing(
+    r: Row,
+    buf: &mut [u8; 65536],
+    labels: &mut [u64; 2039],
+    jumps: &mut [u32; 20480],
+    asm: Asm,
+) -> Done {
+    frames::save_used_registers(r.a, buf, labels, jumps, asm)
+}
+
 pub fn by_kind(
     r: Row,
     buf: &mut [u8; 65536],
@@ -160,6 +187,8 @@ pub fn by_kind(
     match k {
         0x10..=0x1c => assembling(r, buf, labels, jumps, c),
         0x20..=0x28 => crate::case::done(c, access(r, buf, labels, jumps, asm)),
+        0x30..=0x4d => ordered(r, buf, labels, jumps, c),
+        0x54 => crate::case::done(c, framing(r, buf, labels, jumps, asm)),
         _ => crate::case::bad(c),
     }
 }

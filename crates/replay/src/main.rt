@@ -3,6 +3,7 @@
 mod call;
 mod case;
 mod judge;
+mod named;
 mod row;
 
 use judge::Tally;
