@@ -1,5 +1,5 @@
 -- Document 01, "Numbers of refusal": which numbers a line's fields may be, and what the line then says.
-use mathlib.Core.Bool.{Bool, true, false, _&&_, _||_, not, cond}
+use mathlib.Core.Bool.{Bool, true, false, _&&_, _||_, not, cond, Bool·beq}
 use mathlib.Core.List.{List, [], _∷_}
 use Prim.Native.Nat.{ℕ, _+_, _/_, _%_, _^_}
 use lib.Dec.{eqb, ltb, leb}
@@ -141,6 +141,26 @@ judged (Form.BranchIf c l e) = demand (register c) Register (demand (label l) La
 judged (Form.SetLabel l) = demand (label l) Label (accepted (order (Order.SetLabel (value l))))
 judged (Form.Float minus n) = demand (exact n) Valued (accepted (constant (Constant.Float (ofInt binary64 (signed minus (value n))))))
 judged (Form.Bits n) = accepted (constant (Constant.Bits n))
+
+abbrev pub heads : Form → Bool
+heads (Form.Head f c s o l m) = true
+heads (Form.Unary u d s) = false
+heads (Form.Scratched u d s t) = false
+heads (Form.Binary u d s t) = false
+heads (Form.Fused u d s t v) = false
+heads (Form.Ifelse d s t i) = false
+heads (Form.LoadConst d k) = false
+heads (Form.Load d p i) = false
+heads (Form.Save s p i) = false
+heads (Form.BranchIf c l e) = false
+heads (Form.SetLabel l) = false
+heads (Form.Float minus n) = false
+heads (Form.Bits n) = false
+heads Form.Malformed = false
+
+-- line 1 is a head, and no other line is
+unfoldable pub line-judged : (first : Bool) → Form → Answer Content
+line-judged first f = cond (Bool·beq (heads f) first) (judged f) (refused (number-of Line) 0)
 
 -- ---- an order's cell, with the head
 

@@ -2,7 +2,7 @@
 ghost use mathlib.Core.Path.{_≡_};
 ghost use Prim.Native.Nat.{_≤_, _^_};
 ghost use Rattle.form.specs.Form.{form-of};
-ghost use Rattle.deck.specs.Judge.{told, judged, bounded, saves, counts-hold, frame-holds, count-of, within};
+ghost use Rattle.deck.specs.Judge.{told, judged, heads, line-judged, bounded, saves, counts-hold, frame-holds, count-of, within};
 use form::Form;
 use order::Binary;
 use order::Constant;
@@ -303,11 +303,42 @@ pub fn judge(form: Form) -> Judged
     }
 }
 
-// A line of a file, with its byte 10.
-pub fn read_line(line: &[u8]) -> Judged
-    ensures { λ r. ⌜ told r ≡ judged (form-of (now (line .entry))) ⌝ }
+fn is_head(form: Form) -> bool
+    ensures { λ r. ⌜ r ≡ heads form ⌝ }
 {
-    judge(form::read_form(line))
+    match form {
+        Form::Head(_, _, _, _, _, _) => true,
+        Form::Unary(_, _, _) => false,
+        Form::Scratched(_, _, _, _) => false,
+        Form::Binary(_, _, _, _) => false,
+        Form::Fused(_, _, _, _, _) => false,
+        Form::Ifelse(_, _, _, _) => false,
+        Form::LoadConst(_, _) => false,
+        Form::Load(_, _, _) => false,
+        Form::Save(_, _, _) => false,
+        Form::BranchIf(_, _, _) => false,
+        Form::SetLabel(_) => false,
+        Form::Float(_, _) => false,
+        Form::Bits(_) => false,
+        Form::Malformed => false,
+    }
+}
+
+// A line of a file, with its byte 10. The first is a head, and no other is.
+pub fn read_line(first: bool, line: &[u8]) -> Judged
+    ensures { λ r. ⌜ told r ≡ line-judged first (form-of (now (line .entry))) ⌝ }
+{
+    let form = form::read_form(line);
+    if is_head(form) {
+        if first {
+            return judge(form);
+        }
+        return Judged::Refused(Refusal::Line);
+    }
+    if first {
+        return Judged::Refused(Refusal::Line);
+    }
+    judge(form)
 }
 
 // ---- cells

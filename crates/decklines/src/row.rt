@@ -157,7 +157,7 @@ fn constant(c: Constant) -> Answer {
 }
 
 fn line(s: &[u8]) -> Answer {
-    match deck::read_line(s) {
+    match deck::judge(form::read_form(s)) {
         Judged::Head(h) => head(h),
         Judged::Order(o) => order(o),
         Judged::Constant(c) => constant(c),
@@ -171,10 +171,10 @@ fn cell(s: &[u8]) -> Answer {
     if e > s.len() {
         return answer_of(0, 0, 0, 0, 0, 0, 0);
     }
-    let Judged::Head(h) = deck::read_line(&s[..e]) else {
+    let Judged::Head(h) = deck::read_line(true, &s[..e]) else {
         return answer_of(0, 0, 0, 0, 0, 0, 0);
     };
-    let Judged::Order(o) = deck::read_line(&s[e..]) else {
+    let Judged::Order(o) = deck::read_line(false, &s[e..]) else {
         return answer_of(0, 0, 0, 0, 0, 0, 0);
     };
     if deck::cell_within(o, h) {
