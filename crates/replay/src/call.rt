@@ -3,16 +3,26 @@ use crate::case::Case;
 use crate::named::Found;
 use crate::row::Row;
 use assembler::Aligned;
+use assembler::Answer;
 use assembler::Asm;
 use assembler::Done;
 use assembler::Kind;
 use assembler::Plan;
 use assembler::Tail;
 use order::Constant;
+use refusal::Refusal;
+
+// What no row expects.
+fn unknown(asm: Asm) -> Done {
+    Done {
+        asm,
+        answer: Answer::Refused(Refusal::Line, 1),
+    }
+}
 
 // ---- words, labels and jumps
 
-// A plan with its jumps, n times over.
+// A plan with its jumps, n times over. Where one is refused, so are all behind it.
 fn repeat(
     n: u32,
     p: Plan,
@@ -20,16 +30,19 @@ fn repeat(
     buf: &mut [u8; 65536],
     labels: &mut [u64; 2039],
     jumps: &mut [u32; 20480],
-    before: Case,
-) -> Case {
-    let mut c = before;
+    asm: Asm,
+) -> Done {
+    let mut d = Done {
+        asm,
+        answer: Answer::Accepted,
+    };
     let mut i = 0;
     while i < n {
-        let asm = c.asm;
-        c = crate::case::done(c, assembler::place(p, t, 0, buf, labels, jumps, asm));
+        let a = d.asm;
+        d = assembler::place(p, t, 0, buf, labels, jumps, a);
         i += 1;
     }
-    c
+    d
 }
 
 // How often: a pad and `jumps` say it.
@@ -70,25 +83,17 @@ fn finishing(
     buf: &mut [u8; 65536],
     labels: &mut [u64; 2039],
     jumps: &mut [u32; 20480],
-    c: Case,
-) -> Case {
-    let asm = c.asm;
+    asm: Asm,
+) -> Done {
     let f = finish::apply_jumps(buf, labels, jumps, asm);
-    let asm = f.asm;
+    let a = f.asm;
     let answer = f.answer;
-    crate::case::done(c, Done { asm, answer })
+    Done { asm: a, answer }
 }
 
 // A number of 64 bits from its halves, the low one first.
 fn quad(low: u32, high: u32) -> u64 {
     (high as u64) * 4294967296 + low as u64
-}
-
-fn aligned(n: u32, c: Case) -> Case {
-    match assembler::align_stack(n) {
-        Aligned::Size(m) => crate::case::valued(c, m),
-        Aligned::Refused(why, place) => crate::case::refused(c, refusal::number(why), place),
-    }
 }
 
 // A raw word, or a whole number as a float.
@@ -105,28 +110,20 @@ fn assembling(
     buf: &mut [u8; 65536],
     labels: &mut [u64; 2039],
     jumps: &mut [u32; 20480],
-    c: Case,
-) -> Case {
-    let asm = c.asm;
+    asm: Asm,
+) -> Done {
     let k = r.kind;
     match k {
-        0x10 => crate::case::done(c, assembler::append_word(r.a, buf, labels, jumps, asm)),
-        0x11 => crate::case::done(
-            c,
-            assembler::append_quad(quad(r.a, r.b), buf, labels, jumps, asm),
-        ),
-        0x12 => crate::case::done(c, assembler::set_label(r.a, buf, labels, jumps, asm)),
-        0x13 | 0x14 => crate::case::done(
-            c,
-            assembler::append_const(r.a, constant(r), buf, labels, jumps, asm),
-        ),
-        0x15 => finishing(buf, labels, jumps, c),
-        0x16 => aligned(r.a, c),
-        _ => repeat(times(r), plan(r), tail(r), buf, labels, jumps, c),
+        0x10 => assembler::append_word(r.a, buf, labels, jumps, asm),
+        0x11 => assembler::append_quad(quad(r.a, r.b), buf, labels, jumps, asm),
+        0x12 => assembler::set_label(r.a, buf, labels, jumps, asm),
+        0x13 | 0x14 => assembler::append_const(r.a, constant(r), buf, labels, jumps, asm),
+        0x15 => finishing(buf, labels, jumps, asm),
+        _ => repeat(times(r), plan(r), tail(r), buf, labels, jumps, asm),
     }
 }
 
-// ---- accesses
+// ---- accesses, orders and frames
 
 fn access(
     r: Row,
@@ -149,30 +146,41 @@ fn access(
     }
 }
 
-// ---- orders and frames
-
 fn ordered(
-    r: Row,
-    buf: &mut [u8; 65536],
-    labels: &mut [u64; 2039],
-    jumps: &mut [u32; 20480],
-    c: Case,
-) -> Case {
-    let Found::Is(o) = crate::named::order(r) else {
-        return crate::case::bad(c);
-    };
-    let asm = c.asm;
-    crate::case::done(c, orders::emit(o, 0, buf, labels, jumps, asm))
-}
-
-fn framing(
     r: Row,
     buf: &mut [u8; 65536],
     labels: &mut [u64; 2039],
     jumps: &mut [u32; 20480],
     asm: Asm,
 ) -> Done {
-    frames::save_used_registers(r.a, buf, labels, jumps, asm)
+    let Found::Is(o) = crate::named::order(r) else {
+        return unknown(asm);
+    };
+    orders::emit(o, 0, buf, labels, jumps, asm)
+}
+
+fn answered(
+    r: Row,
+    buf: &mut [u8; 65536],
+    labels: &mut [u64; 2039],
+    jumps: &mut [u32; 20480],
+    asm: Asm,
+) -> Done {
+    let k = r.kind;
+    match k {
+        0x10..=0x1c => assembling(r, buf, labels, jumps, asm),
+        0x20..=0x28 => access(r, buf, labels, jumps, asm),
+        0x30..=0x4d => ordered(r, buf, labels, jumps, asm),
+        0x54 => frames::save_used_registers(r.a, buf, labels, jumps, asm),
+        _ => unknown(asm),
+    }
+}
+
+fn aligned(n: u32, c: Case) -> Case {
+    match assembler::align_stack(n) {
+        Aligned::Size(m) => crate::case::valued(c, m),
+        Aligned::Refused(why, place) => crate::case::refused(c, refusal::number(why), place),
+    }
 }
 
 pub fn by_kind(
@@ -182,13 +190,9 @@ pub fn by_kind(
     jumps: &mut [u32; 20480],
     c: Case,
 ) -> Case {
-    let asm = c.asm;
-    let k = r.kind;
-    match k {
-        0x10..=0x1c => assembling(r, buf, labels, jumps, c),
-        0x20..=0x28 => crate::case::done(c, access(r, buf, labels, jumps, asm)),
-        0x30..=0x4d => ordered(r, buf, labels, jumps, c),
-        0x54 => crate::case::done(c, framing(r, buf, labels, jumps, asm)),
-        _ => crate::case::bad(c),
+    if r.kind == 0x16 {
+        return aligned(r.a, c);
     }
+    let asm = c.asm;
+    crate::case::done(c, answered(r, buf, labels, jumps, asm))
 }

@@ -50,6 +50,13 @@ pub fn bad(c: Case) -> Case {
     d
 }
 
+// A row that agrees, or not.
+pub fn checked(c: Case, ok: bool) -> Case {
+    let mut d = c;
+    d.good = c.good && ok;
+    d
+}
+
 // n words further.
 pub fn moved(c: Case, n: usize) -> Case {
     let mut d = c;
@@ -121,7 +128,7 @@ fn wide(b: u8) -> u32
 }
 
 // The word at a place, little-endian; 0 where there is none.
-pub fn word_at(buf: &[u8; 65536], at: usize) -> u32
+fn word_at(buf: &[u8; 65536], at: usize) -> u32
     ensures { λ r. ⌜ r ≡ word-of (now (buf .entry)) at ⌝ }
 {
     if at > 65532 {

@@ -48,20 +48,10 @@ fn say(what: &[u8], n: u64) {
     io::print_decimal(STDOUT, n);
 }
 
-// What came: the last call's answer, and the word at hand.
-fn came(c: Case, word: u32) {
-    say(b": number ", c.number as u64);
-    say(b" place ", c.place as u64);
-    say(b" value ", c.value as u64);
-    io::write_all(STDOUT, b" word ");
-    io::print_hex(STDOUT, word as u64, 8);
-}
-
-// A row's number, what came, and the row.
-fn show(n: u64, c: Case, word: u32, s: &[u8]) {
+// A row's number, and the row.
+fn show(n: u64, s: &[u8]) {
     say(b"row ", n);
-    came(c, word);
-    io::write_all(STDOUT, b" for ");
+    io::write_all(STDOUT, b": ");
     io::write_all(STDOUT, s);
 }
 
@@ -91,51 +81,114 @@ pub fn print_family(f: Row, agreed: u64) {
     io::write_all(STDOUT, b"\n");
 }
 
-fn with_case(t: Tally, c: Case) -> Tally {
+// ---- what a row makes of the case
+
+// The first n words of the row stand next.
+fn words(c: Case, r: Row, n: u32, buf: &[u8; 65536]) -> Case {
+    if crate::case::stand(buf, c.at, r.a, r.b, r.c, r.d, n) {
+        return crate::case::moved(c, n as usize);
+    }
+    crate::case::bad(c)
+}
+
+fn zeros(c: Case, n: u32, buf: &[u8; 65536]) -> Case {
+    let d = crate::case::moved(c, n as usize);
+    crate::case::checked(d, crate::case::blank(buf, c.at, d.at))
+}
+
+// Behind the last words nothing stands.
+fn last(c: Case, buf: &[u8; 65536]) -> Case {
+    let asm = c.asm;
+    let ok = c.at == asm.len && crate::case::blank(buf, c.at, 65536);
+    crate::case::checked(c, ok)
+}
+
+// What stands in the code.
+fn code(c: Case, r: Row, buf: &[u8; 65536]) -> Case {
+    let k = r.kind;
+    match k {
+        0x01 => words(c, r, 4, buf),
+        0x02 => zeros(c, r.a, buf),
+        0x03..=0x07 => last(words(c, r, k - 3, buf), buf),
+        _ => crate::case::bad(c),
+    }
+}
+
+// What the last call answered: a number, or a refusal with its place.
+fn answer(c: Case, r: Row) -> Case {
+    if r.kind == 0x08 {
+        return crate::case::checked(c, c.value == r.a && c.number == 0);
+    }
+    crate::case::checked(c, c.number == r.a && c.place == r.b)
+}
+
+// A call; the first one behind an answer starts on fresh memory.
+fn called(
+    c: Case,
+    r: Row,
+    buf: &mut [u8; 65536],
+    labels: &mut [u64; 2039],
+    jumps: &mut [u32; 20480],
+) -> Case {
+    if c.open {
+        return crate::call::by_kind(r, buf, labels, jumps, c);
+    }
+    crate::case::blank_code(buf);
+    crate::case::blank_labels(labels);
+    crate::call::by_kind(r, buf, labels, jumps, crate::case::fresh())
+}
+
+fn next(
+    c: Case,
+    r: Row,
+    buf: &mut [u8; 65536],
+    labels: &mut [u64; 2039],
+    jumps: &mut [u32; 20480],
+) -> Case {
+    let k = r.kind;
+    match k {
+        0x01..=0x07 => crate::case::checked(code(c, r, buf), c.number == 0),
+        0x08..=0x09 => answer(c, r),
+        _ => called(c, r, buf, labels, jumps),
+    }
+}
+
+// Rows of these kinds end an answer.
+fn ends(k: u32) -> bool {
+    match k {
+        0x03..=0x09 => true,
+        _ => false,
+    }
+}
+
+// ---- what is counted
+
+// The first row of a case that disagrees is a mismatch.
+fn mismatched(t: Tally, s: &[u8], d: Case) -> Tally {
     let mut u = t;
-    u.case = c;
+    let c = t.case;
+    if c.good && !d.good {
+        if t.mismatches < SHOWN {
+            show(t.rows, s);
+        }
+        u.mismatches = more(t.mismatches);
+    }
     u
 }
 
-fn counted(t: Tally) -> Tally {
+// The case after a row. An answer counts for its family where no row disagreed.
+fn settled(t: Tally, d: Case, over: bool) -> Tally {
     let mut u = t;
-    u.rows = more(t.rows);
+    u.case = d;
+    if over {
+        if d.good {
+            u.agreed = more(t.agreed);
+        }
+        let e = crate::case::closed(d);
+        u.case = e;
+    }
     u
 }
-
-// A row that disagrees, where it is the first of its case that does.
-fn mismatch(t: Tally, s: &[u8], word: u32) -> Tally {
-    let c = t.case;
-    if !c.good {
-        return t;
-    }
-    if t.mismatches < SHOWN {
-        show(t.rows, c, word, s);
-    }
-    let mut u = t;
-    u.mismatches = more(t.mismatches);
-    with_case(u, crate::case::bad(c))
-}
-
-// The answer is reached, and counts for its family where no row disagreed.
-fn reached(t: Tally) -> Tally {
-    let c = t.case;
-    let mut u = t;
-    if c.good {
-        u.agreed = more(t.agreed);
-    }
-    with_case(u, crate::case::closed(c))
-}
-
-// The answer is reached: it is as recorded, or not.
-fn settled(t: Tally, s: &[u8], ok: bool, word: u32) -> Tally {
-    if ok {
-        return reached(t);
-    }
-    reached(mismatch(t, s, word))
-}
-
-// ---- the kinds of rows
 
 fn family(t: Tally, r: Row) -> Tally {
     let f = t.family;
@@ -146,55 +199,18 @@ fn family(t: Tally, r: Row) -> Tally {
     u
 }
 
-// The first n words of the row stand next.
-fn words(t: Tally, s: &[u8], r: Row, n: u32, buf: &[u8; 65536]) -> Tally {
-    let c = t.case;
-    let at = c.at;
-    if crate::case::stand(buf, at, r.a, r.b, r.c, r.d, n) && c.number == 0 {
-        return with_case(t, crate::case::moved(c, n as usize));
-    }
-    mismatch(t, s, crate::case::word_at(buf, at))
+fn counted(t: Tally) -> Tally {
+    let mut u = t;
+    u.rows = more(t.rows);
+    u
 }
 
-fn zeros(t: Tally, s: &[u8], n: u32, buf: &[u8; 65536]) -> Tally {
-    let c = t.case;
-    let d = crate::case::moved(c, n as usize);
-    if crate::case::blank(buf, c.at, d.at) && c.number == 0 {
-        return with_case(t, d);
-    }
-    mismatch(t, s, crate::case::word_at(buf, c.at))
+fn malformed(t: Tally, s: &[u8]) -> Tally {
+    let d = crate::case::bad(t.case);
+    settled(mismatched(t, s, d), d, false)
 }
 
-// Behind the last words nothing stands.
-fn last(t: Tally, s: &[u8], buf: &[u8; 65536]) -> Tally {
-    let c = t.case;
-    let asm = c.asm;
-    let ok = c.at == asm.len && crate::case::blank(buf, c.at, 65536);
-    settled(t, s, ok, crate::case::word_at(buf, c.at))
-}
-
-// What stands in the code.
-fn code(t: Tally, s: &[u8], r: Row, buf: &[u8; 65536]) -> Tally {
-    let k = r.kind;
-    match k {
-        0x01 => words(t, s, r, 4, buf),
-        0x02 => zeros(t, s, r.a, buf),
-        0x03..=0x07 => last(words(t, s, r, k - 3, buf), s, buf),
-        _ => mismatch(t, s, 0),
-    }
-}
-
-// What the last call answered: a number, or a refusal with its place.
-fn answer(t: Tally, s: &[u8], r: Row) -> Tally {
-    let c = t.case;
-    if r.kind == 0x08 {
-        return settled(t, s, c.value == r.a && c.number == 0, 0);
-    }
-    settled(t, s, c.number == r.a && c.place == r.b, 0)
-}
-
-// A call; the first one behind an answer starts on fresh memory.
-fn called(
+fn judged(
     t: Tally,
     s: &[u8],
     r: Row,
@@ -202,34 +218,8 @@ fn called(
     labels: &mut [u64; 2039],
     jumps: &mut [u32; 20480],
 ) -> Tally {
-    let mut c = t.case;
-    if !c.open {
-        crate::case::blank_code(buf);
-        crate::case::blank_labels(labels);
-        c = crate::case::fresh();
-    }
-    let d = crate::call::by_kind(r, buf, labels, jumps, c);
-    if d.good {
-        return with_case(t, d);
-    }
-    mismatch(with_case(t, c), s, 0)
-}
-
-fn kinds(
-    t: Tally,
-    s: &[u8],
-    r: Row,
-    buf: &mut [u8; 65536],
-    labels: &mut [u64; 2039],
-    jumps: &mut [u32; 20480],
-) -> Tally {
-    let k = r.kind;
-    match k {
-        0x00 => family(t, r),
-        0x01..=0x07 => code(t, s, r, buf),
-        0x08..=0x09 => answer(t, s, r),
-        _ => called(t, s, r, buf, labels, jumps),
-    }
+    let d = next(t.case, r, buf, labels, jumps);
+    settled(mismatched(t, s, d), d, ends(r.kind))
 }
 
 pub fn row(
@@ -241,7 +231,10 @@ pub fn row(
 ) -> Tally {
     let t = counted(before);
     let Read::Is(r) = crate::row::of(s) else {
-        return mismatch(t, s, 0);
+        return malformed(t, s);
     };
-    kinds(t, s, r, buf, labels, jumps)
+    if r.kind == 0x00 {
+        return family(t, r);
+    }
+    judged(t, s, r, buf, labels, jumps)
 }

@@ -4,19 +4,16 @@ use Rattle.replay.proofs.call.repeat.Statement.{statement}
 use Rattle.replay.proofs.call.repeat.Tie as tie
 
 abbrev Inv-loop : tie.InvT-loop
-Inv-loop n p t buf₀ labels₀ jumps₀ c₀ i₀ buf labels jumps c i = Unit {0}
+Inv-loop n p t buf₀ labels₀ jumps₀ d₀ i₀ buf labels jumps d i = Unit {0}
 
 abbrev μ-loop : tie.MeasureT-loop
-μ-loop n p t buf₀ labels₀ jumps₀ c₀ i₀ buf labels jumps c i = n - i
+μ-loop n p t buf₀ labels₀ jumps₀ d₀ i₀ buf labels jumps d i = n - i
 
 loop-holds : tie.Need-loop-holds Inv-loop μ-loop
 loop-holds c = search needs
 
 place-requires : tie.Need-place-requires Inv-loop μ-loop
 place-requires c κs = search needs
-
-done-requires : tie.Need-done-requires Inv-loop μ-loop
-done-requires c κs = search needs
 
 add-i : tie.Need-add-i Inv-loop μ-loop
 add-i c = search needs
@@ -38,7 +35,6 @@ repeat-spec =
     μ-loop
     loop-holds
     place-requires
-    done-requires
     add-i
     loop-less
     loop-again
