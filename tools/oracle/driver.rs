@@ -114,6 +114,8 @@ fn order(a: &mut RiscV, name: &str, n: &[i64]) {
         "not" => a.not(f(0), f(1)),
         "sign" => sign(a, n),
         "rust_sign" => a.sign(f(0), f(1)),
+        "xor_two_names" => a.xor(float(12), Reg::Ret, Reg::Gen(30)),
+        "fmov_two_names" => a.fmov(Reg::Ret, Reg::Left),
         "frac" => a.frac(f(0), f(1)),
         "minus" => a.minus(f(0), f(1), f(2)),
         "times" => a.times(f(0), f(1), f(2)),

@@ -18,7 +18,7 @@ A row of the list has a kind (two hexadecimal digits) and four numbers (eight ea
     10 and above: operands     a call, by its number in CALLS; the first one behind an answer starts on fresh memory
 
 --check writes nothing, and fails where the files in --out differ from what is made.
---differences prints what the Rust does with each refused input.
+--differences prints what the Rust does with each refused input, and with some others that docs/DIFFERENCES.md tells of.
 """
 import argparse
 import pathlib
@@ -159,14 +159,20 @@ def shown(answer):
     return " ".join(words[-8:]) + (f" (last of {len(words)} words)" if len(words) > 8 else "") or "no word"
 
 
+def both(programs, lines):
+    """What each line's steps give, with overflow checks and without."""
+    for answers in zip(*(build.ask(programs[mode], lines) for mode in build.MODES)):
+        checked, optimized = map(shown, answers)
+        yield checked if checked == optimized else f"{checked}; without overflow checks {optimized}"
+
+
 def differences(programs):
     told = list(refusals.refusals())
-    asked = [line(calls) for calls, _, _, _ in told]
-    answers = {mode: build.ask(programs[mode], asked) for mode in build.MODES}
-    for i, (_, number, place, why) in enumerate(told):
-        checked, optimized = (shown(answers[mode][i]) for mode in build.MODES)
-        both = checked if checked == optimized else f"{checked}; without overflow checks {optimized}"
-        print(f"{number:2} at {place:<5} {why:45} {asked[i]:60} {both}")
+    lines = [line(calls) for calls, _, _, _ in told]
+    for (_, number, place, why), text, answer in zip(told, lines, both(programs, lines)):
+        print(f"{number:2} at {place:<5} {why:45} {text:60} {answer}")
+    for text, answer in zip(refusals.NOTED, both(programs, refusals.NOTED)):
+        print(f"{text:60} {answer}")
 
 
 def main():

@@ -158,3 +158,27 @@ def refusals():
             place = 0
             yield calls, number, place, why
     yield from unset_places()
+
+
+# Other steps of the driver whose answers docs/DIFFERENCES.md tells: forms of `rvv!` beyond their fields, `hi` and `lo`, the Rust's own
+# `sign`, two names of one register, and a constant that is a NaN with a payload.
+NOTED = [
+    "rvv_add 32 0 0",
+    "rvv_addi 1 0 2048",
+    "rvv_sd 1 0 2048",
+    "rvv_slli 1 1 64",
+    "rvv_beq 1 2 4096",
+    "rvv_beq 1 2 1",
+    "rvv_jal 0 1048576",
+    "rvv_jal 0 -1048578",
+    "rvv_lui 1 1048576",
+    "rvv_fcvt_l_d 1 1 5",
+    "rvv_fcvt_l_d 1 1 8",
+    "hi 4294965248",
+    "lo 4095",
+    "rust_sign 12 13",
+    "xor 12 10 10",
+    "xor_two_names",
+    "fmov_two_names",
+    "add_const 0 1 2146959360",
+]
