@@ -14,7 +14,7 @@ A row of the list has a kind (two hexadecimal digits) and four numbers (eight ea
     02  n                      n zero words stand next
     03 to 07                   0 to 4 words stand next, and nothing behind them: the answer agrees
     08  n                      the last call answered this number
-    09  number place           the last call was refused and left all as it was
+    09  number place           the last call was refused and left the record as it was
     10 and above: operands     a call, by its number in CALLS; the first one behind an answer starts on fresh memory
 
 --check writes nothing, and fails where the files in --out differ from what is made.
@@ -93,7 +93,7 @@ def line(calls):
 
 
 def word_rows(code):
-    """Rows of an answer: runs of eight or more zero words in one row, others four to a row."""
+    """Rows of an answer: runs of four or more zero words in one row, others four to a row."""
     words = [int.from_bytes(code[i : i + 4], "little") for i in range(0, len(code), 4)]
     rows, held, i = [], [], 0
     while i < len(words):
