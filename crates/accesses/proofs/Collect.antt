@@ -22,6 +22,7 @@ use Rattle.refusal.specs.Number.{number-of}
 use Rattle.refusal.specs.declared.Refusal.{Refusal}
 use Rattle.refusal.specs.declared.Refusal.the-variants.{Register, Value, Label, Twice, Unset, Far, Full, Closed, Count, Base, Unsaved, Line}
 use Rattle.encoder.specs.Answer.{told, encoded}
+use Rattle.encoder.proofs.Answers.{bad-register, bad-value, good}
 use Rattle.encoder.specs.Field.{sign-of}
 use Rattle.encoder.specs.declared.Sign.the-variants.{NonNeg, Neg}
 use Rattle.encoder.specs.declared.Encoded.{Encoded}
@@ -81,8 +82,12 @@ by-told (Refused r p) w false c t =
     rw (s, q)
 
 pub answered : (e : Encoded) (i : Instr) → told e ≡ encoded i → e ≡ answer-of i
-unfolding encoded
-answered e i t = by-told e (encode i) (registers-hold (operands i)) (valid i) t
+answered e i t = by (registers-hold (operands i)) (valid i) refl refl
+  where
+    by : (b c : Bool) → registers-hold (operands i) ≡ b → valid i ≡ c → e ≡ cond b (cond c (Word (encode i)) (Refused Value 0)) (Refused Register 0)
+    by true true p q = by-told e (encode i) true true (t ∙ sym (good i q (encode i) refl p))
+    by true false p q = by-told e (encode i) true false (t ∙ sym (bad-value i p q))
+    by false c p q = by-told e (encode i) false c (t ∙ sym (bad-register i p))
 
 word : (i : Instr) → Valid i → answer-of i ≡ Word (encode i)
 word i v = rw (Valid-registers i v, Valid-valid i v)
