@@ -1,0 +1,108 @@
+"""Decks that document 01 accepts, for the recorded list: a fixed part that has every order, place and limit, and decks from a seed.
+
+`accepted()` gives (bytes, size of the buffer). The scratch of `frac` and `sign` is f11, the one that the Rust has."""
+import random
+
+from generate import BINARY, CELL, FUSED, SCRATCHED, UNARY, full, good, jumpy, large, line, long_file, text
+from reference import CODE, routine
+
+SEED = 20261115
+HEADS = ["fast,300,2,300,1,0\n", "indirect,300,2,300,300,0\n"]
+
+
+def every_order(head):
+    """One deck for each order, its registers distinct and then alike, and one for each place at both sides of an access's limit."""
+    all_saved = sum(1 << r for r in CELL)
+    for name in UNARY:
+        yield [head, line(name, 1, 2), line(name, 31, 0), line(name, 10, 10), line(name, 11, 10), line(name, 10, 11)]
+    for name in SCRATCHED:
+        yield [head, line(name, 1, 2, 11), line(name, 11, 11, 11), line(name, 1, 1, 11), line(name, 11, 3, 11), line(name, 4, 11, 11)]
+    for name in BINARY:
+        yield [head, line(name, 1, 2, 3), line(name, 1, 1, 1), line(name, 31, 30, 29), line(name, 2, 3, 3), line(name, 2, 2, 3), line(name, 2, 3, 2)]
+    for name in FUSED:
+        yield [head, line(name, 1, 2, 3, 4), line(name, 31, 31, 31, 31), line(name, 0, 10, 17, 28), line(name, 5, 5, 6, 5)]
+    yield [head, *(line("ifelse", 1, 2, 3, i) for i in (0, 1, 255, 256, 257, 299)), "ifelse,7,7,7,8\n"]
+    for place in ("mem", "stack") if head.startswith("fast") else ("mem", "stack", "param"):
+        for name in ("get", "put"):
+            yield [head, *(line(name, 1 + i % 7, place, i) for i in (0, 1, 4, 15, 254, 255, 256, 257, 299))]
+    frame = head.split(",")[0]
+    yield [line(frame, 16, 1, 0, 0, all_saved), *(line("minus", r, r, 1) for r in CELL), *(line("get", r, "stack", CELL[r]) for r in CELL)]
+    for r in CELL:
+        yield [line(frame, 16 + r, 1, 1, 0, 1 << r | 1), line("times", r, r, r), line("put", r, "stack", 3), line("put", r, "stack", 0)]
+    # cells of registers that aren't saved are open; fmov of a register to itself writes nothing
+    yield [line(frame, 16, 1, 1, 0, 1 << 8), *(line("put", 8, "stack", i) for i in range(16) if i != 4), *(line("fmov", r, r) for r in range(32))]
+
+
+def flow(head):
+    """Labels, branches both ways, constants of both kinds, with their limits."""
+    yield [head, "branch,1,0,0\n", "minus,1,2,3\n", "label,0\n"]
+    yield [head, "label,1023\n", "minus,1,2,3\n", "branch,1,1023,1\n"]
+    yield [head, "branch,5,3,1\n", "branch,6,3,0\n", "label,4\n", "branch,7,4,1\n", "label,3\n", "label,2\n"]
+    yield [head, "label,5\n", "branch,1,5,0\n"]
+    yield [head, "branch,1,5,0\n", "label,5\n"]
+    for n in (0, 1, -1, 255, -4096, 2**31, 2**53, -(2**53), 2**53 - 1, 9007199254740991):
+        yield [head, "load_const,1,0\n", line("float", n), "load_const,31,0\n"]
+    for n in (0, 1, 2**64 - 1, 2**63, 0x7FF8000000000000, 0x7FF0000000000001, 0xFFF8DEADBEEF0001, 0x3FF0000000000000):
+        yield [head, "load_const,1,0\n", line("bits", f"{n:016x}"), "float,1\n", "load_const,2,1\n"]
+    yield [head, *[f"load_const,{k % 8},{k}\n" for k in range(0, 1008, 37)], "load_const,1,1007\n", *["float,-7\n", "bits,0123456789abcdef\n"] * 504]
+    # far apart, so that a pair's low part changes sign
+    for n in (300, 509, 510, 511, 512, 513, 514, 515, 700, 1021, 1022, 1023, 1024, 1025):
+        yield [head, "load_const,1,0\n", "branch,1,1,0\n", *["minus,1,2,3\n"] * n, "label,1\n", "branch,1,2,1\n", "float,1\n", "label,2\n"]
+        yield [head, "label,1\n", *["minus,1,2,3\n"] * n, "branch,1,1,0\n"]
+
+
+def limits():
+    """The good side of each limit of line 1."""
+    for cap in (0, 1, 2, 15, 16, 17, 252, 253, 254, 255, 256, 257, 510, 511, 4095, 4096):
+        yield [line("fast", cap, 1, 0, 0, 0), "minus,10,10,1\n"]
+        yield [line("indirect", cap, 1, 1, 1, 0), "minus,10,10,1\n"]
+    for states, obs in ((0, 0), (0, 1), (1, 0), (15, 15), (16, 16), (17, 17), (16, 17), (17, 16), (18, 0), (0, 18), (255, 0), (256, 0), (0, 256), (2047, 2049),
+                        (2048, 2048), (4096, 0), (0, 4096), (4095, 1), (1, 4095), (255, 17), (256, 17), (257, 17), (512, 17), (4079, 17)):
+        for params in (0, 4096) if states in (0, 17) else (3,):
+            yield [line("indirect", 0, states, obs, params, 0)]
+    for states in range(9):
+        yield [line("fast", 0, states, 1, states, 0)]
+    for states, obs, cell in ((8, 0, 7), (8, 248, 255), (8, 4088, 255), (0, 4096, 0), (0, 256, 255), (1, 253, 253), (1, 254, 254), (1, 255, 3)):
+        yield [line("fast", 5, states, obs, cell, 0)]
+    for mask in (0, 1, 0xF003FCFF, 0xFFFFFFFF, 1 << 8, 1 << 9, 1 << 18, 1 << 27, 0x0FFC0300):
+        yield [line("fast", 16, 1, 0, 0, mask), "put,1,stack,0\n"]
+        yield [line("indirect", 16, 1, 0, 0, mask), "put,1,stack,3\n"]
+    for mask in (0xF003FCFF, 1 << 7, 1 << 10, 1 << 17, 1 << 28):
+        yield [line("indirect", 0, 1, 0, 0, mask)]
+
+
+def buffers(r):
+    """Full ones: code, jumps, file; and buffers that hold just the code, and more than counts."""
+    for _ in range(6):
+        yield full(r, 0), CODE
+        yield full(r, 1), CODE
+        yield jumpy(r, 0), CODE
+    for frame in ("fast", "indirect"):
+        yield full(r, 0, (frame, 300, 0, 17, 0, 0)), 70000
+        yield jumpy(r, 0, (frame, 20, 8, 17, 0, 0)), CODE
+    yield long_file(r, 65536), CODE
+    yield long_file(r, 65535), CODE
+    for count in (500, 1000, 3500):
+        yield large(r, count, scratch=11), CODE
+    yield large(r, 1500, scratch=11, backward=True), 65600
+    for _ in range(12):
+        lines = good(r, scratch=11, without=("sign",), count=10)
+        # just room enough
+        yield lines, 4 * len(routine(text(lines)).words)
+
+
+def accepted():
+    r, rows = random.Random(SEED), []
+    for head in HEADS:
+        rows += [(lines, CODE) for part in (every_order, flow) for lines in part(head)]
+    rows += [(lines, CODE) for lines in limits()]
+    rows += buffers(r)
+    for i in range(160):
+        rows.append((good(r, scratch=11, without=("sign",) if i % 4 else (), count=r.choice([5, 15, 30]), backward=True), CODE))
+    seen, told = set(), []
+    for lines, size in rows:
+        deck = text(lines)
+        if (deck, size) not in seen:
+            seen.add((deck, size))
+            told.append((deck, size))
+    return told
