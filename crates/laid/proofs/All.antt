@@ -144,10 +144,10 @@ put-laid b is js ts tag fault s t a h e =
     subst (λ (x : State). Laid b (is ++ js) (ts ++ replicate (jumps js) tag) x) (sym (p .1))
     (all-laid b tag js is ts s a h (q .new) (omega (arith, a .len)) (omega (arith, a .count, q .jumps-left)))
 
--- An empty state.
-pub fresh-laid : (b : List ℕ) → Laid b [] [] (record { asm = record { len = 0; jumps = 0; closed = false }; labels = replicate 2039 0; jumps = replicate 20480 0; buf = b })
+-- An empty state, whatever its jump memory holds.
+pub fresh-laid : (b js : List ℕ) → length js ≡ 20480 → Laid b [] [] (record { asm = record { len = 0; jumps = 0; closed = false }; labels = replicate 2039 0; jumps = js; buf = b })
 unfolding words jumps jumps-in label-place jumps-of tags-of
-fresh-laid b = record {
+fresh-laid b js n = record {
   unclosed = refl;
   len = refl;
   within = omega arith;
@@ -156,7 +156,7 @@ fresh-laid b = record {
   few = omega arith;
   noted = refl;
   tagged = refl;
-  wide-jumps = length-replicate {A = ℕ} 20480 0;
+  wide-jumps = n;
   set-labels = λ l h. getD-replicate {A = ℕ} 2039 l 0 0 h;
   wide-labels = length-replicate {A = ℕ} 2039 0;
 }

@@ -1,7 +1,7 @@
 -- Bytes behind those that count never change. Assumes nothing.
 use mathlib.Core.Path.{_≡_, refl, _∙_}
 use mathlib.Core.Bool.{Bool, true, false, cond}
-use mathlib.Core.List.{List, [], _∷_, flatMap}
+use mathlib.Core.List.{List, [], _∷_}
 use Prim.Native.Nat.{ℕ, zero, suc, _+_, _*_, _≤_, _<_}
 use native.Mathlib.Omega.{arith}
 use borrow.Author.Tests.{leb-true, eqb-true}
@@ -13,10 +13,11 @@ use Rattle.isa.proofs.Validity.{both}
 use Rattle.refusal.specs.Answer.{accepted, refused}
 use Rattle.assembler.specs.Item.{Item, instr, raw, jump, label}
 use Rattle.assembler.specs.Jump.{kind-number}
-use Rattle.assembler.specs.Bytes.{le-bytes, bytes, written, room}
+use Rattle.assembler.specs.Bytes.{bytes, written, room}
 use Rattle.assembler.specs.Memory.{jump-at, jumps-of}
 use Rattle.assembler.specs.State.{State, sound}
 use Rattle.assembler.specs.Put.{words, jumps, labels, twice, with-word, with-jump, with-label, place, placed, put-number, settled, put}
+use Rattle.assembler.proofs.Writes.{length-bytes}
 use Rattle.finish.specs.Finish.{Ending, jump-word, patched, finish-number, about, finished, finish}
 use Rattle.laid.proofs.All.{passed, zero-then, zero-else}
 use Rattle.laid.proofs.Finished.{finish-right}
@@ -25,9 +26,13 @@ sets-behind : (n : ℕ) (b : List ℕ) (at : ℕ) (bs : List ℕ) → at + lengt
 sets-behind n b at [] h = refl
 sets-behind n b at (x ∷ bs) h = sets-behind n (set b at x) (suc at) bs (omega arith) ∙ drop-set-lt n b at x (omega arith)
 
+-- words written before them
+pub written-behind : (n : ℕ) (b : List ℕ) (at : ℕ) (ws : List ℕ) → at + 4 * length ws ≤ n → drop n (written b at ws) ≡ drop n b
+unfolding written
+written-behind n b at ws h = sets-behind n b at (bytes ws) (omega (arith, length-bytes ws))
+
 word-behind : (n : ℕ) (b : List ℕ) (at w : ℕ) → at + 4 ≤ n → drop n (written b at (w ∷ [])) ≡ drop n b
-unfolding written bytes flatMap
-word-behind n b at w h = sets-behind n b at (le-bytes w) h
+word-behind n b at w h = written-behind n b at (w ∷ []) (omega arith)
 
 placed-behind : (n tag : ℕ) (is : List Item) (s : State) → s .asm .len + 4 * length (words is) ≤ n → drop n (placed tag is s .buf) ≡ drop n (s .buf)
 unfolding words placed place with-word with-jump with-label

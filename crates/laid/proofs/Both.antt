@@ -126,7 +126,7 @@ module _ (tag : ℕ) where
 -- ---- orders
 
 -- a record over a buffer of n bytes that has room for so much
-sound-is : (n : ℕ) (a : Asm) → a .len ≤ room n → a .len % 4 ≡ 0 → a .jumps ≤ 4096 → sound n a ≡ true
+pub sound-is : (n : ℕ) (a : Asm) → a .len ≤ room n → a .len % 4 ≡ 0 → a .jumps ≤ 4096 → sound n a ≡ true
 unfolding sound
 sound-is n a e f g = rw (le-leb _ _ e, eq-eqb _ _ f, le-leb _ _ g)
 
