@@ -42,7 +42,7 @@ use Rattle.call.proofs.Call.{call}
 unfoldable pub with-bytes : ℕ → List ℕ → (ℕ → ℕ) → ℕ → ℕ
 with-bytes a bs m x = cond (leb a x && ltb x (a + length bs)) (getD bs (x - a) 0) (m x)
 
-loaded : (a : ℕ) (bs : List ℕ) (m : ℕ → ℕ) → a + length bs ≤ 2 ^ 64 → Loaded (with-bytes a bs m) a bs
+pub loaded : (a : ℕ) (bs : List ℕ) (m : ℕ → ℕ) → a + length bs ≤ 2 ^ 64 → Loaded (with-bytes a bs m) a bs
 unfolding with-bytes
 loaded a bs m h k l =
     let e : w64 (a + k) ≡ a + k = omega arith in
@@ -57,10 +57,10 @@ above m a b bs cs h n f k l =
     let y = f k l in
     rw (e, lt-leb b (a + k) (omega arith)) (rw e at y)
 
-abbrev Bytes : List ℕ → Type 0
+abbrev pub Bytes : List ℕ → Type 0
 Bytes bs = (k : ℕ) → getD bs k 0 < 256
 
-with-small : (a : ℕ) (bs : List ℕ) (m : ℕ → ℕ) → Bytes bs → ((x : ℕ) → m x < 256) → (x : ℕ) → with-bytes a bs m x < 256
+pub with-small : (a : ℕ) (bs : List ℕ) (m : ℕ → ℕ) → Bytes bs → ((x : ℕ) → m x < 256) → (x : ℕ) → with-bytes a bs m x < 256
 unfolding with-bytes
 with-small a bs m h k x = by (leb a x && ltb x (a + length bs))
   where
@@ -69,7 +69,7 @@ with-small a bs m h k x = by (leb a x && ltb x (a + length bs))
     by false = k x
 
 -- the bytes of words are bytes
-words-small : (ws : List ℕ) → Bytes (bytes ws)
+pub words-small : (ws : List ℕ) → Bytes (bytes ws)
 unfolding bytes flatMap
 words-small [] k = omega arith
 words-small (w ∷ ws) zero = omega arith
@@ -83,7 +83,7 @@ unfolding bytes flatMap
 bytes-length [] = refl
 bytes-length (w ∷ ws) = omega (arith, bytes-length ws)
 
-upd-small : (f : ℕ → ℕ) (k v : ℕ) → v < 2 ^ 64 → ((r : ℕ) → f r < 2 ^ 64) → (r : ℕ) → upd f k v r < 2 ^ 64
+pub upd-small : (f : ℕ → ℕ) (k v : ℕ) → v < 2 ^ 64 → ((r : ℕ) → f r < 2 ^ 64) → (r : ℕ) → upd f k v r < 2 ^ 64
 unfolding upd
 upd-small f k v h g r = by (eqb r k)
   where
@@ -93,7 +93,7 @@ upd-small f k v h g r = by (eqb r k)
 
 -- ---- document 01's sample: `fast,0,1,0,0,0`
 
-abbrev sample : Program
+abbrev pub sample : Program
 sample = record { head = record { frame = Fast; cap = 0; states = 1; obs = 0; last = 0; mask = 0 }; lines = [] }
 
 sample-length : code-length sample ≡ 84
@@ -113,7 +113,7 @@ sample-good =
 
 -- code at 0x10000, ra 0x20000, sp 0x80000; f10 is the state
 module _ (Q : Floats) (f : ℕ → ℕ) (small : (r : ℕ) → f r < 2 ^ 64) where
-  abbrev first : State
+  abbrev pub first : State
   first =
       record {
         pc = 0x10000;
@@ -136,7 +136,7 @@ module _ (Q : Floats) (f : ℕ → ℕ) (small : (r : ℕ) → f r < 2 ^ 64) whe
         obs-cells = λ h. absurd h;
       }
 
-  first-called : Called sample first
+  pub first-called : Called sample first
   first-called =
       record {
         sound =
@@ -163,7 +163,7 @@ module _ (Q : Floats) (f : ℕ → ℕ) (small : (r : ℕ) → f r < 2 ^ 64) whe
 
 -- ---- the product of a state and a parameter: `indirect,0,1,1,1,0`, then four orders
 
-abbrev product : Program
+abbrev pub product : Program
 product =
     record {
       head = record { frame = Indirect; cap = 0; states = 1; obs = 1; last = 1; mask = 0 };
@@ -218,7 +218,7 @@ pointers =
     0 ∷ 0 ∷ 6 ∷ 0 ∷ 0 ∷ 0 ∷ 0 ∷ 0 ∷ 0 ∷ 0 ∷ 0 ∷ 0 ∷ 0 ∷ 0 ∷ 0 ∷ 0 ∷ 0 ∷ 0 ∷ 7 ∷ 0 ∷ 0 ∷ 0 ∷ 0 ∷ 0 ∷ 0 ∷ 0 ∷ 0 ∷ 0 ∷ 0 ∷ 0 ∷ 0 ∷ 0 ∷ []
 
 -- with a1 zero: the block at 0x30000 has 2.0, the parameter at 0x40000 is 3.0
-abbrev block : State
+abbrev pub block : State
 block =
     record {
       pc = 0x10000;
@@ -265,7 +265,7 @@ code-small = with-small 0x10000 (bytes (routine-words product)) (λ x. 0) (words
 code-loaded : Loaded code-memory 0x10000 (bytes (routine-words product))
 code-loaded = loaded 0x10000 (bytes (routine-words product)) (λ x. 0) (omega (arith, product-fits))
 
-block-called : Called product block
+pub block-called : Called product block
 block-called =
     record {
       sound =
@@ -291,10 +291,10 @@ module _ (s : State) where
   abbrev r3 : Reading
   r3 = with-meaning binary64 product 3 (means binary64 product (Binary Times 2 0 1) r2) r2
 
-  abbrev r4 : Reading
+  abbrev pub r4 : Reading
   r4 = with-meaning binary64 product 4 (means binary64 product (Save 2 Mem 1) r3) r3
 
-  four : Reads binary64 product (start (product .head) s) 4 r4
+  pub four : Reads binary64 product (start (product .head) s) 4 r4
   unfolding meaning
   four = line-read refl (does refl) (line-read refl (does refl) (line-read refl (does refl) (line-read refl (does refl) none-read)))
 
@@ -309,7 +309,7 @@ product-returns =
     (r .end, r .pc, r .cells Mem 1 (omega arith), r .cells Param 0 (omega arith))
 
 -- with a table at 0x50000 and a2 one: the state cell is at 0x60008, the observation cell at 0x70008
-abbrev table : State
+abbrev pub table : State
 table =
     record {
       pc = 0x10000;
@@ -340,7 +340,7 @@ table-terms =
     only-obs zero h = omega arith
     only-obs (suc i) h = absurd (omega arith)
 
-table-called : Called product table
+pub table-called : Called product table
 table-called =
     record {
       sound =

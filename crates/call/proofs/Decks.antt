@@ -26,7 +26,7 @@ three = 0x4008000000000000
 
 -- ---- the larger of two: `fast,0,2,0,0,0`, then
 
-abbrev larger : Program
+abbrev pub larger : Program
 larger =
     record {
       head = record { frame = Fast; cap = 0; states = 2; obs = 0; last = 0; mask = 0 };
@@ -77,7 +77,7 @@ larger-first =
 
 -- ---- a constant, which may come behind its order: `fast,0,1,0,0,0`, then
 
-abbrev scaled : Program
+abbrev pub scaled : Program
 scaled =
     record {
       head = record { frame = Fast; cap = 0; states = 1; obs = 0; last = 0; mask = 0 };
@@ -104,7 +104,7 @@ scaled-two =
 
 -- ---- bits of a stack cell choose, and `recip` of f10: `fast,1,2,0,0,0`, then
 
-abbrev chosen : Program
+abbrev pub chosen : Program
 chosen =
     record {
       head = record { frame = Fast; cap = 1; states = 2; obs = 0; last = 0; mask = 0 };
