@@ -7,86 +7,90 @@ Accepted decks come from accepted.py; their words are the Rust's, built unchange
 has other words than document 01's (docs/DIFFERENCES.md): where a deck has the order, the driver has document 01's words for it, and the deck's
 row says so. Refused decks come from refused.py, with document 01's numbers. reference.py, a third writing of document 01, must agree with both.
 
-A row has 128 bytes: a letter, numbers in hexadecimal digits, and spaces up to byte 10.
-    d times count text              count bytes more of the deck, so many times; a byte outside 33..126, and the backslash, is a backslash and 2 digits
-    x size number line              the deck is refused, in a buffer of so many bytes; behind the numbers the sentence that says so
-    a size length offset constants jumps frame hash
-                                    the deck is accepted: length, the constants' offset and count, the count of jumps, 0 fast or 1 indirect, and the
-                                    words' FNV-1a hash of 64 bits; behind it `sign` where the driver's words for it are among them
+A row has 128 bytes: a letter, numbers of eight hexadecimal digits, text, spaces, byte 10.
+    d times count text              count bytes more of the deck, so many times; a tilde is a line's end
+    b times value                   one byte more, so many times: those that a text can't have
+    r size 0 number line 0 0 hash   the deck, in a buffer of so many bytes, is refused; behind the numbers the sentence that says so
+    r size frame length offset constants jumps hash
+                                    the deck is accepted: frame is 1 fast or 2 indirect; length, the constants' offset and count, the count of jumps;
+                                    behind the numbers `sign` where document 01's words for it are among them
     w offset count words            words of the deck accepted last, from that offset on: for all decks of at most 120 words
+A hash has two columns: a polynomial of the code's bytes, each one more, at 257 modulo the prime 2^54 - 33.
 --check writes nothing, and fails where the files in --out differ from what is made.
 """
 import argparse
+import itertools
 import pathlib
+import re
 import sys
 import tempfile
 
 import rust
 from accepted import accepted
-from generate import escaped
 from reference import Refused, routine
 from refused import refused
 
-ROW, TEXT, WORDS, SPELLED = 128, 112, 12, 120
+ROW, TEXT, WORDS, SPELLED = 128, 107, 12, 120
+PRIME = 2**54 - 33
 
 
-def row(words):
-    out = " ".join(words)
+def row(letter, numbers, text=""):
+    out = " ".join([letter, *(f"{n:08x}" for n in numbers)]) + (f" {text}" if text else "")
     assert len(out) < ROW, out
     return out.ljust(ROW - 1) + "\n"
 
 
 def pieces(deck):
-    """(times, bytes): a line that comes four times or more in a row is one piece."""
-    lines, held = split(deck), b""
-    i = 0
-    while i < len(lines):
-        run = next((k for k in range(i, len(lines)) if lines[k] != lines[i]), len(lines)) - i
-        if run >= 4 and len(escaped(lines[i])) <= TEXT:
-            yield from cut(held)
-            yield run, lines[i]
-            held, i = b"", i + run
+    """(times, bytes): a line that comes four times or more in a row is one piece, and so is a run of a byte that a text can't have."""
+    for part in re.findall(rb"[\n -}]+|(?:[^\n -}])+", deck):
+        if part[0] != 10 and not 32 <= part[0] <= 125:
+            yield from ((len(list(run)), bytes([b])) for b, run in itertools.groupby(part))
         else:
-            held, i = held + lines[i], i + 1
+            yield from texts(part)
+
+
+def texts(part):
+    held = b""
+    for line, run in itertools.groupby(re.findall(rb"[^\n]*\n|[^\n]+", part)):
+        times = len(list(run))
+        if times >= 4 and len(line) <= TEXT:
+            yield from cut(held)
+            yield times, line
+            held = b""
+        else:
+            held += line * times
     yield from cut(held)
 
 
-def split(deck):
-    parts = deck.split(b"\n")
-    return [p + b"\n" for p in parts[:-1]] + ([parts[-1]] if parts[-1] else [])
-
-
 def cut(held):
-    """Pieces that fit a row."""
-    while held:
-        n, size = 0, 0
-        while n < len(held) and size + len(escaped(held[n : n + 1])) <= TEXT:
-            size += len(escaped(held[n : n + 1]))
-            n += 1
-        yield 1, held[:n]
-        held = held[n:]
+    return ((1, held[i : i + TEXT]) for i in range(0, len(held), TEXT))
 
 
 def deck_rows(deck):
-    return [row(["d", f"{times:04x}", f"{len(part):02x}", escaped(part)]) for times, part in pieces(deck)]
+    rows = []
+    for times, part in pieces(deck):
+        if part[0] == 10 or 32 <= part[0] <= 125:
+            rows.append(row("d", [times, len(part)], part.decode().replace("\n", "~")))
+        else:
+            rows.append(row("b", [times, part[0]]))
+    return rows
 
 
-def fnv(words):
-    h = 0xCBF29CE484222325
+def hashed(words):
+    h = 0
     for b in b"".join(w.to_bytes(4, "little") for w in words):
-        h = (h ^ b) * 0x100000001B3 % 2**64
-    return h
+        h = (h * 257 + b + 1) % PRIME
+    return [h >> 32, h % 2**32]
 
 
 def accepted_rows(deck, size, words, told, signs):
     assert words == told.words, deck
-    numbers = [size, 4 * len(words), told.offset, told.constants, told.jumps]
-    frame = "0" if told.head.frame == "fast" else "1"
-    yield row(["a", *(f"{n:06x}" for n in numbers), frame, f"{fnv(words):016x}", *(["sign"] if signs else [])])
+    frame = 1 if told.head.frame == "fast" else 2
+    yield row("r", [size, frame, 4 * len(words), told.offset, told.constants, told.jumps, *hashed(words)], "sign" if signs else "")
     if len(words) <= SPELLED:
         for i in range(0, len(words), WORDS):
             part = words[i : i + WORDS]
-            yield row(["w", f"{4 * i:06x}", f"{len(part):02x}", *(f"{w:08x}" for w in part)])
+            yield row("w", [4 * i, len(part), *part])
 
 
 def agreed(deck, number, line, size):
@@ -95,6 +99,11 @@ def agreed(deck, number, line, size):
     except Refused as r:
         return (r.number, r.line) == (number, line)
     return False
+
+
+def short(sentence):
+    """As much of a sentence as a row has room for."""
+    return sentence if len(sentence) <= 52 else sentence[:50].rsplit(" ", 1)[0] + " .."
 
 
 def made(rust_folder):
@@ -115,7 +124,7 @@ def made(rust_folder):
     for deck, number, line, size, sentence in bad:
         if not agreed(deck, number, line, size):
             sys.exit(f"the reference differs: {number} at line {line}, {sentence}")
-        rows += deck_rows(deck) + [row(["x", f"{size:06x}", f"{number:02x}", f"{line:06x}", sentence])]
+        rows += deck_rows(deck) + [row("r", [size, 0, number, line, 0, 0, *hashed([])], short(sentence))]
     return "".join(rows), f"{len(decks)} accepted, {len(bad)} refused, 0 mismatches\n", set_apart
 
 

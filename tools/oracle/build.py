@@ -31,8 +31,8 @@ def generator(mod):
     return "\n".join(lines) + "\n"
 
 
-def build(rust, folder):
-    """The oracle's programs by the names of MODES."""
+def build(rust, folder, modes=MODES, files=None):
+    """The oracle's programs by the names of modes, with their flags; files beside or in the place of the oracle's own, by their paths below src/."""
     rust, folder = pathlib.Path(rust).resolve(), pathlib.Path(folder)
     source = folder / "src"
     (source / "riscv64").mkdir(parents=True)
@@ -40,16 +40,17 @@ def build(rust, folder):
         (source / name).symlink_to(rust / name)
     for name in ["mod.rs", "macros.rs"]:
         (source / "riscv64" / name).symlink_to(rust / "riscv64" / name)
-    (source / "main.rs").symlink_to(HERE / "main.rs")
-    (source / "riscv64" / "tests.rs").symlink_to(HERE / "driver.rs")
+    own = {"main.rs": HERE / "main.rs", "around.rs": HERE / "around.rs", "riscv64/tests.rs": HERE / "driver.rs"}
+    for name, path in (own | (files or {})).items():
+        (source / name).symlink_to(path)
     mod = (rust / "riscv64" / "mod.rs").read_text()
     (source / "generator.rs").write_text(generator(mod))
     for name in SHIMS:
         run("rustc", *FLAGS, "--crate-type", "rlib", HERE / "shims" / f"{name}.rs", cwd=folder)
     run("rustc", *FLAGS, "--crate-type", "proc-macro", HERE / "shims" / "serde.rs", cwd=folder)
-    for mode, flags in MODES.items():
+    for mode, flags in modes.items():
         run("rustc", *FLAGS, "--cfg", "test", *flags, "-L", ".", "-o", mode, source / "main.rs", *externs(), cwd=folder)
-    return {mode: folder / mode for mode in MODES}
+    return {mode: folder / mode for mode in modes}
 
 
 def externs():

@@ -1,0 +1,75 @@
+// Times decks: from file to words through the static library, and the Rust's functions on the same orders, which are prepared before.
+// A line of standard input is a deck: its name, the count of its lines, its bytes in hexadecimal digits, and behind a space the steps that the
+// driver takes. A line of the answer is: name, lines, bytes of the file, bytes of code, and nanoseconds for a deck: through the static library;
+// the Rust's functions with a cleared buffer of 65,536 bytes that gets the code; the Rust's functions alone.
+#![allow(warnings)]
+
+include!("around.rs");
+
+use std::hint::black_box;
+use std::time::Instant;
+
+// The one place that knows how the library is called.
+mod library {
+    extern "C" {
+        fn deck_emit(file: *const u8, file_len: usize, buf: *mut u8, buf_len: usize) -> u64;
+    }
+
+    pub fn emit(file: &[u8], buf: &mut [u8]) {
+        unsafe { deck_emit(file.as_ptr(), file.len(), buf.as_mut_ptr(), buf.len()) };
+    }
+}
+
+// A deck of the Rust's: its steps are prepared. `emit` does them on a fresh assembler; with a buffer, that is cleared and gets the code.
+pub trait Deck {
+    fn emit(&mut self, buf: Option<&mut [u8]>) -> usize;
+}
+
+pub struct Bench;
+
+pub trait Prepare {
+    fn prepare(&self, steps: &str) -> Box<dyn Deck>;
+}
+
+// The least time of one call, of nine rounds that take 20 milliseconds or more each.
+fn nanoseconds(mut call: impl FnMut()) -> f64 {
+    let mut times = 1;
+    let mut best = f64::MAX;
+    let mut rounds = 0;
+    while rounds < 9 {
+        let start = Instant::now();
+        (0..times).for_each(|_| call());
+        let spent = start.elapsed().as_nanos() as f64;
+        if spent < 2e7 {
+            times *= 2;
+            continue;
+        }
+        best = best.min(spent / times as f64);
+        rounds += 1;
+    }
+    best
+}
+
+fn bytes(digits: &str) -> Vec<u8> {
+    (0..digits.len() / 2).map(|i| u8::from_str_radix(&digits[2 * i..2 * i + 2], 16).unwrap()).collect()
+}
+
+fn main() {
+    for line in std::io::stdin().lines() {
+        let line = line.unwrap();
+        let mut parts = line.splitn(4, ' ');
+        let (name, lines, file, steps) = (parts.next().unwrap(), parts.next().unwrap(), bytes(parts.next().unwrap()), parts.next().unwrap());
+        let mut deck = Bench.prepare(steps);
+        let (mut ours, mut theirs) = (vec![1; 65536], vec![1; 65536]);
+        library::emit(&file, &mut ours);
+        let length = deck.emit(Some(&mut theirs));
+        if ours != theirs {
+            println!("{name}: the words differ");
+            std::process::exit(1);
+        }
+        let a = nanoseconds(|| library::emit(black_box(&file), black_box(&mut ours)));
+        let b = nanoseconds(|| drop(black_box(deck.emit(Some(black_box(&mut theirs))))));
+        let c = nanoseconds(|| drop(black_box(deck.emit(None))));
+        println!("{name} {lines} {} {length} {a:.0} {b:.0} {c:.0}", file.len());
+    }
+}
