@@ -179,8 +179,9 @@ def rooms(out):
             out.whole(close, 7, len(close), BEHIND)
             out.whole([*close, "label,1\n", "fmov,3,3\n"], 7, len(close) + 2, BEHIND)
         for spare in (0, 1):
-            close = [*filled(head, CODE // 4 - spare, before + after), "float,1\n"]
-            out.whole(close, 7, len(close), BEHIND)
+            for told in ("float,1\n", "bits,0000000000000001\n"):
+                close = [*filled(head, CODE // 4 - spare, before + after), told]
+                out.whole(close, 7, len(close), BEHIND)
         close = filled(head, CODE // 4, before + after)
         out.whole([*close[:2], "load_const,1,9\n", *close[2:]], 7, len(close) + 1, "decision 13: 7 at the last line, before any 5")
         # short buffers

@@ -1,0 +1,34 @@
+#!/usr/bin/env python3
+"""Rows for the program `replaydecks` (record.py says what they are): fresh decks, good and bad ones, with the reference's answers.
+
+    fresh.py SEED COUNT | target/bin/replaydecks
+
+Unlike `deckwords`, the program lends buffers of any size: one in five here isn't 65,536 bytes.
+"""
+import random
+import sys
+
+from generate import decks
+from record import deck_rows, hashed, row
+from reference import CODE, Refused, routine
+
+
+def answer_row(deck, size):
+    try:
+        told = routine(deck, size)
+    except Refused as r:
+        return row("r", [size, 0, r.number, r.line, 0, 0, *hashed([])])
+    frame = 1 if told.head.frame == "fast" else 2
+    return row("r", [size, frame, 4 * len(told.words), told.offset, told.constants, told.jumps, *hashed(told.words)])
+
+
+def main():
+    seed, count = map(int, sys.argv[1:])
+    r = random.Random(f"sizes {seed}")
+    for deck in decks(seed, count):
+        size = r.choice([0, 3, 4, 300, 500, 65535, 65537, 70000, r.randint(0, 3000)]) if r.random() < 0.2 else CODE
+        sys.stdout.write("".join(deck_rows(deck)) + answer_row(deck, size))
+
+
+if __name__ == "__main__":
+    main()
