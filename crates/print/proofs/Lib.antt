@@ -1,0 +1,4 @@
+pub mod Counts
+pub mod Stores
+pub mod Lines
+pub mod Whole

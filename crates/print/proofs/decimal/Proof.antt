@@ -1,0 +1,51 @@
+use mathlib.Core.Path.{sym, _∙_}
+use mathlib.Core.Bool.{true, false}
+use native.Mathlib.Omega.{arith}
+use borrow.Author.Needs.{needs}
+use borrow.Author.Tests.{leb-true, not-true, not-false}
+use denote.Ref.{now}
+use Rattle.text.specs.Digits.{decimal as decimal-of}
+use Rattle.print.proofs.Counts.{as-decimal}
+use Rattle.print.proofs.Whole.{too-long, fits, tested}
+use Rattle.print.proofs.decimal.Statement.{statement}
+use Rattle.print.proofs.decimal.Tie as tie
+
+decimal-length-requires : tie.Need-decimal-length-requires
+decimal-length-requires c κs = search needs
+
+has-room-requires : tie.Need-has-room-requires
+has-room-requires c κs = search needs
+
+same-length : tie.Need-same-length
+same-length c = search needs
+
+returns : tie.Need-returns
+returns c =
+    let a = c .before .before .before .before .before .args in
+    too-long (decimal-of (a .n)) (a .at) (now (a .out)) (tested (decimal-of (a .n)) (a .at) (now (a .out)) _ _ false (c .before .before .before .decimal-length .ensures .0) (c .before .has-room .ensures) (not-true _ (c .if1 .taken)))
+
+put-digits-requires : tie.Need-put-digits-requires
+put-digits-requires c κs =
+    let h = sym (c .before .before .has-room .ensures) ∙ not-false _ (c .before .if1 .left) in
+    (omega arith, omega arith, leb-true _ _ h)
+
+same-length-2 : tie.Need-same-length-2
+same-length-2 c = search needs
+
+returns-2 : tie.Need-returns-2
+returns-2 c =
+    let a = c .before .before .before .before .before .before .before .before .before .args in
+    let k = c .before .before .before .before .before .before .before .decimal-length .ensures .0 in
+    fits (decimal-of (a .n)) (a .at) (now (a .out)) _ _ (tested (decimal-of (a .n)) (a .at) (now (a .out)) _ _ true k (c .before .before .before .before .before .has-room .ensures) (not-false _ (c .before .before .before .before .if1 .left))) k (c .before .before .put-digits .ensures ∙ as-decimal (now (a .out)) (a .at) _ (a .n) k)
+
+pub decimal-spec : {M : Type 1} → statement M
+decimal-spec =
+    tie.close
+    (tie.spec
+    decimal-length-requires
+    has-room-requires
+    same-length
+    returns
+    put-digits-requires
+    same-length-2
+    returns-2)

@@ -1,0 +1,66 @@
+use mathlib.Core.Path.{_≡_, ap, _∙_}
+use Prim.Native.Nat.{_-_, _≤_}
+use native.Mathlib.Omega.{arith}
+use lib.ListN.{length, take}
+use lib.Seq.{sets, length-sets}
+use denote.Ref.{now}
+use Rattle.print.proofs.Stores.{put-next, put-all}
+use borrow.Author.Needs.{needs}
+use Rattle.print.proofs.put_bytes.Statement.{statement}
+use Rattle.print.proofs.put_bytes.Tie as tie
+
+abbrev Inv-loop : tie.InvT-loop
+Inv-loop s out₀ at i₀ out i = (i ≤ length s) × (out ≡ sets out₀ at (take i s))
+
+abbrev μ-loop : tie.MeasureT-loop
+μ-loop s out₀ at i₀ out i = length s - i
+
+loop-holds : tie.Need-loop-holds Inv-loop μ-loop
+loop-holds c = search needs
+
+shared-slice-read-out : tie.Need-shared-slice-read-out Inv-loop μ-loop
+shared-slice-read-out c = search needs
+
+add-out : tie.Need-add-out Inv-loop μ-loop
+add-out c = search needs
+
+slice-write-out : tie.Need-slice-write-out Inv-loop μ-loop
+slice-write-out c =
+    omega (arith, simp length-sets at (ap length (c .before .before .loop .inv .1)))
+
+add-i : tie.Need-add-i Inv-loop μ-loop
+add-i c = search needs
+
+loop-less : tie.Need-loop-less Inv-loop μ-loop
+loop-less c = search needs
+
+loop-again : tie.Need-loop-again Inv-loop μ-loop
+loop-again c =
+    let l = c .before .before .loop in
+    let a = c .before .before .before .args in
+    (omega arith, put-next (now (a .out)) (l .out) (now (a .s)) (a .at) (l .i) (c .before .loop-test .taken) (l .inv .1))
+
+same-length : tie.Need-same-length Inv-loop μ-loop
+same-length c = ap length (c .before .loop .inv .1) ∙ simp length-sets
+
+returns : tie.Need-returns Inv-loop μ-loop
+returns c =
+    let l = c .before .loop in
+    let a = c .before .before .args in
+    put-all (now (a .out)) (l .out) (now (a .s)) (a .at) (l .i) (omega arith) (l .inv .1)
+
+pub put-bytes-spec : {M : Type 1} → statement M
+put-bytes-spec =
+    tie.close
+    (tie.spec
+    Inv-loop
+    μ-loop
+    loop-holds
+    shared-slice-read-out
+    add-out
+    slice-write-out
+    add-i
+    loop-less
+    loop-again
+    same-length
+    returns)

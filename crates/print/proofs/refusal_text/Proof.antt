@@ -1,0 +1,58 @@
+use Prim.Native.Nat.{_+_}
+use native.Mathlib.Omega.{arith}
+use borrow.Author.Tests.{lt-leb, le-leb}
+use lib.ListN.{length}
+use denote.Ref.{now}
+use Rattle.print.specs.Text.{refusal-line}
+use Rattle.print.proofs.Lines.{length-refusal-line}
+use Rattle.print.proofs.Whole.{too-long, fits}
+use borrow.Author.Needs.{needs}
+use Rattle.print.proofs.refusal_text.Statement.{statement}
+use Rattle.print.proofs.refusal_text.Tie as tie
+
+decimal-length-requires : tie.Need-decimal-length-requires
+decimal-length-requires c κs = search needs
+
+decimal-length-requires-2 : tie.Need-decimal-length-requires-2
+decimal-length-requires-2 c κs = search needs
+
+add-k : tie.Need-add-k
+add-k c = search needs
+
+add-k-2 : tie.Need-add-k-2
+add-k-2 c = search needs
+
+returns : tie.Need-returns
+returns c =
+    let a = c .before .before .before .before .args in
+    let t = refusal-line (a .number) (a .line) in
+    let h = length-refusal-line (a .number) (a .line) in
+    too-long t 0 (now (a .out)) (lt-leb (0 + length t) (length (now (a .out))) (omega arith))
+
+put-refusal-line-requires : tie.Need-put-refusal-line-requires
+put-refusal-line-requires c κs =
+    let a = c .before .before .before .before .before .args in
+    omega (arith, length-refusal-line (a .number) (a .line))
+
+same-length : tie.Need-same-length
+same-length c = search needs
+
+returns-2 : tie.Need-returns-2
+returns-2 c =
+    let a = c .before .before .before .before .before .before .before .before .args in
+    let t = refusal-line (a .number) (a .line) in
+    let h = length-refusal-line (a .number) (a .line) in
+    fits t 0 (now (a .out)) _ _ (le-leb (0 + length t) (length (now (a .out))) (omega arith)) (omega arith) (c .before .before .put-refusal-line .ensures)
+
+pub refusal-text-spec : {M : Type 1} → statement M
+refusal-text-spec =
+    tie.close
+    (tie.spec
+    decimal-length-requires
+    decimal-length-requires-2
+    add-k
+    add-k-2
+    returns
+    put-refusal-line-requires
+    same-length
+    returns-2)

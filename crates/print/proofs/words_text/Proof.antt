@@ -1,0 +1,36 @@
+use mathlib.Core.Path.{sym, _∙_}
+use mathlib.Core.Bool.{true, false}
+use borrow.Author.Tests.{leb-true, not-true, not-false}
+use denote.Ref.{now}
+use Rattle.print.proofs.Lines.{rest-of}
+use Rattle.print.proofs.Whole.{too-long, fits, from-none}
+use borrow.Author.Needs.{needs}
+use Rattle.print.proofs.words_text.Statement.{statement}
+use Rattle.print.proofs.words_text.Tie as tie
+
+words-fit-requires : tie.Need-words-fit-requires
+words-fit-requires c κs = search needs
+
+returns : tie.Need-returns
+returns c =
+    let a = c .before .before .before .before .args in
+    let t = rest-of (now (a .code)) 0 in
+    too-long t 0 (now (a .out)) (from-none t (now (a .out)) _ false (c .before .words-fit .ensures) (not-true _ (c .if1 .taken)))
+
+put-words-requires : tie.Need-put-words-requires
+put-words-requires c κs =
+    leb-true _ _ (sym (c .before .before .words-fit .ensures) ∙ not-false _ (c .before .if1 .left))
+
+same-length : tie.Need-same-length
+same-length c = search needs
+
+returns-2 : tie.Need-returns-2
+returns-2 c =
+    let a = c .before .before .before .before .before .before .before .before .args in
+    let t = rest-of (now (a .code)) 0 in
+    let p = c .before .before .put-words in
+    fits t 0 (now (a .out)) _ _ (from-none t (now (a .out)) _ true (c .before .before .before .before .before .words-fit .ensures) (not-false _ (c .before .before .before .before .if1 .left))) (p .ensures .1) (p .ensures .0)
+
+pub words-text-spec : {M : Type 1} → statement M
+words-text-spec =
+    tie.close (tie.spec words-fit-requires returns put-words-requires same-length returns-2)
