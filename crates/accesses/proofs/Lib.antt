@@ -10,3 +10,4 @@ pub mod Collect
 pub mod Numbers
 pub mod Placed
 pub mod Lengths
+pub mod Words

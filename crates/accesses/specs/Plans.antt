@@ -1,6 +1,6 @@
 -- How words are collected into a plan: what the encoder answers for each instruction, one after the other.
 use mathlib.Core.Path.{_≡_}
-use mathlib.Core.Bool.{cond}
+use mathlib.Core.Bool.{Bool, true, false, cond}
 use mathlib.Core.List.{List, [], _∷_, map}
 use Prim.Native.Nat.{ℕ}
 use Rattle.isa.specs.Instr.{Instr, operands, registers-hold, valid}
@@ -18,6 +18,14 @@ use Rattle.assembler.specs.declared.Plan.{Plan}
 -- the encoder's answer for an instruction
 abbrev pub answer-of : Instr → Encoded
 answer-of i = cond (registers-hold (operands i)) (cond (valid i) (Word (encode i)) (Refused Value 0)) (Refused Register 0)
+
+abbrev pub is-word : Encoded → Bool
+is-word (Word w) = true
+is-word (Refused r place) = false
+
+abbrev pub word-of : Encoded → ℕ
+word-of (Word w) = w
+word-of (Refused r place) = 0
 
 abbrev pub pushes-from : Plan → List Encoded → Plan
 pushes-from p [] = p

@@ -10,9 +10,11 @@ ghost use Rattle.isa.specs.Instr.{R, I, U, ADD, ADDI, LUI};
 ghost use Rattle.assembler.specs.Item.{instr};
 ghost use Rattle.assembler.specs.State.{state, outcome};
 ghost use Rattle.assembler.specs.Put.{put};
+ghost use Rattle.assembler.specs.Plan.{plan-items, plan-fault};
+ghost use Rattle.assembler.specs.declared.Tail.the-variants.{Nothing};
 ghost use Rattle.accesses.specs.Code.{li-code, point-code, load-float-code, save-float-code, load-int-code, load-complex-code, save-complex-code, sub-stack-code, add-stack-code, allocate-stack-code};
 ghost use Rattle.accesses.specs.Fault.{li-fault, access-fault, one-fault, pair-fault, stack-fault};
-ghost use Rattle.accesses.specs.Plans.{pushes, plan-of, settled-plan};
+ghost use Rattle.accesses.specs.Plans.{is-word, word-of, pushes, plan-of, settled-plan};
 use assembler::Asm;
 use assembler::Done;
 use assembler::Plan;
@@ -28,6 +30,25 @@ const STACK: u32 = 21;
 
 // ---- plans of one to five words
 
+fn is_word(e: Encoded) -> bool
+    ensures { λ r. ⌜ r ≡ is-word e ⌝ }
+{
+    match e {
+        Encoded::Word(_) => true,
+        Encoded::Refused(_, _) => false,
+    }
+}
+
+// The word, 0 where there is none.
+fn word(e: Encoded) -> u32
+    ensures { λ r. ⌜ r ≡ word-of e ⌝ }
+{
+    match e {
+        Encoded::Word(w) => w,
+        Encoded::Refused(_, _) => 0,
+    }
+}
+
 pub fn one(a: Encoded) -> Plan
     ensures { λ r. ⌜ r ≡ pushes (a ∷ []) ⌝ }
 {
@@ -37,25 +58,91 @@ pub fn one(a: Encoded) -> Plan
 pub fn two(a: Encoded, b: Encoded) -> Plan
     ensures { λ r. ⌜ r ≡ pushes (a ∷ b ∷ []) ⌝ }
 {
+    if is_word(a) && is_word(b) {
+        return Plan {
+            n: 2,
+            fault: 0,
+            w: [word(a), word(b), 0, 0, 0, 0, 0, 0, 0, 0, 0, 0],
+        };
+    }
     assembler::push(one(a), b)
 }
 
 pub fn three(a: Encoded, b: Encoded, c: Encoded) -> Plan
     ensures { λ r. ⌜ r ≡ pushes (a ∷ b ∷ c ∷ []) ⌝ }
 {
+    if is_word(a) && is_word(b) && is_word(c) {
+        return Plan {
+            n: 3,
+            fault: 0,
+            w: [word(a), word(b), word(c), 0, 0, 0, 0, 0, 0, 0, 0, 0],
+        };
+    }
     assembler::push(two(a, b), c)
 }
 
 pub fn four(a: Encoded, b: Encoded, c: Encoded, d: Encoded) -> Plan
     ensures { λ r. ⌜ r ≡ pushes (a ∷ b ∷ c ∷ d ∷ []) ⌝ }
 {
+    if is_word(a) && is_word(b) && is_word(c) && is_word(d) {
+        return Plan {
+            n: 4,
+            fault: 0,
+            w: [word(a), word(b), word(c), word(d), 0, 0, 0, 0, 0, 0, 0, 0],
+        };
+    }
     assembler::push(three(a, b, c), d)
 }
 
 pub fn five(a: Encoded, b: Encoded, c: Encoded, d: Encoded, e: Encoded) -> Plan
     ensures { λ r. ⌜ r ≡ pushes (a ∷ b ∷ c ∷ d ∷ e ∷ []) ⌝ }
 {
+    if is_word(a) && is_word(b) && is_word(c) && is_word(d) && is_word(e) {
+        return Plan {
+            n: 5,
+            fault: 0,
+            w: [
+                word(a),
+                word(b),
+                word(c),
+                word(d),
+                word(e),
+                0,
+                0,
+                0,
+                0,
+                0,
+                0,
+                0,
+            ],
+        };
+    }
     assembler::push(four(a, b, c, d), e)
+}
+
+// One instruction, placed.
+pub fn append_one(
+    a: Encoded,
+    tag: u32,
+    buf: &mut [u8],
+    labels: &mut [u64; 2039],
+    jumps: &mut [u32; 20480],
+    asm: Asm,
+) -> Done
+    ensures { λ r. ⌜ outcome r (now (labels .exit)) (now (jumps .exit)) (now (buf .exit)) ≡ put tag (plan-fault (pushes (a ∷ [])) Nothing) (plan-items (pushes (a ∷ [])) Nothing) (state asm (now (labels .entry)) (now (jumps .entry)) (now (buf .entry))) ⌝ }
+{
+    match a {
+        Encoded::Word(w) => assembler::append_word(w, buf, labels, jumps, asm),
+        Encoded::Refused(_, _) => assembler::place(
+            one(a),
+            Tail::Nothing,
+            tag,
+            buf,
+            labels,
+            jumps,
+            asm,
+        ),
+    }
 }
 
 // ---- li

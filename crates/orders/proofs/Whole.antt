@@ -138,7 +138,7 @@ instrs (Save s p i) = save-float-code s (base p) (8 * i)
 instrs (BranchIf c l e) = M FMV-X-D 5 c ∷ B (skip e) 5 0 (pos 12) ∷ []
 instrs (SetLabel l) = []
 
-instrs-right : (o : Order) → instrs o ≡ instrs-of (code o)
+pub instrs-right : (o : Order) → instrs o ≡ instrs-of (code o)
 unfolding code instrs-of
 instrs-right (Unary k d s) = sym (instrs-alone (unary-code k d s))
 instrs-right (Scratched k d s t) = sym (instrs-alone (scratched-code k d s t))
