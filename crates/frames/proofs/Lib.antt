@@ -22,3 +22,9 @@ pub mod Valid
 pub mod Digits
 pub mod Tests
 pub mod Pushes
+pub mod Asked
+pub mod Parts
+pub mod Ones
+pub mod Sizes
+pub mod Counts
+pub mod Wholes

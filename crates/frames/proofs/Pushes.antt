@@ -1,7 +1,7 @@
 -- Instructions of preserved registers, pushed as a mask is walked, and placed. Assumes nothing.
-use mathlib.Core.Path.{_≡_, refl, ap, sym, _∙_}
+use mathlib.Core.Path.{_≡_, refl, _∙_}
 use mathlib.Core.Bool.{Bool, true, false, cond}
-use mathlib.Core.List.{List, [], _∷_, _++_, map, append-nil, List·Memᴰ, List·Memᴰ·head, List·Memᴰ·tail}
+use mathlib.Core.List.{List, [], _∷_, map, append-nil, List·Memᴰ, List·Memᴰ·head, List·Memᴰ·tail}
 use Prim.Native.Nat.{ℕ, _≤_}
 use native.Mathlib.Omega.{arith}
 use lib.Dec.{T}
@@ -16,8 +16,8 @@ use Rattle.assembler.specs.declared.Plan.{Plan}
 use Rattle.assembler.proofs.Plans.{stands-put}
 use Rattle.accesses.specs.Plans.{answer-of, pushes-from, plan-of, Built}
 use Rattle.accesses.proofs.Collect.{AllValid, built}
-use Rattle.frames.specs.Mask.{preserved, in-mask, chosen, saved, save-cell, is-preserved}
-use Rattle.frames.specs.Items.{code, save, saves}
+use Rattle.frames.specs.Mask.{preserved, in-mask, chosen, saved, is-preserved}
+use Rattle.frames.specs.Items.{save, reload, saves}
 use Rattle.frames.proofs.Rows.{proper, saved-proper, proper-fits}
 
 -- q with an instruction for each preserved register of the list
@@ -49,6 +49,13 @@ saved-few mask = few (in-mask mask) preserved
 saves-valid : (rs : List ℕ) → ((r : ℕ) → List·Memᴰ r rs → T (proper r)) → AllValid (map save rs)
 saves-valid [] g = tt
 saves-valid (r ∷ rs) g = (omega (arith, proper-fits r (g r (List·Memᴰ·head refl))), saves-valid rs (λ q m. g q (List·Memᴰ·tail m)))
+
+pub reload-list-valid : (mask : ℕ) → AllValid (map reload (saved mask))
+reload-list-valid mask = go (saved mask) (saved-proper mask)
+  where
+    go : (rs : List ℕ) → ((r : ℕ) → List·Memᴰ r rs → T (proper r)) → AllValid (map reload rs)
+    go [] g = tt
+    go (r ∷ rs) g = (omega (arith, proper-fits r (g r (List·Memᴰ·head refl))), go rs (λ q m. g q (List·Memᴰ·tail m)))
 
 pub saves-put : (mask : ℕ) (p : Plan) (s : State) → p ≡ plan-of (map save (saved mask)) → put 0 (plan-fault p Nothing) (plan-items p Nothing) s ≡ put 0 0 (saves mask) s
 unfolding saves

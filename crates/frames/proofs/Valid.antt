@@ -1,14 +1,14 @@
 -- Every instruction of an accepted frame is valid, jumps resolved by the places of their labels. Assumes nothing.
-use mathlib.Core.Path.{_≡_, refl, ap, sym, subst, _∙_}
+use mathlib.Core.Path.{_≡_, refl, ap, _∙_}
 use mathlib.Core.Bool.{Bool, true, false, _&&_, cond}
 use mathlib.Core.List.{List, [], _∷_, _++_, map, List·Memᴰ, List·Memᴰ·head, List·Memᴰ·tail}
-use Prim.Native.Nat.{ℕ, zero, suc, _+_, _*_, _^_, _≤_, _<_}
+use Prim.Native.Nat.{ℕ, zero, suc, _+_, _*_, _≤_, _<_}
 use native.Mathlib.Omega.{arith}
 use borrow.Author.Tests.{lt-ltb}
-use lib.Dec.{T, eqb, ltb, leb, leb→le, ltb→lt, le→leb}
+use lib.Dec.{T, eqb, leb, leb→le}
 use lib.IntN.{pos, negsuc, subℕ}
 use lib.ListN.{length, length-append}
-use Rattle.isa.specs.Instr.{Instr, Valid, R, I, S, Shift, ADD, XOR, ADDI, JALR, LD, FLD, SLLI, SD, FSD}
+use Rattle.isa.specs.Instr.{Instr, Valid, R, I, Shift, ADD, XOR, JALR, SLLI}
 use Rattle.machine.proofs.Placed.{Valids}
 use Rattle.machine.proofs.Effects.{and-l, and-r}
 use Rattle.order.specs.declared.Frame.{Frame}
@@ -23,8 +23,9 @@ use Rattle.accesses.proofs.Then.{valids-join}
 use Rattle.accesses.proofs.LoadImmediate.{li-valid}
 use Rattle.accesses.proofs.Stack.{sub-stack-valid, add-stack-valid, allocate-stack-valid}
 use Rattle.frames.specs.Size.{cells, frame-size, stack-size}
-use Rattle.frames.specs.Mask.{saved, save-cell}
+use Rattle.frames.specs.Mask.{saved}
 use Rattle.frames.specs.Items.{code, mv, kept, opening, closing, loads-from, states-from, state-copy, obs-copy, times-over, count-down, repeated, at-main, at-pro, at-epi, at-done, by-frame, prologue-fast, prologue-indirect, epilogue-fast, epilogue-indirect, prologue, epilogue, save, reload, saves, reloads}
+use Rattle.frames.specs.Whole.{copy-first, copy-each}
 use Rattle.frames.specs.Fault.{counts-hold, result-limit, result-holds, prologue-holds, epilogue-holds}
 use Rattle.frames.proofs.Walk.{Stands, stands-code, stands-left, stands-right}
 use Rattle.frames.proofs.Rows.{proper, saved-proper, proper-fits}
@@ -63,14 +64,14 @@ module _ (at : ℕ → ℕ) where
 
 -- ---- pieces
 
-opening-valid : (F : Frame) → Valids (opening F)
+pub opening-valid : (F : Frame) → Valids (opening F)
 opening-valid Fast = valids-join (sub-stack-code 32) _ (sub-stack-valid 32) (omega arith)
 opening-valid Indirect = valids-join (sub-stack-code 64) _ (sub-stack-valid 64) (omega arith)
 
 restoring-valid : Valids (R XOR 10 10 10 ∷ I JALR 0 1 (pos 0) ∷ [])
 restoring-valid = omega arith
 
-closing-valid : (F : Frame) → Valids (closing F)
+pub closing-valid : (F : Frame) → Valids (closing F)
 closing-valid Fast =
     valids-join (mv 2 8 ∷ loads-from 0 (kept Fast)) (add-stack-code 32 ++ (R XOR 10 10 10 ∷ I JALR 0 1 (pos 0) ∷ [])) (omega arith)
     (valids-join (add-stack-code 32) (R XOR 10 10 10 ∷ I JALR 0 1 (pos 0) ∷ []) (add-stack-valid 32) restoring-valid)
@@ -78,9 +79,17 @@ closing-valid Indirect =
     valids-join (mv 2 8 ∷ loads-from 0 (kept Indirect)) (add-stack-code 64 ++ (R XOR 10 10 10 ∷ I JALR 0 1 (pos 0) ∷ [])) (omega arith)
     (valids-join (add-stack-code 64) (R XOR 10 10 10 ∷ I JALR 0 1 (pos 0) ∷ []) (add-stack-valid 64) restoring-valid)
 
-states-valid : (i k : ℕ) → i + k ≤ 8 → Valids (states-from i k)
+pub states-valid : (i k : ℕ) → i + k ≤ 8 → Valids (states-from i k)
 states-valid i zero h = tt
 states-valid i (suc k) h = (omega arith, states-valid (suc i) k (omega arith))
+
+pub first-valid : (out : Bool) (m : ℕ) → Valids (copy-first out m)
+first-valid true m = valids-join (li-code 6 (pos (8 * m))) (R ADD 6 6 9 ∷ []) (li-valid 6 (pos (8 * m)) (omega arith)) (omega arith)
+first-valid false m = omega arith
+
+pub each-valid : (out : Bool) → Valids (copy-each out)
+each-valid true = omega arith
+each-valid false = omega arith
 
 over-valid : (n : ℕ) (each : List Instr) → Valids each → Valids (times-over n each)
 over-valid zero each v = tt

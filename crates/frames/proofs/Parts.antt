@@ -1,0 +1,157 @@
+-- A part placed piece by piece is the part placed whole, where the whole was asked for first. Assumes nothing.
+use mathlib.Core.Path.{_≡_, refl, sym, ap, subst, _∙_}
+use mathlib.Core.Bool.{true, false}
+use mathlib.Core.List.{List, [], _∷_, _++_, append-nil, append-assoc, map-append}
+use Prim.Native.Nat.{ℕ, zero, suc, _+_, _-_, _≤_, _<_}
+use native.Mathlib.Omega.{arith}
+use borrow.Author.Tests.{lt-ltb, le-leb}
+use lib.ListN.{length}
+use Rattle.isa.specs.Instr.{Instr}
+use Rattle.isa.specs.Encode.{encode}
+use Rattle.refusal.specs.Answer.{accepted}
+use Rattle.assembler.specs.Item.{Item, instr, raw, jump, label}
+use Rattle.assembler.specs.State.{State, Outcome}
+use Rattle.assembler.specs.Put.{words, jumps, labels, twice, place, placed, with-word, with-label, verdict, put-number, settled, put}
+use Rattle.assembler.specs.Plan.{label-fault, plan-fault, plan-items, tail-items, tail-fault}
+use Rattle.assembler.specs.declared.Plan.{Plan}
+use Rattle.assembler.specs.declared.Tail.{Tail}
+use Rattle.assembler.specs.declared.Tail.the-variants.{Nothing, One}
+use Rattle.assembler.specs.declared.Kind.{Kind}
+use Rattle.assembler.proofs.Tests.{no}
+use Rattle.assembler.proofs.Plans.{put-fault, stands-put}
+use Rattle.accesses.specs.Fault.{stack-fault}
+use Rattle.accesses.specs.Plans.{plan-of, Built}
+use Rattle.accesses.proofs.Collect.{AllValid, built}
+use Rattle.laid.proofs.All.{accepts}
+use Rattle.laid.proofs.Both.{Accepts, put-split}
+use Rattle.frames.specs.Items.{code, times-over}
+use Rattle.frames.specs.Whole.{is-accepted}
+
+-- ---- code alone
+
+pub words-code : (is : List Instr) → length (words (code is)) ≡ length is
+unfolding words
+words-code [] = refl
+words-code (i ∷ is) = ap suc (words-code is)
+
+pub jumps-code : (is : List Instr) → jumps (code is) ≡ 0
+unfolding jumps
+jumps-code [] = refl
+jumps-code (i ∷ is) = jumps-code is
+
+pub labels-code : (is : List Instr) → labels (code is) ≡ []
+unfolding labels
+labels-code [] = refl
+labels-code (i ∷ is) = labels-code is
+
+-- items without a jump have no use for the tag
+module _ (t u : ℕ) where
+  placed-untagged : (is : List Item) (s : State) → jumps is ≡ 0 → placed t is s ≡ placed u is s
+  unfolding jumps placed place
+  placed-untagged [] s h = refl
+  placed-untagged (instr i ∷ is) s h = placed-untagged is (with-word (encode i) s) h
+  placed-untagged (raw w ∷ is) s h = placed-untagged is (with-word w s) h
+  placed-untagged (jump k l r ∷ is) s h = absurd (omega arith)
+  placed-untagged (label l ∷ is) s h = placed-untagged is (with-label l s) h
+
+  pub untagged : (f : ℕ) (is : List Item) (s : State) → jumps is ≡ 0 → put t f is s ≡ put u f is s
+  unfolding put
+  untagged f is s h = ap (settled (put-number f is s) s) (placed-untagged is s h)
+
+-- ---- plans
+
+module _ (p : Plan) (is : List Instr) (e : p ≡ plan-of is) (few : length is ≤ 12) (v : AllValid is) (tag : ℕ) (s : State) where
+  pub plan-tail : (t : Tail) → tail-fault t ≡ 0 → put tag (plan-fault p t) (plan-items p t) s ≡ put tag 0 (code is ++ tail-items t) s
+  plan-tail t z =
+      let b : Built (plan-of is) is = built is few v in
+      stands-put p 0 is t tag s (rw e (b .fault)) (omega arith) (λ q. rw e (b .words)) ∙ rw z
+
+  pub plan-code : put tag (plan-fault p Nothing) (plan-items p Nothing) s ≡ put tag 0 (code is) s
+  plan-code = plan-tail Nothing refl ∙ rw (append-nil (code is))
+
+-- ---- labels
+
+label-holds : (l : ℕ) → l < 2039 → label-fault l ≡ 0
+label-holds l h = rw (lt-ltb l 2039 h)
+
+module _ (tag l m : ℕ) (e : l ≡ m) (h : l < 2039) (s : State) where
+  pub label-set : put 0 (label-fault l) (label l ∷ []) s ≡ put tag 0 (label m ∷ []) s
+  unfolding jumps
+  label-set = rw (label-holds l h, e) (untagged 0 tag 0 (label m ∷ []) s refl)
+
+  -- a plan and a jump to the label
+  pub plan-jump : (k : Kind) (p : Plan) (is : List Instr) → p ≡ plan-of is → length is ≤ 12 → AllValid is → put tag (plan-fault p (One k l 0)) (plan-items p (One k l 0)) s ≡ put tag 0 (code is ++ (jump k m 0 ∷ [])) s
+  plan-jump k p is q few v = plan-tail p is q few v tag s (One k l 0) (label-holds l h) ∙ rw e
+
+-- ---- faults and sizes
+
+pub faulted : (tag f : ℕ) (is : List Item) (s : State) (o : Outcome) → (f ≡ 0 → ⊥) → o ≡ settled (verdict f false 0 0 (length (s .buf)) (s .asm)) s s → o ≡ put tag f is s
+unfolding put words jumps labels twice placed
+faulted tag f is s o h e = e ∙ put-fault 0 tag f [] is s h
+
+-- a stack size that is taken
+pub size-put : (tag : ℕ) (is : ℕ → List Instr) (n m : ℕ) (s : State) → n ≡ m → n ≤ 32784 → put 0 (stack-fault n) (code (is n)) s ≡ put tag 0 (code (is m)) s
+size-put tag is n m s e h = rw (le-leb n 0x7FFFF7FF (omega arith), e) (untagged 0 tag 0 (code (is m)) s (jumps-code (is m)))
+
+-- ---- asked, then placed
+
+settled-as-it-was : (k : ℕ) (s t : State) (o : Outcome) → o ≡ settled k s s → is-accepted (o .answer) ≡ false → o ≡ settled k s t
+unfolding settled
+settled-as-it-was zero s t o e q = no (sym q ∙ ap (λ (x : Outcome). is-accepted (x .answer)) e)
+settled-as-it-was (suc k) s t o e q = e
+
+settled-zero : (k : ℕ) (s : State) (o : Outcome) → o ≡ settled k s s → is-accepted (o .answer) ≡ true → (k ≡ 0) × (o .state ≡ s)
+unfolding settled
+settled-zero zero s o e q = (refl, ap (λ (x : Outcome). x .state) e)
+settled-zero (suc k) s o e q = no (sym (ap (λ (x : Outcome). is-accepted (x .answer)) e) ∙ q)
+
+module _ (tag : ℕ) (is : List Item) (s : State) (o : Outcome) where
+  -- refused as the whole is
+  pub refuses : (f k : ℕ) → k ≡ put-number f is s → o ≡ settled k s s → is-accepted (o .answer) ≡ false → o ≡ put tag f is s
+  unfolding put
+  refuses f k e g q = settled-as-it-was k s (placed tag is s) o g q ∙ ap (λ (n : ℕ). settled n s (placed tag is s)) e
+
+  -- or else accepted, and nothing has changed
+  pub record Open : Type 0 where
+    pub goal : Accepts tag is s (placed tag is s)
+    pub left : Accepts tag is (o .state) (placed tag is s)
+
+  pub opens : (k : ℕ) → k ≡ put-number 0 is s → o ≡ settled k s s → is-accepted (o .answer) ≡ true → Open
+  unfolding put settled
+  opens k e g q =
+      let z = settled-zero k s o g q in
+      let n : put-number 0 is s ≡ 0 = sym e ∙ z .0 in
+      let a : Accepts tag is s (placed tag is s) = ap (λ (m : ℕ). settled m s (placed tag is s)) n in
+      record { goal = a; left = subst (λ (x : State). Accepts tag is x (placed tag is s)) (sym (z .1)) a }
+
+module _ (tag : ℕ) where
+  -- a piece placed, and the rest is left
+  pub piece : (is js : List Item) (s u : State) (o : Outcome) → Accepts tag (is ++ js) s u → o ≡ put tag 0 is s → Accepts tag js (o .state) u
+  piece is js s u o a e = let p = put-split tag is js s u a in subst (λ (x : Outcome). Accepts tag js (x .state) u) (sym (e ∙ p .0)) (p .1)
+
+  -- the last piece
+  pub closes : (is js : List Item) (s t : State) (o p : Outcome) → Open tag is s o → Accepts tag js t (placed tag is s) → p ≡ put tag 0 js t → p ≡ put tag 0 is s
+  closes is js s t o p a b e = e ∙ b ∙ sym (a .goal)
+
+  -- nothing is left
+  pub closed : (is js : List Item) (s t : State) (o : Outcome) → Open tag is s o → js ≡ [] → Accepts tag js t (placed tag is s) → _≡_ {A = Outcome} (record { answer = accepted tt; state = t }) (put tag 0 is s)
+  unfolding placed
+  closed is js s t o a z b =
+      let e : placed tag is s ≡ t = accepts tag 0 [] t (placed tag is s) (subst (λ (x : List Item). Accepts tag x t (placed tag is s)) z b) .1 in
+      ap (λ (x : State). record { answer = accepted tt; state = x }) (sym e) ∙ sym (a .goal)
+
+  -- a piece of code placed
+  module _ (is js : List Instr) (s u : State) (o : Outcome) (e : o ≡ put tag 0 (code is) s) where
+    pub code-piece : Accepts tag (code (is ++ js)) s u → Accepts tag (code js) (o .state) u
+    code-piece a = piece (code is) (code js) s u o (subst (λ (x : List Item). Accepts tag x s u) (map-append instr is js) a) e
+
+    pub front-piece : (rest : List Item) → Accepts tag (code (is ++ js) ++ rest) s u → Accepts tag (code js ++ rest) (o .state) u
+    front-piece rest a =
+        let q : code (is ++ js) ++ rest ≡ code is ++ (code js ++ rest) = ap (λ (x : List Item). x ++ rest) (map-append instr is js) ∙ append-assoc (code is) (code js) rest in
+        piece (code is) (code js ++ rest) s u o (subst (λ (x : List Item). Accepts tag x s u) q a) e
+
+  -- one of n in a row
+  pub row-piece : (each : List Instr) (n i : ℕ) (s u : State) (o : Outcome) → i < n → o ≡ put tag 0 (code each) s → Accepts tag (code (times-over (n - i) each)) s u → Accepts tag (code (times-over (n - (i + 1)) each)) (o .state) u
+  row-piece each n i s u o h e a =
+      let k : n - i ≡ suc (n - (i + 1)) = omega arith in
+      code-piece each (times-over (n - (i + 1)) each) s u o e (subst (λ (x : ℕ). Accepts tag (code (times-over x each)) s u) k a)

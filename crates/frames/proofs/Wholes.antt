@@ -1,0 +1,197 @@
+-- How many words, jumps and labels the whole frames have, and how they are parted. Assumes nothing.
+use mathlib.Core.Path.{_≡_, refl, sym, ap, subst, _∙_}
+use mathlib.Core.Bool.{Bool, true, false, _||_, _&&_, cond, or-false}
+use mathlib.Core.List.{List, [], _∷_, _++_, append-assoc}
+use Prim.Native.Nat.{ℕ, zero, suc, _+_, _*_, _≤_}
+use native.Mathlib.Omega.{arith}
+use lib.Dec.{ltb}
+use lib.IntN.{pos}
+use lib.ListN.{length, length-append, getD}
+use Rattle.isa.specs.Instr.{Instr, I, Shift, FLD, SLLI}
+use Rattle.order.specs.declared.Frame.{Frame}
+use Rattle.order.specs.declared.Frame.the-variants.{Fast, Indirect}
+use Rattle.order.specs.declared.Head.{Head}
+use Rattle.assembler.specs.Item.{Item, jump, label}
+use Rattle.assembler.specs.Label.{is-set}
+use Rattle.assembler.specs.State.{State}
+use Rattle.assembler.specs.Put.{words, jumps, labels, among, twice, verdict, put-number, put}
+use Rattle.assembler.specs.declared.Kind.the-variants.{Beq}
+use Rattle.assembler.proofs.Items.{words-append, jumps-append, labels-append}
+use Rattle.accesses.specs.Code.{sub-stack-code, add-stack-code, allocate-stack-code}
+use Rattle.laid.proofs.Both.{Accepts}
+use Rattle.frames.specs.Size.{frame-size, stack-size}
+use Rattle.frames.specs.Items.{code, mv, opening, closing, states-from, prologue-fast, prologue-indirect, epilogue-fast, epilogue-indirect, prologue, epilogue, at-main, at-done}
+use Rattle.frames.specs.Fault.{prologue-fault, epilogue-fault}
+use Rattle.frames.specs.Whole.{copies, entry}
+use Rattle.frames.proofs.Parts.{words-code, jumps-code, labels-code, untagged}
+use Rattle.frames.proofs.Sizes.{code-number, copies-jumps, copies-labels}
+
+pub opening-few : (F : Frame) → length (opening F) ≤ 12
+unfolding sub-stack-code
+opening-few Fast = omega arith
+opening-few Indirect = omega arith
+
+pub closing-few : (F : Frame) → length (closing F) ≤ 11
+unfolding add-stack-code
+closing-few Fast = omega arith
+closing-few Indirect = omega arith
+
+-- ---- the fast frame
+
+states-length : (i n : ℕ) → length (states-from i n) ≡ n
+states-length i zero = refl
+states-length i (suc n) = ap suc (states-length (suc i) n)
+
+pub states-few : (n : ℕ) → n ≤ 8 → length (mv 21 2 ∷ states-from 0 n) ≤ 12
+states-few n h = omega (arith, states-length 0 n)
+
+start-length : (is js : List Instr) (n : ℕ) → length (opening Fast ++ (is ++ (mv 9 2 ∷ (js ++ (mv 21 2 ∷ states-from 0 n))))) ≡ length is + length js + 8 + n
+unfolding sub-stack-code
+start-length is js n =
+    omega (arith, length-append is (mv 9 2 ∷ (js ++ (mv 21 2 ∷ states-from 0 n))), length-append js (mv 21 2 ∷ states-from 0 n), states-length 0 n)
+
+abbrev start-list : Head → List Instr
+start-list H = opening Fast ++ (sub-stack-code (frame-size H) ++ (mv 9 2 ∷ (sub-stack-code (stack-size H) ++ (mv 21 2 ∷ states-from 0 (H .states)))))
+
+pub fast-number : (H : Head) (x y : ℕ) (s : State) → x ≡ length (sub-stack-code (frame-size H)) → y ≡ length (sub-stack-code (stack-size H))
+    → verdict 0 false (x + y + 8 + H .states) 0 (length (s .buf)) (s .asm) ≡ put-number 0 (prologue-fast H) s
+fast-number H x y s e f =
+    code-number (start-list H) (x + y + 8 + H .states) s
+    (rw (e, f) (sym (start-length (sub-stack-code (frame-size H)) (sub-stack-code (stack-size H)) (H .states))))
+
+-- ---- the indirect frame
+
+abbrev pub arguments : List Instr
+arguments = mv 9 10 ∷ mv 18 11 ∷ mv 19 12 ∷ mv 20 13 ∷ []
+
+pub entry-number : (t : Bool) (s : State) → t ≡ is-set (getD (s .labels) 2032 0) → verdict 0 t 14 1 (length (s .buf)) (s .asm) ≡ put-number 0 entry s
+unfolding entry sub-stack-code words jumps labels twice among
+entry-number t s e = rw (or-false, e)
+
+entry-words : length (words entry) ≡ 14
+unfolding entry sub-stack-code words
+entry-words = refl
+
+entry-jumps : jumps entry ≡ 1
+unfolding entry sub-stack-code jumps
+entry-jumps = refl
+
+entry-labels : labels entry ≡ 2032 ∷ []
+unfolding entry sub-stack-code labels
+entry-labels = refl
+
+-- items, a label and code
+module _ (is : List Item) (l : ℕ) (js : List Instr) where
+  then-words : length (words (is ++ (label l ∷ code js))) ≡ length (words is) + length js
+  unfolding words
+  then-words = ap length (words-append is (label l ∷ code js)) ∙ length-append (words is) (words (code js)) ∙ ap (λ (k : ℕ). length (words is) + k) (words-code js)
+
+  then-jumps : jumps (is ++ (label l ∷ code js)) ≡ jumps is
+  unfolding jumps
+  then-jumps = jumps-append is (label l ∷ code js) ∙ omega (arith, jumps-code js)
+
+  then-labels : labels (is ++ (label l ∷ code js)) ≡ labels is ++ (l ∷ [])
+  unfolding labels
+  then-labels = labels-append is (label l ∷ code js) ∙ ap (λ (ks : List ℕ). labels is ++ (l ∷ ks)) (labels-code js)
+
+abbrev pub down : Head → List Instr
+down H = sub-stack-code (frame-size H) ++ (mv 9 2 ∷ Shift SLLI 19 19 (pos 3) ∷ [])
+
+abbrev pub up : Head → List Item
+up H = copies false (H .states) (H .states) ++ (label at-main ∷ code (allocate-stack-code (stack-size H)))
+
+start-parts : (H : Head) → prologue-indirect H ≡ entry ++ (code (down H) ++ up H)
+unfolding entry
+start-parts H = ap (λ (is : List Item). label 2032 ∷ is) (sym (append-assoc (code (opening Indirect ++ arguments)) (jump Beq at-main 0 ∷ []) (code (down H) ++ up H)))
+
+pub start-left : (H : Head) (tag : ℕ) (t u : State) → Accepts tag (prologue-indirect H) t u → Accepts tag (entry ++ (code (down H) ++ up H)) t u
+start-left H tag t u a = subst (λ (is : List Item). Accepts tag is t u) (start-parts H) a
+
+module _ (m : List ℕ) (b : Bool) where
+  pub end-twice : twice m (cond b (2035 ∷ []) [] ++ (2036 ∷ [])) ≡ (b && is-set (getD m 2035 0)) || is-set (getD m 2036 0)
+  unfolding twice among
+  end-twice = by b
+    where
+      by : (x : Bool) → twice m (cond x (2035 ∷ []) [] ++ (2036 ∷ [])) ≡ (x && is-set (getD m 2035 0)) || is-set (getD m 2036 0)
+      by true = rw or-false
+      by false = rw or-false
+
+  pub start-twice : twice m (2032 ∷ (cond b (2034 ∷ []) [] ++ (2033 ∷ []))) ≡ is-set (getD m 2032 0) || ((b && is-set (getD m 2034 0)) || is-set (getD m 2033 0))
+  unfolding twice among
+  start-twice = by b
+    where
+      by : (x : Bool) → twice m (2032 ∷ (cond x (2034 ∷ []) [] ++ (2033 ∷ []))) ≡ is-set (getD m 2032 0) || ((x && is-set (getD m 2034 0)) || is-set (getD m 2033 0))
+      by true = rw or-false
+      by false = rw or-false
+
+module _ (H : Head) (s : State) where
+  abbrev n : ℕ
+  n = H .states
+
+  abbrev ls : List ℕ
+  ls = s .labels
+
+  start-words : length (words (prologue-indirect H)) ≡ 16 + length (sub-stack-code (frame-size H)) + length (words (copies false n n)) + length (allocate-stack-code (stack-size H))
+  start-words =
+      ap (λ (is : List Item). length (words is)) (start-parts H)
+      ∙ ap length (words-append entry (code (down H) ++ up H) ∙ ap (λ (ws : List ℕ). words entry ++ ws) (words-append (code (down H)) (up H)))
+      ∙ length-append (words entry) (words (code (down H)) ++ words (up H))
+      ∙ omega (arith, entry-words, length-append (words (code (down H))) (words (up H)), words-code (down H), length-append (sub-stack-code (frame-size H)) (mv 9 2 ∷ Shift SLLI 19 19 (pos 3) ∷ []), then-words (copies false n n) at-main (allocate-stack-code (stack-size H)))
+
+  start-jumps : jumps (prologue-indirect H) ≡ 1 + cond (ltb 16 n) 1 0
+  start-jumps =
+      ap jumps (start-parts H)
+      ∙ jumps-append entry (code (down H) ++ up H)
+      ∙ omega (arith, entry-jumps, jumps-append (code (down H)) (up H), jumps-code (down H), then-jumps (copies false n n) at-main (allocate-stack-code (stack-size H)), copies-jumps false n n)
+
+  start-labels : labels (prologue-indirect H) ≡ 2032 ∷ (cond (ltb 16 n) (2034 ∷ []) [] ++ (2033 ∷ []))
+  start-labels =
+      ap labels (start-parts H)
+      ∙ labels-append entry (code (down H) ++ up H)
+      ∙ rw (entry-labels, labels-append (code (down H)) (up H), labels-code (down H), then-labels (copies false n n) at-main (allocate-stack-code (stack-size H)), copies-labels false n n)
+
+  pub start-number : (t : Bool) (w j : ℕ) → t ≡ is-set (getD ls 2032 0) || ((ltb 16 n && is-set (getD ls 2034 0)) || is-set (getD ls 2033 0))
+      → w ≡ 16 + length (sub-stack-code (frame-size H)) + length (words (copies false n n)) + length (allocate-stack-code (stack-size H)) → j ≡ 1 + cond (ltb 16 n) 1 0
+      → verdict 0 t w j (length (s .buf)) (s .asm) ≡ put-number 0 (prologue-indirect H) s
+  start-number t w j e f g = rw (start-words, start-jumps, start-labels, start-twice, e, f, g)
+
+  abbrev c : List Item
+  c = copies true n (H .obs)
+
+  end-words : length (words (epilogue-indirect H)) ≡ 12 + length (words c)
+  unfolding words add-stack-code
+  end-words = omega (arith, then-words c at-done (closing Indirect))
+
+  end-jumps : jumps (epilogue-indirect H) ≡ 1 + cond (ltb 16 (H .obs)) 1 0
+  unfolding jumps
+  end-jumps = omega (arith, then-jumps c at-done (closing Indirect), copies-jumps true n (H .obs))
+
+  end-labels : labels (epilogue-indirect H) ≡ cond (ltb 16 (H .obs)) (2035 ∷ []) [] ++ (2036 ∷ [])
+  unfolding labels
+  end-labels = then-labels c at-done (closing Indirect) ∙ rw (copies-labels true n (H .obs))
+
+  pub end-number : (t : Bool) (w j : ℕ) → t ≡ (ltb 16 (H .obs) && is-set (getD ls 2035 0)) || is-set (getD ls 2036 0) → w ≡ 12 + length (words c) → j ≡ 1 + cond (ltb 16 (H .obs)) 1 0
+      → verdict 0 t w j (length (s .buf)) (s .asm) ≡ put-number 0 (epilogue-indirect H) s
+  end-number t w j e f g = rw (end-words, end-jumps, end-labels, end-twice, e, f, g)
+
+-- ---- by the frame
+
+module _ (H : Head) (tag : ℕ) (s : State) where
+  abbrev framed : Frame → Head
+  framed F = record { frame = F; cap = H .cap; states = H .states; obs = H .obs; last = H .last; mask = 0 }
+
+  pub prologue-is-fast : H .frame ≡ Fast → put 0 (prologue-fault (framed Fast)) (prologue (framed Fast)) s ≡ put tag (prologue-fault H) (prologue H) s
+  unfolding prologue
+  prologue-is-fast e = rw e (untagged 0 tag _ (prologue-fast H) s (jumps-code (start-list H)))
+
+  pub prologue-is-indirect : H .frame ≡ Indirect → put tag (prologue-fault (framed Indirect)) (prologue (framed Indirect)) s ≡ put tag (prologue-fault H) (prologue H) s
+  unfolding prologue
+  prologue-is-indirect e = rw e
+
+  pub epilogue-is-fast : H .frame ≡ Fast → put 0 (epilogue-fault (framed Fast)) (epilogue (framed Fast)) s ≡ put tag (epilogue-fault H) (epilogue H) s
+  unfolding epilogue
+  epilogue-is-fast e = rw e (untagged 0 tag _ (epilogue-fast H) s (jumps-code (I FLD 10 9 (pos (8 * H .last)) ∷ closing Fast)))
+
+  pub epilogue-is-indirect : H .frame ≡ Indirect → put tag (epilogue-fault (framed Indirect)) (epilogue (framed Indirect)) s ≡ put tag (epilogue-fault H) (epilogue H) s
+  unfolding epilogue
+  epilogue-is-indirect e = rw e

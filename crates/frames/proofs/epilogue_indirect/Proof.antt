@@ -1,0 +1,58 @@
+use mathlib.Core.Path.{sym, ap, _∙_}
+use Prim.Native.Nat.{ℕ}
+use denote.Ref.{now}
+use Rattle.order.specs.declared.Head.{Head}
+use Rattle.order.specs.declared.Frame.the-variants.{Indirect}
+use Rattle.assembler.specs.Put.{put}
+use Rattle.assembler.specs.State.{state}
+use Rattle.frames.specs.Items.{epilogue}
+use Rattle.frames.proofs.Parts.{faulted}
+use Rattle.frames.proofs.Counts.{end-cells}
+use borrow.Author.Needs.{needs}
+use Rattle.frames.proofs.epilogue_indirect.Statement.{statement}
+use Rattle.frames.proofs.epilogue_indirect.Tie as tie
+
+result-fault-requires : tie.Need-result-fault-requires
+result-fault-requires c κs = search needs
+
+begin-requires : tie.Need-begin-requires
+begin-requires c κs = search needs
+
+same-length : tie.Need-same-length
+same-length c = search needs
+
+returns : tie.Need-returns
+returns c =
+    let a = c .before .before .before .before .before .before .before .before .before .args in
+    let H : Head = record { frame = Indirect; cap = a .cap; states = a .states; obs = a .obs; last = a .last; mask = 0 } in
+    let s = state (a .asm) (now (a .labels)) (now (a .jumps)) (now (a .buf)) in
+    faulted (a .tag) _ (epilogue H) s _ (c .before .before .before .before .before .before .if1 .taken) (c .before .before .begin .ensures) ∙ ap (λ (k : ℕ). put (a .tag) k (epilogue H) s) (c .before .before .before .before .before .before .before .result-fault .ensures .0)
+
+indirect-end-requires : tie.Need-indirect-end-requires
+indirect-end-requires c κs =
+    let a = c .before .before .before .before .before .before .args in
+    let H : Head = record { frame = Indirect; cap = a .cap; states = a .states; obs = a .obs; last = a .last; mask = 0 } in
+    end-cells H (sym (c .before .before .before .before .result-fault .ensures .0) ∙ c .before .before .before .if1 .left)
+
+same-length-2 : tie.Need-same-length-2
+same-length-2 c = search needs
+
+returns-2 : tie.Need-returns-2
+unfolding epilogue
+returns-2 c =
+    let a = c .before .before .before .before .before .before .before .before .before .args in
+    let H : Head = record { frame = Indirect; cap = a .cap; states = a .states; obs = a .obs; last = a .last; mask = 0 } in
+    let s = state (a .asm) (now (a .labels)) (now (a .jumps)) (now (a .buf)) in
+    c .before .before .indirect-end .ensures ∙ ap (λ (k : ℕ). put (a .tag) k (epilogue H) s) (sym (sym (c .before .before .before .before .before .before .before .result-fault .ensures .0) ∙ c .before .before .before .before .before .before .if1 .left))
+
+pub epilogue-indirect-spec : {M : Type 1} → statement M
+epilogue-indirect-spec =
+    tie.close
+    (tie.spec
+    result-fault-requires
+    begin-requires
+    same-length
+    returns
+    indirect-end-requires
+    same-length-2
+    returns-2)

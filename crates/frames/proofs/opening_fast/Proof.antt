@@ -1,0 +1,60 @@
+use mathlib.Core.Path.{refl, ap, _∙_}
+use mathlib.Core.List.{[], _∷_}
+use lib.IntN.{ℤ}
+use Rattle.isa.specs.Instr.{I, S, ADDI, SD}
+use Rattle.assembler.specs.Plan.{pushed}
+use Rattle.assembler.specs.declared.Plan.{Plan}
+use Rattle.accesses.specs.Code.{sub-stack-code}
+use Rattle.accesses.proofs.Collect.{answered, collected}
+use Rattle.accesses.proofs.Numbers.{answered-at}
+use Rattle.order.specs.declared.Frame.the-variants.{Fast}
+use Rattle.frames.specs.Items.{opening, mv}
+use borrow.Author.Needs.{needs}
+use Rattle.frames.proofs.opening_fast.Statement.{statement}
+use Rattle.frames.proofs.opening_fast.Tie as tie
+
+addi-requires : tie.Need-addi-requires
+addi-requires c κs = search needs
+
+sd-requires : tie.Need-sd-requires
+sd-requires c κs = search needs
+
+sd-requires-2 : tie.Need-sd-requires-2
+sd-requires-2 c κs = search needs
+
+sd-requires-3 : tie.Need-sd-requires-3
+sd-requires-3 c κs = search needs
+
+sd-requires-4 : tie.Need-sd-requires-4
+sd-requires-4 c κs = search needs
+
+five-requires : tie.Need-five-requires
+five-requires c κs = search needs
+
+mv-requires : tie.Need-mv-requires
+mv-requires c κs = search needs
+
+push-requires : tie.Need-push-requires
+push-requires c κs = search needs
+
+returns : tie.Need-returns
+unfolding sub-stack-code
+returns c =
+    c .push .ensures
+    ∙ ap (λ (p : Plan). pushed p (c .before .mv .result)) (c .before .before .five .ensures)
+    ∙ collected (c .before .before .before .before .before .before .before .addi .result ∷ c .before .before .before .before .before .before .sd .result ∷ c .before .before .before .before .before .sd2 .result ∷ c .before .before .before .before .sd3 .result ∷ c .before .before .before .sd4 .result ∷ c .before .mv .result ∷ []) (opening Fast)
+    (answered-at _ (λ (z : ℤ). I ADDI 2 2 z) (c .before .before .before .before .before .before .before .addi .ensures) refl, (answered-at _ (λ (z : ℤ). S SD 2 1 z) (c .before .before .before .before .before .before .sd .ensures) refl, (answered-at _ (λ (z : ℤ). S SD 2 8 z) (c .before .before .before .before .before .sd2 .ensures) refl, (answered-at _ (λ (z : ℤ). S SD 2 9 z) (c .before .before .before .before .sd3 .ensures) refl, (answered-at _ (λ (z : ℤ). S SD 2 21 z) (c .before .before .before .sd4 .ensures) refl, (answered _ _ (c .before .mv .ensures), tt))))))
+
+pub opening-fast-spec : {M : Type 1} → statement M
+opening-fast-spec =
+    tie.close
+    (tie.spec
+    addi-requires
+    sd-requires
+    sd-requires-2
+    sd-requires-3
+    sd-requires-4
+    five-requires
+    mv-requires
+    push-requires
+    returns)

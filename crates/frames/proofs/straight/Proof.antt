@@ -1,0 +1,77 @@
+use native.Mathlib.Omega.{arith}
+use mathlib.Core.Path.{sym, _∙_}
+use mathlib.Core.List.{_++_}
+use denote.Ref.{now}
+use Rattle.assembler.specs.Put.{jumps}
+use Rattle.assembler.specs.State.{state}
+use Rattle.frames.specs.Items.{code, times-over}
+use Rattle.frames.specs.Whole.{copy-first, copy-each}
+use Rattle.frames.proofs.Parts.{plan-code, refuses, opens, closes, code-piece}
+use Rattle.frames.proofs.Valid.{first-valid}
+use Rattle.frames.proofs.Sizes.{straight-number}
+use borrow.Author.Needs.{needs}
+use Rattle.frames.proofs.straight.Statement.{statement}
+use Rattle.frames.proofs.straight.Tie as tie
+
+first-words-requires : tie.Need-first-words-requires
+first-words-requires c κs = search needs
+
+mul-w : tie.Need-mul-w
+mul-w c = search needs
+
+add-w : tie.Need-add-w
+add-w c = search needs
+
+begin-requires : tie.Need-begin-requires
+begin-requires c κs = search needs
+
+accepted-requires : tie.Need-accepted-requires
+accepted-requires c κs = search needs
+
+first-plan-requires : tie.Need-first-plan-requires
+first-plan-requires c κs = search needs
+
+place-requires : tie.Need-place-requires
+place-requires c κs = search needs
+
+copy-row-requires : tie.Need-copy-row-requires
+copy-row-requires c κs = c .before .before .before .before .before .before .before .before .before .before .before .before .before .before .before .before .before .before .before .before .pre .1
+
+same-length : tie.Need-same-length
+same-length c = search needs
+
+returns : tie.Need-returns
+returns c =
+    let a = c .before .before .before .before .before .before .before .before .before .before .before .before .before .before .before .before .before .before .before .before .before .before .before .args in
+    let s = state (a .asm) (now (a .labels)) (now (a .jumps)) (now (a .buf)) in
+    let first = copy-first (a .out) (a .states) in
+    let rest = times-over (a .n) (copy-each (a .out)) in
+    let o = opens 0 (code (first ++ rest)) s _ _ (straight-number (a .out) (a .states) (a .n) _ s (c .before .before .before .before .before .before .before .before .before .before .before .before .before .before .before .before .before .before .before .before .before .first-words .ensures .0)) (c .before .before .before .before .before .before .before .before .before .before .before .before .before .before .before .before .before .begin .ensures) (sym (c .before .before .before .before .before .before .before .before .before .before .before .before .before .before .accepted .ensures) ∙ c .before .before .before .before .before .before .before .before .before .before .before .before .before .if1 .taken) in
+    let e = c .before .before .before .before .before .before .before .before .place .ensures ∙ plan-code _ first (c .before .before .before .before .before .before .before .before .before .before .before .before .first-plan .ensures) (omega (arith, c .before .before .before .before .before .before .before .before .before .before .before .before .before .before .before .before .before .before .before .before .before .first-words .ensures .0, c .before .before .before .before .before .before .before .before .before .before .before .before .before .before .before .before .before .before .before .before .before .first-words .ensures .1)) (first-valid (a .out) (a .states)) 0 _ in
+    closes 0 (code (first ++ rest)) (code rest) s _ _ _ o (code-piece 0 first rest _ _ _ e (o .left)) (c .before .before .copy-row .ensures)
+
+same-length-2 : tie.Need-same-length-2
+same-length-2 c = search needs
+
+returns-2 : tie.Need-returns-2
+returns-2 c =
+    let a = c .before .before .before .before .before .before .before .before .before .before .args in
+    let s = state (a .asm) (now (a .labels)) (now (a .jumps)) (now (a .buf)) in
+    refuses 0 (code (copy-first (a .out) (a .states) ++ times-over (a .n) (copy-each (a .out)))) s _ 0 _ (straight-number (a .out) (a .states) (a .n) _ s (c .before .before .before .before .before .before .before .before .first-words .ensures .0)) (c .before .before .before .before .begin .ensures) (sym (c .before .accepted .ensures) ∙ c .if1 .left)
+
+pub straight-spec : {M : Type 1} → statement M
+straight-spec =
+    tie.close
+    (tie.spec
+    first-words-requires
+    mul-w
+    add-w
+    begin-requires
+    accepted-requires
+    first-plan-requires
+    place-requires
+    copy-row-requires
+    same-length
+    returns
+    same-length-2
+    returns-2)

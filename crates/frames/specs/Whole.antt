@@ -1,0 +1,57 @@
+-- What the functions ask before they place a part, and the copies of states and observations by one choice.
+use mathlib.Core.Bool.{Bool, true, false, cond}
+use mathlib.Core.List.{List, [], _∷_, _++_}
+use Prim.Native.Nat.{ℕ, _*_}
+use lib.Dec.{eqb}
+use lib.IntN.{pos}
+use Rattle.isa.specs.Instr.{Instr, R, ADD}
+use Rattle.refusal.specs.Answer.{Answer, accepted, refused}
+use Rattle.refusal.specs.Number.{number-of}
+use Rattle.refusal.specs.declared.Refusal.the-variants.{Twice, Full}
+use Rattle.assembler.specs.Item.{Item, jump, label}
+use Rattle.assembler.specs.State.{fits}
+use Rattle.assembler.specs.declared.Asm.{Asm}
+use Rattle.accesses.specs.Code.{li-code}
+use Rattle.assembler.specs.declared.Kind.the-variants.{Beq, Bne}
+use Rattle.order.specs.declared.Frame.the-variants.{Indirect}
+use Rattle.frames.specs.Items.{code, mv, opening, at-self, at-main, count-down, state-copy, obs-copy, repeated, at-pro, at-epi}
+
+abbrev pub is-accepted : Answer (Unit {0}) → Bool
+is-accepted (accepted x) = true
+is-accepted (refused n place) = false
+
+-- a fault, a label already set, no room; 0 for none of them
+unfoldable pub trouble : (fault : ℕ) → (taken : Bool) → (words jumps size : ℕ) → Asm → ℕ
+trouble fault taken words jumps size asm =
+    cond (eqb fault 0) (cond taken (number-of Twice) (cond (fits size asm words jumps) 0 (number-of Full))) fault
+
+-- ---- copies: states to `mem`, or out of `mem` to the observation cells
+
+-- t1 is the first cell
+abbrev pub copy-first : (out : Bool) → (states : ℕ) → List Instr
+copy-first true states = li-code 6 (pos (8 * states)) ++ (R ADD 6 6 9 ∷ [])
+copy-first false states = mv 6 9 ∷ []
+
+abbrev pub copy-each : (out : Bool) → List Instr
+copy-each true = obs-copy
+copy-each false = state-copy
+
+abbrev pub copy-label : (out : Bool) → ℕ
+copy-label true = at-epi
+copy-label false = at-pro
+
+-- n of them
+abbrev pub copies : (out : Bool) → (states n : ℕ) → List Item
+copies out states n = repeated n (copy-first out states) (copy-each out) (copy-label out)
+
+-- n of them by the loop
+unfoldable pub looped : (out : Bool) → (states n : ℕ) → List Item
+looped out states n =
+    code (copy-first out states ++ li-code 7 (pos n))
+    ++ (label (copy-label out) ∷ (code (copy-each out ++ (count-down ∷ [])) ++ (jump Bne (copy-label out) 0 ∷ [])))
+
+-- an indirect prologue as far as the jump past the copies
+unfoldable pub entry : List Item
+entry =
+    label at-self
+    ∷ (code (opening Indirect ++ (mv 9 10 ∷ mv 18 11 ∷ mv 19 12 ∷ mv 20 13 ∷ [])) ++ (jump Beq at-main 0 ∷ []))
