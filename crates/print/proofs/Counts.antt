@@ -3,9 +3,9 @@ use mathlib.Core.Path.{_≡_, refl, sym, ap, _∙_}
 use mathlib.Core.Bool.{Bool, true, false, cond}
 use mathlib.Core.List.{List}
 use Prim.Native.Nat.{ℕ, zero, suc, _+_, _-_, _/_, _^_, _<_, _≤_}
-use native.Mathlib.Nat.{mul-comm, div-one, div-div-eq-div-mul, pow-zero, pow-succ'}
+use native.Mathlib.Nat.{mul-comm, div-one, div-div-eq-div-mul, pow-zero, pow-succ', pow-suc}
 use native.Mathlib.Omega.{arith}
-use borrow.Author.Tests.{lt-ltb, le-ltb, ltb-false, le-leb, lt-leb, leb-true, leb-false}
+use borrow.Author.Tests.{ltb-true, lt-ltb, le-ltb, ltb-false, le-leb, lt-leb, leb-true, leb-false}
 use lib.Dec.{ltb, leb}
 use lib.ListN.{length}
 use lib.Seq.{sets}
@@ -62,3 +62,19 @@ room-behind at n l h = go (leb n (l - at)) refl
     go : (t : Bool) → leb n (l - at) ≡ t → t ≡ leb (at + n) l
     go true e = let g = leb-true n (l - at) e in sym (le-leb (at + n) l (omega arith))
     go false e = let g = leb-false n (l - at) e in sym (lt-leb (at + n) l (omega arith))
+
+-- n below a power of 10 has no more digits than that
+above-below : (k n : ℕ) → n < 10 ^ suc k → above n n ≤ k
+above-below zero n h = omega (arith, above-small n h)
+above-below (suc k) n h = go (ltb n 10) refl (above-below k (n / 10))
+  where
+    go : (t : Bool) → ltb n 10 ≡ t → (n / 10 < 10 ^ suc k → above (n / 10) (n / 10) ≤ k) → above n n ≤ suc k
+    go true e r = omega (arith, above-small n (ltb-true n 10 e))
+    go false e r =
+        let g = ltb-false n 10 e in
+        let p = pow-suc 10 (suc k) in
+        let i : n / 10 < 10 ^ suc k = omega arith in
+        omega (arith, above-more n g, r i)
+
+pub decimal-short : (k n : ℕ) → n < 10 ^ suc k → length (decimal n) ≤ suc k
+decimal-short k n h = omega (arith, length-decimal n, above-below k n h)
