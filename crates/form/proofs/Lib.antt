@@ -1,3 +1,4 @@
 mod Names
+mod Chosen
 pub mod Inverse
 mod Shapes

@@ -1,10 +1,10 @@
 // Document 01, "The deck file": a line's kind and fields. Ranges are judged above (`deck`).
 ghost use mathlib.Core.Path.{_≡_};
 ghost use mathlib.Core.List.{[], _∷_};
-ghost use Rattle.text.specs.Fields.{split, fields-from, next-from};
+ghost use Rattle.text.specs.Fields.{split, same, fields-from, next-from};
 ghost use Rattle.form.specs.Line.{name, place-name, flag-name, number, place, flag};
 ghost use Rattle.form.specs.Read.{first, names-two, names-three, names-four, names-five, names-six, names-longer, kind-of, all-places, all-flags, read-values, read-fields};
-ghost use Rattle.form.specs.Form.{form-of, formed, shaped, named, numbers, read-numbers, first-of, only, placed, cell, flagged};
+ghost use Rattle.form.specs.Form.{form-of, formed, shaped, named, or-named, numbers, read-numbers, first-of, only, placed, cell, flagged};
 use order::Binary;
 use order::Frame;
 use order::Fused;
@@ -87,130 +87,78 @@ enum Flag {
 
 // ---- names
 
+// A kind found before, or this one if s is its name.
+fn or_named(found: Named, s: &[u8], w: &[u8], k: Kind) -> Named
+    ensures { λ r. ⌜ r ≡ or-named found (same (now (s .entry)) (now (w .entry))) k ⌝ }
+{
+    if let Named::Is(_) = found {
+        return found;
+    }
+    if text::same(s, w) {
+        Named::Is(k)
+    } else {
+        Named::Unknown
+    }
+}
+
 fn two(s: &[u8]) -> Named
     ensures { λ r. ⌜ r ≡ named (first name (now (s .entry)) names-two) ⌝ }
 {
-    if text::same(s, b"gt") {
-        return Named::Is(Kind::Binary(Binary::Gt));
-    }
-    if text::same(s, b"or") {
-        return Named::Is(Kind::Binary(Binary::Or));
-    }
-    Named::Unknown
+    let a = or_named(Named::Unknown, s, b"gt", Kind::Binary(Binary::Gt));
+    or_named(a, s, b"or", Kind::Binary(Binary::Or))
 }
 
 fn three(s: &[u8]) -> Named
     ensures { λ r. ⌜ r ≡ named (first name (now (s .entry)) names-three) ⌝ }
 {
-    if text::same(s, b"not") {
-        return Named::Is(Kind::Unary(Unary::Not));
-    }
-    if text::same(s, b"neq") {
-        return Named::Is(Kind::Binary(Binary::Neq));
-    }
-    if text::same(s, b"and") {
-        return Named::Is(Kind::Binary(Binary::And));
-    }
-    if text::same(s, b"xor") {
-        return Named::Is(Kind::Binary(Binary::Xor));
-    }
-    if text::same(s, b"get") {
-        return Named::Is(Kind::Load);
-    }
-    if text::same(s, b"put") {
-        return Named::Is(Kind::Save);
-    }
-    Named::Unknown
+    let a = or_named(Named::Unknown, s, b"not", Kind::Unary(Unary::Not));
+    let b = or_named(a, s, b"neq", Kind::Binary(Binary::Neq));
+    let c = or_named(b, s, b"and", Kind::Binary(Binary::And));
+    let d = or_named(c, s, b"xor", Kind::Binary(Binary::Xor));
+    let e = or_named(d, s, b"get", Kind::Load);
+    or_named(e, s, b"put", Kind::Save)
 }
 
 fn four(s: &[u8]) -> Named
     ensures { λ r. ⌜ r ≡ named (first name (now (s .entry)) names-four) ⌝ }
 {
-    if text::same(s, b"fast") {
-        return Named::Is(Kind::Head(Frame::Fast));
-    }
-    if text::same(s, b"fmov") {
-        return Named::Is(Kind::Unary(Unary::Fmov));
-    }
-    if text::same(s, b"sign") {
-        return Named::Is(Kind::Scratched(Scratched::Sign));
-    }
-    if text::same(s, b"frac") {
-        return Named::Is(Kind::Scratched(Scratched::Frac));
-    }
-    if text::same(s, b"bits") {
-        return Named::Is(Kind::Bits);
-    }
-    Named::Unknown
+    let a = or_named(Named::Unknown, s, b"fast", Kind::Head(Frame::Fast));
+    let b = or_named(a, s, b"fmov", Kind::Unary(Unary::Fmov));
+    let c = or_named(b, s, b"sign", Kind::Scratched(Scratched::Sign));
+    let d = or_named(c, s, b"frac", Kind::Scratched(Scratched::Frac));
+    or_named(d, s, b"bits", Kind::Bits)
 }
 
 fn five(s: &[u8]) -> Named
     ensures { λ r. ⌜ r ≡ named (first name (now (s .entry)) names-five) ⌝ }
 {
-    if text::same(s, b"recip") {
-        return Named::Is(Kind::Unary(Unary::Recip));
-    }
-    if text::same(s, b"round") {
-        return Named::Is(Kind::Unary(Unary::Round));
-    }
-    if text::same(s, b"floor") {
-        return Named::Is(Kind::Unary(Unary::Floor));
-    }
-    if text::same(s, b"minus") {
-        return Named::Is(Kind::Binary(Binary::Minus));
-    }
-    if text::same(s, b"times") {
-        return Named::Is(Kind::Binary(Binary::Times));
-    }
-    if text::same(s, b"label") {
-        return Named::Is(Kind::SetLabel);
-    }
-    if text::same(s, b"float") {
-        return Named::Is(Kind::Float);
-    }
-    Named::Unknown
+    let a = or_named(Named::Unknown, s, b"recip", Kind::Unary(Unary::Recip));
+    let b = or_named(a, s, b"round", Kind::Unary(Unary::Round));
+    let c = or_named(b, s, b"floor", Kind::Unary(Unary::Floor));
+    let d = or_named(c, s, b"minus", Kind::Binary(Binary::Minus));
+    let e = or_named(d, s, b"times", Kind::Binary(Binary::Times));
+    let f = or_named(e, s, b"label", Kind::SetLabel);
+    or_named(f, s, b"float", Kind::Float)
 }
 
 fn six(s: &[u8]) -> Named
     ensures { λ r. ⌜ r ≡ named (first name (now (s .entry)) names-six) ⌝ }
 {
-    if text::same(s, b"divide") {
-        return Named::Is(Kind::Binary(Binary::Divide));
-    }
-    if text::same(s, b"andnot") {
-        return Named::Is(Kind::Binary(Binary::Andnot));
-    }
-    if text::same(s, b"ifelse") {
-        return Named::Is(Kind::Ifelse);
-    }
-    if text::same(s, b"branch") {
-        return Named::Is(Kind::BranchIf);
-    }
-    Named::Unknown
+    let a = or_named(Named::Unknown, s, b"divide", Kind::Binary(Binary::Divide));
+    let b = or_named(a, s, b"andnot", Kind::Binary(Binary::Andnot));
+    let c = or_named(b, s, b"ifelse", Kind::Ifelse);
+    or_named(c, s, b"branch", Kind::BranchIf)
 }
 
 fn longer(s: &[u8]) -> Named
     ensures { λ r. ⌜ r ≡ named (first name (now (s .entry)) names-longer) ⌝ }
 {
-    if text::same(s, b"indirect") {
-        return Named::Is(Kind::Head(Frame::Indirect));
-    }
-    if text::same(s, b"fused_mul_add") {
-        return Named::Is(Kind::Fused(Fused::MulAdd));
-    }
-    if text::same(s, b"fused_mul_sub") {
-        return Named::Is(Kind::Fused(Fused::MulSub));
-    }
-    if text::same(s, b"fused_neg_mul_add") {
-        return Named::Is(Kind::Fused(Fused::NegMulAdd));
-    }
-    if text::same(s, b"fused_neg_mul_sub") {
-        return Named::Is(Kind::Fused(Fused::NegMulSub));
-    }
-    if text::same(s, b"load_const") {
-        return Named::Is(Kind::LoadConst);
-    }
-    Named::Unknown
+    let a = or_named(Named::Unknown, s, b"indirect", Kind::Head(Frame::Indirect));
+    let b = or_named(a, s, b"fused_mul_add", Kind::Fused(Fused::MulAdd));
+    let c = or_named(b, s, b"fused_mul_sub", Kind::Fused(Fused::MulSub));
+    let d = or_named(c, s, b"fused_neg_mul_add", Kind::Fused(Fused::NegMulAdd));
+    let e = or_named(d, s, b"fused_neg_mul_sub", Kind::Fused(Fused::NegMulSub));
+    or_named(e, s, b"load_const", Kind::LoadConst)
 }
 
 // Names are told apart by length first.
