@@ -14,7 +14,7 @@ use prog.Wp.{Heap, Calls, Loops, WpFn, Tables}
 use ghost.Atoms.{Atoms}
 use contract.Monad.{fact}
 use contract.Lifetimes.{Lfts, Shares}
-use types.Kit.{Given, Item, ‵, raw, some, later, _⊛_, ⋆, _$_, _∵_, !, qed, by, move, keep, drop, use1, use2, split, join, pick, rewrite, fsplit, fsplit3, fjoin, fjoin3, feqL, feqI, suffices, frame, await, done}
+use types.Kit.{Given, Item, ‵, raw, some, later, _⊛_, ⋆, _$_, _∵_, !, qed, by, move, keep, drop, use1, use2, split, join, pick, rewrite, fsplit, fjoin, fjoin3, feqL, feqI, suffices, frame, await, done}
 use types.Run.{look, look-raw, init, store-raw, forget, stop, hop, fld, from, load, addr, of-opd, and-then, no-more, assigns, land, returns, enter, alloc1, alloc0, params1, pass1, pass0, free1, free0}
 use types.Part.{agg, whole, sub, look-in}
 use sound.WpLaws.{FmC, fmOf, WpFn-mono}
@@ -26,8 +26,7 @@ use denote.Ref.{RefT, MutRef, ptr-vals, mut-tells, now}
 use denote.Slice.{slice-vals, MutSlice, mut-slice-tells, Room, finally}
 use denote.Array.{Array}
 use denote.Signature.{Signature, plain, typesAt}
-use denote.Steps.{only, opens, closes, owned, peeks, heard, nothing}
-use denote.Struct.Steps.{spelt}
+use denote.Steps.{only, owned, peeks, heard, nothing}
 use denote.Struct.Laws as LL
 use denote.Enum.Laws as EL
 use denote.Triple.Entry.{onEntry}
@@ -49,7 +48,7 @@ use Rattle.assembler.proofs.Answer as TN
 use Rattle.assembler.proofs.Answer.Laws as TN′
 use Rattle.lent.specs.Lent.{answered}
 use Rattle.lent.proofs.Value.{Value}
-use Rattle.lent.proofs.Shape.{labels-slot, jumps-slot, asmV, tokens, closed-at}
+use Rattle.lent.proofs.Shape.{labels-slot, jumps-slot, asmV, tokens, closed-at, record-opens, record-closes}
 
 -- ---- the code
 
@@ -217,29 +216,27 @@ module _ (P : Value) (f : P .row .Denot → State → Outcome) (k : Name) {M : T
         assigns ! (addr ! (from ! (hop ! (look ! 14 refl) (stop !)))) (from ! (stop !)) (init ! 4 refl (tt, tt)) $
         assigns ! (addr ! (from ! (hop ! (look ! 12 refl) (stop !)))) (from ! (stop !)) (init ! 2 refl (tt, tt)) $
         -- the borrow of the record is opened, and the record is copied
-        move ! (25 ∷ []) $ fsplit ! $ fsplit3 ! $ drop ! $ move ! (27 ∷ []) $ split ! $ move ! (2 ∷ 3 ∷ 0 ∷ []) $
-        opens ! tt TA.the-row {h = x .now} (x .ptr .0) (x .ptr .1) (λ vs. spelt ! TA.the-row (Is TA.the-row) (shows 𝓤 H A TA.the-row) (LL.vals TA.the-type TA′.the-laws) (LL.tells TA.the-type TA′.the-laws) fullShare (x .now) vs (x .ptr .0) (x .ptr .1) $
-        move ! (1 ∷ []) $ peeks ! TA.the-row (Is TA.the-row) (shows 𝓤 H A TA.the-row) (x .now) (asmV (x .now) ∷ []) (λ g. move ! (1 ∷ 0 ∷ []) $
-        -- [the record's cell; what it owns; the open borrow; obs; auth; the other tokens; what the value and the memory own; _11; …; _10; …; …; _0; …]
-        assigns ! (of-opd ! (load ! (from ! (hop ! (look ! 27 refl) (stop !))) (look-raw ! 0 refl))) (from ! (stop !)) (init ! 7 refl (LL.lawful TA.the-type TA′.the-laws 𝓤 H A W .typed (x .now) _ g .0)) $
+        move ! (24 ∷ 25 ∷ []) $ split ! $ move ! (2 ∷ []) $ fsplit ! $ move ! (2 ∷ 0 ∷ []) $ record-opens ! tt x (λ g.
+        -- [the record's cell; the open borrow; obs; auth; what the value and the memory own; their tokens; _11; …; _10; …; …; _0; …]
+        assigns ! (of-opd ! (load ! (from ! (hop ! (look ! 26 refl) (stop !))) (look-raw ! 0 refl))) (from ! (stop !)) (init ! 6 refl (LL.lawful TA.the-type TA′.the-laws 𝓤 H A W .typed (x .now) _ g .0)) $
         -- the callee
-        move ! (5 ∷ 6 ∷ []) $ use2 W (raw (Callee P f 𝓤 H A .pre to-callee)) (goes g) $
-        calls-at ! fm (Callee P f 𝓤 H A) known to-callee (and-then ! (load ! (from ! (stop !)) (look ! 24 refl)) (and-then ! (load ! (from ! (stop !)) (look ! 12 refl)) (and-then ! (load ! (from ! (stop !)) (look ! 10 refl)) (and-then ! (load ! (from ! (stop !)) (look ! 8 refl)) (and-then ! (load ! (from ! (stop !)) (look ! 6 refl)) (no-more !)))))) (λ w.
+        move ! (5 ∷ 4 ∷ []) $ use2 W (raw (Callee P f 𝓤 H A .pre to-callee)) (goes g) $
+        calls-at ! fm (Callee P f 𝓤 H A) known to-callee (and-then ! (load ! (from ! (stop !)) (look ! 23 refl)) (and-then ! (load ! (from ! (stop !)) (look ! 11 refl)) (and-then ! (load ! (from ! (stop !)) (look ! 9 refl)) (and-then ! (load ! (from ! (stop !)) (look ! 7 refl)) (and-then ! (load ! (from ! (stop !)) (look ! 5 refl)) (no-more !)))))) (λ w.
         use1 W (later (some (λ (r : Done). (tokens 𝓤 (κs .1) (qs .1) ⊛ ‵ (TD.the-row .own r (w ∷ []))) ⊛ raw (ensured 𝓤 H A (callee-ended P) (says-callee P f 𝓤 H A) (κs .1) arg tt r)))) (id⊢ 𝓤 _) $ await ! tt $ pick ! (λ r.
         split ! $ move ! (1 ∷ []) $ use1 W (some (λ (zs : Lasts). ‵ (lasts (callee-ended P) (κs .1) arg zs) ⊛ raw (fact 𝓤 (Said r zs)))) (id⊢ 𝓤 _) $ pick ! (λ zs.
         split ! $ move ! (1 ∷ []) $ heard ! (Said r zs) (λ e.
         fsplit ! $ drop ! $ fsplit ! $ fsplit ! $ move ! (1 ∷ []) $ feqL ! (λ l. move ! (1 ∷ []) $ fsplit ! $ move ! (1 ∷ []) $ fsplit ! $
         move ! (4 ∷ []) $ split ! $ move ! (1 ∷ []) $ peeks ! TD.the-row (Is TD.the-row) (shows 𝓤 H A TD.the-row) r (w ∷ []) (λ is.
-        -- [what came back; its tokens; the last jumps; …; the last labels; the last buffer; the record's cell; what it owns; the open borrow; obs; auth; _11; …; _10; …; …; _0; …]
-        land ! (from ! (stop !)) (init ! 21 refl (LL.lawful TD.the-type TD′.the-laws 𝓤 H A W .typed r _ is .0)) $ rewrite ! 21 (λ (u : Val). ‵ (fat fullShare TD′.mir l₆ 0 u)) (ap only (LL.tells TD.the-type TD′.the-laws r _ is)) refl $
+        -- [what came back; its tokens; the last jumps; …; the last labels; the last buffer; the record's cell; the open borrow; obs; auth; _11; …; _10; …; …; _0; …]
+        land ! (from ! (stop !)) (init ! 20 refl (LL.lawful TD.the-type TD′.the-laws 𝓤 H A W .typed r _ is .0)) $ rewrite ! 20 (λ (u : Val). ‵ (fat fullShare TD′.mir l₆ 0 u)) (ap only (LL.tells TD.the-type TD′.the-laws r _ is)) refl $
         let fields = LL.owed TD.the-type TD′.the-laws r _ is in
-        assigns ! (of-opd ! (load ! (from ! (fld ! refl (stop !))) (look-in ! 21 (sub ! 0 refl (whole !))))) (from ! (hop ! (look ! 31 refl) (stop !))) (store-raw ! 6 refl (LL.lawful TA.the-type TA′.the-laws 𝓤 H A W .typed (r .asm) _ (fields .0) .0)) $
-        assigns ! (of-opd ! (load ! (from ! (fld ! refl (stop !))) (look-in ! 21 (sub ! 1 refl (whole !))))) (from ! (stop !)) (init ! 33 refl (EL.lawful TN.the-type TN′.the-laws 𝓤 H A W tt .typed (r .answer) _ (fields .1 .0) .0)) $
+        assigns ! (of-opd ! (load ! (from ! (fld ! refl (stop !))) (look-in ! 20 (sub ! 0 refl (whole !))))) (from ! (hop ! (look ! 30 refl) (stop !))) (store-raw ! 6 refl (LL.lawful TA.the-type TA′.the-laws 𝓤 H A W .typed (r .asm) _ (fields .0) .0)) $
+        assigns ! (of-opd ! (load ! (from ! (fld ! refl (stop !))) (look-in ! 20 (sub ! 1 refl (whole !))))) (from ! (stop !)) (init ! 32 refl (EL.lawful TN.the-type TN′.the-laws 𝓤 H A W tt .typed (r .answer) _ (fields .1 .0) .0)) $
         -- the borrow is closed at the new record
-        move ! (7 ∷ []) $ drop ! $ owned ! TA.the-row (Is TA.the-row) (LL.makes TA.the-type TA′.the-plain 𝓤 H A) (r .asm) _ (fields .0) $ move ! (7 ∷ 0 ∷ 8 ∷ 9 ∷ 10 ∷ []) $ closes ! tt TA.the-row (r .asm) (asmV (r .asm) ∷ []) (x .ptr .0) (x .ptr .1) $
+        move ! (6 ∷ 7 ∷ 8 ∷ 9 ∷ []) $ record-closes ! tt x (r .asm) (fields .0) $
         returns ! (look ! 31 refl) $ forget ! 9 refl $ forget ! 11 refl $ forget ! 13 refl $ forget ! 15 refl $ forget ! 17 refl $ forget ! 19 refl $ forget ! 21 refl $ forget ! 23 refl $ forget ! 25 refl $ forget ! 27 refl $ forget ! 29 refl $ forget ! 31 refl $
         move ! (31 ∷ 32 ∷ []) $ free1 ! $ move ! (29 ∷ 30 ∷ []) $ free1 ! $ move ! (27 ∷ 28 ∷ []) $ free1 ! $ move ! (25 ∷ 26 ∷ []) $ free1 ! $ move ! (23 ∷ 24 ∷ []) $ free1 ! $ move ! (21 ∷ 22 ∷ []) $ free1 ! $ move ! (19 ∷ 20 ∷ []) $ free1 ! $ move ! (17 ∷ 18 ∷ []) $ free1 ! $ move ! (15 ∷ 16 ∷ []) $ free1 ! $ move ! (13 ∷ 14 ∷ []) $ free1 ! $ move ! (11 ∷ 12 ∷ []) $ free1 ! $ move ! (9 ∷ 10 ∷ []) $ free1 ! $ free0 ! $
-        keep ! (0 ∷ 1 ∷ 2 ∷ 4 ∷ 5 ∷ 7 ∷ 8 ∷ []) $ by ! (exits r zs e l (fields .1 .0))))))))))))))))))))))
+        keep ! (0 ∷ 1 ∷ 2 ∷ 4 ∷ 5 ∷ 7 ∷ 8 ∷ []) $ by ! (exits r zs e l (fields .1 .0)))))))))))))))))))))
 
 module _ (P : Value) (f : P .row .Denot → State → Outcome) (k : Name) {M : Type 1} (𝓤 : URA M) (H : Heap 𝓤) (A : Atoms 𝓤) (W : Given 𝓤 H A) where
   walks : (C : Calls 𝓤 H) (Λ : Loops 𝓤 H) → FmC 𝓤 H (W .laws) C → Triple 𝓤 (C k) (Callee P f 𝓤 H A) → Walks 𝓤 H A (lent-ended P) (stayed P) (WpFn 𝓤 H C Λ (function P k)) (says-lent P f 𝓤 H A)

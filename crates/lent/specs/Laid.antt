@@ -6,10 +6,11 @@ use Rattle.assembler.specs.Plan.{label-fault, jump-fault}
 use Rattle.assembler.specs.Put.{put}
 use Rattle.assembler.specs.Constant.{quad, constant-items, constant-fault}
 use Rattle.orders.specs.Emitted.{emitted}
-use Rattle.frames.specs.Items.{saves}
+use Rattle.frames.specs.Items.{prologue, epilogue, saves, reloads}
+use Rattle.frames.specs.Fault.{prologue-fault, epilogue-fault}
 use Rattle.lent.specs.Accessed.{accessed}
 use Rattle.lent.specs.declared.Piece.{Piece}
-use Rattle.lent.specs.declared.Piece.the-variants.{Word, Quad, Label, Jump, Constant, Order, Access, Saves}
+use Rattle.lent.specs.declared.Piece.the-variants.{Word, Quad, Label, Jump, Constant, Order, Access, Prologue, Epilogue, Saves, Reloads}
 
 abbrev pub laid : Piece → State → Outcome
 laid (Word w) = put 0 0 (raw w ∷ [])
@@ -19,4 +20,7 @@ laid (Jump k l r tag) = put tag (jump-fault l r) (jump k l r ∷ [])
 laid (Constant k c) = put 0 (constant-fault k) (constant-items k c)
 laid (Order o tag) = emitted tag o
 laid (Access a) = accessed a
+laid (Prologue head tag) = put tag (prologue-fault head) (prologue head)
+laid (Epilogue head tag) = put tag (epilogue-fault head) (epilogue head)
 laid (Saves mask) = put 0 0 (saves mask)
+laid (Reloads mask) = put 0 0 (reloads mask)

@@ -1,4 +1,5 @@
 // The record lent by `&mut`, as the Rust's `&mut self`: each function takes it apart, calls the covered function, and stores what came back.
+// What takes one number has its own function; jumps, constants, orders, accesses and frames are pieces, and `lay` serves them all.
 ghost use mathlib.Core.Path.{_≡_};
 ghost use mathlib.Core.List.{[], _∷_};
 ghost use Rattle.assembler.specs.Item.{raw, label};
@@ -7,7 +8,7 @@ ghost use Rattle.assembler.specs.Plan.{label-fault};
 ghost use Rattle.assembler.specs.Put.{put};
 ghost use Rattle.assembler.specs.Constant.{quad};
 ghost use Rattle.finish.specs.Finish.{finish};
-ghost use Rattle.frames.specs.Items.{saves};
+ghost use Rattle.frames.specs.Items.{saves, reloads};
 ghost use Rattle.lent.specs.Lent.{answered, ended};
 ghost use Rattle.lent.specs.Accessed.{accessed};
 ghost use Rattle.lent.specs.Laid.{laid};
@@ -16,6 +17,7 @@ use assembler::Asm;
 use assembler::Done;
 use assembler::Kind;
 use order::Constant;
+use order::Head;
 use order::Order;
 
 // ---- what is laid
@@ -44,8 +46,12 @@ pub enum Piece {
     Constant(u32, Constant),
     Order(Order, u32),
     Access(Access),
+    Prologue(Head, u32),
+    Epilogue(Head, u32),
     // mask
     Saves(u32),
+    // mask
+    Reloads(u32),
 }
 
 // ---- the same by value
@@ -105,7 +111,10 @@ pub fn lay_by_value(
         Piece::Constant(k, c) => assembler::append_const(k, c, buf, labels, jumps, asm),
         Piece::Order(o, tag) => orders::emit(o, tag, buf, labels, jumps, asm),
         Piece::Access(a) => access_by_value(a, buf, labels, jumps, asm),
+        Piece::Prologue(head, tag) => frames::prologue(head, tag, buf, labels, jumps, asm),
+        Piece::Epilogue(head, tag) => frames::epilogue(head, tag, buf, labels, jumps, asm),
         Piece::Saves(mask) => frames::save_used_registers(mask, buf, labels, jumps, asm),
+        Piece::Reloads(mask) => frames::load_used_registers(mask, buf, labels, jumps, asm),
     }
 }
 
@@ -163,6 +172,20 @@ pub fn save_used_registers(
     ensures { λ r. ⌜ answered r (now (asm .exit)) (now (labels .exit)) (now (jumps .exit)) (now (buf .exit)) ≡ put 0 0 (saves mask) (state (now (asm .entry)) (now (labels .entry)) (now (jumps .entry)) (now (buf .entry))) ⌝ }
 {
     let d = frames::save_used_registers(mask, buf, labels, jumps, *asm);
+    *asm = d.asm;
+    d.answer
+}
+
+pub fn load_used_registers(
+    asm: &mut Asm,
+    mask: u32,
+    buf: &mut [u8],
+    labels: &mut [u64; 2039],
+    jumps: &mut [u32; 20480],
+) -> Answer
+    ensures { λ r. ⌜ answered r (now (asm .exit)) (now (labels .exit)) (now (jumps .exit)) (now (buf .exit)) ≡ put 0 0 (reloads mask) (state (now (asm .entry)) (now (labels .entry)) (now (jumps .entry)) (now (buf .entry))) ⌝ }
+{
+    let d = frames::load_used_registers(mask, buf, labels, jumps, *asm);
     *asm = d.asm;
     d.answer
 }

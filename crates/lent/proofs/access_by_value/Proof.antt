@@ -7,17 +7,6 @@ use Rattle.lent.specs.Accessed.{accessed}
 use borrow.Author.Needs.{needs}
 use Rattle.lent.proofs.access_by_value.Statement.{statement}
 use Rattle.lent.proofs.access_by_value.Tie as tie
-use Rattle.lent.proofs.access_by_value.Reads as reads
-use Rattle.lent.proofs.access_by_value.Lts as lts
-use Rattle.accesses.proofs.add_stack.Reads as add-stack-reads
-use Rattle.accesses.proofs.allocate_stack.Reads as allocate-stack-reads
-use Rattle.accesses.proofs.li.Reads as li-reads
-use Rattle.accesses.proofs.load_complex.Reads as load-complex-reads
-use Rattle.accesses.proofs.load_float.Reads as load-float-reads
-use Rattle.accesses.proofs.load_int.Reads as load-int-reads
-use Rattle.accesses.proofs.save_complex.Reads as save-complex-reads
-use Rattle.accesses.proofs.save_float.Reads as save-float-reads
-use Rattle.accesses.proofs.sub_stack.Reads as sub-stack-reads
 
 enum-known-a : tie.Need-enum-known-a
 enum-known-a c = search needs

@@ -16,7 +16,7 @@ use ghost.Atoms.{Atoms}
 use contract.Monad.{Fun, fact}
 use contract.Lifetimes.{Lfts, Shares}
 use contract.Running.{givenOf, tables, tablesOf}
-use types.Kit.{Given, Item, ‵, raw, some, later, _⊛_, ⋆, _$_, _∵_, !, qed, by, move, keep, drop, use1, use2, split, join, pick, rewrite, fsplit, fsplit3, fjoin, fjoin3, feqL, feqI, suffices, frame, await, done}
+use types.Kit.{Given, Item, ‵, raw, some, later, _⊛_, ⋆, _$_, _∵_, !, qed, by, move, keep, drop, use1, use2, split, join, pick, rewrite, fsplit, fjoin, fjoin3, feqL, feqI, suffices, frame, await, done}
 use types.Run.{look, look-raw, init, store-raw, forget, stop, hop, fld, from, load, addr, of-opd, and-then, no-more, assigns, land, returns, enter, alloc1, alloc0, params1, pass1, pass0, free1, free0}
 use types.Part.{agg, whole, sub, look-in}
 use sound.WpLaws.{FmC, fmOf, WpFn-mono}
@@ -27,8 +27,7 @@ use denote.Ref.{RefT, MutRef, ShrRef, ptr-vals, mut-tells, shr-tells}
 use denote.Slice.{slice-vals, MutSlice, mut-slice-tells, Room, finally}
 use denote.Array.{Array}
 use denote.Signature.{plain, shrRefTo, typesAt}
-use denote.Steps.{only, opens, closes, owned, peeks, heard, nothing}
-use denote.Struct.Steps.{spelt}
+use denote.Steps.{only, owned, peeks, heard, nothing}
 use denote.Struct.Laws as LL
 use denote.Triple.Entry.{onEntry}
 use denote.Triple.Spec.{Meets, tripleOf}
@@ -52,7 +51,7 @@ use Rattle.finish.proofs.apply_jumps.Met as callee-thm
 use Rattle.lent.specs.declared.Ended.{Ended}
 use Rattle.lent.proofs.Ended as TE
 use Rattle.lent.proofs.Ended.Laws as TE′
-use Rattle.lent.proofs.Shape.{labels-slot, jumps-slot, asmV, tokens, closed-at}
+use Rattle.lent.proofs.Shape.{labels-slot, jumps-slot, asmV, tokens, closed-at, record-opens, record-closes}
 use Rattle.lent.proofs.apply_jumps.Key as key
 use Rattle.lent.proofs.apply_jumps as own
 use Rattle.lent.proofs.apply_jumps.Statement as stated
@@ -144,29 +143,27 @@ module _ {M : Type 1} (𝓤 : URA M) (H : Heap 𝓤) (A : Atoms 𝓤) (W : Given
         assigns ! (addr ! (from ! (fld ! refl (hop ! (look-in ! 12 (sub ! 0 refl (whole !))) (stop !))))) (from ! (stop !)) (init ! 4 refl (tt, tt)) $
         assigns ! (agg ! (and-then ! (load ! (from ! (stop !)) (look ! 4 refl)) (and-then ! (load ! (from ! (fld ! refl (stop !))) (look-in ! 12 (sub ! 1 refl (whole !)))) (no-more !)))) (from ! (stop !)) (init ! 2 refl (tt, (tt, (record { fits = room .0 }, tt)))) $
         -- the borrow of the record is opened, and the record is copied
-        move ! (19 ∷ []) $ fsplit ! $ fsplit3 ! $ drop ! $ move ! (21 ∷ []) $ split ! $ move ! (2 ∷ 3 ∷ 0 ∷ []) $
-        opens ! tt TA.the-row {h = x .now} (x .ptr .0) (x .ptr .1) (λ vs. spelt ! TA.the-row (Is TA.the-row) (shows 𝓤 H A TA.the-row) (LL.vals TA.the-type TA′.the-laws) (LL.tells TA.the-type TA′.the-laws) fullShare (x .now) vs (x .ptr .0) (x .ptr .1) $
-        move ! (1 ∷ []) $ peeks ! TA.the-row (Is TA.the-row) (shows 𝓤 H A TA.the-row) (x .now) (asmV (x .now) ∷ []) (λ g. move ! (1 ∷ 0 ∷ []) $
-        -- [the record's cell; what it owns; the open borrow; obs; auth; the other tokens; what the memory owns; _8; …; _7; …; …; _0; …]
-        assigns ! (of-opd ! (load ! (from ! (hop ! (look ! 21 refl) (stop !))) (look-raw ! 0 refl))) (from ! (stop !)) (init ! 7 refl (LL.lawful TA.the-type TA′.the-laws 𝓤 H A W .typed (x .now) _ g .0)) $
+        move ! (18 ∷ 19 ∷ []) $ split ! $ move ! (2 ∷ []) $ fsplit ! $ move ! (2 ∷ 0 ∷ []) $ record-opens ! tt x (λ g.
+        -- [the record's cell; the open borrow; obs; auth; what the memory owns; its tokens; _8; …; _7; …; …; _0; …]
+        assigns ! (of-opd ! (load ! (from ! (hop ! (look ! 20 refl) (stop !))) (look-raw ! 0 refl))) (from ! (stop !)) (init ! 6 refl (LL.lawful TA.the-type TA′.the-laws 𝓤 H A W .typed (x .now) _ g .0)) $
         -- the callee
-        move ! (5 ∷ 6 ∷ []) $ use2 W (raw (Callee 𝓤 H A at-mem run .pre to-callee)) (goes g) $
-        calls-at ! fm (Callee 𝓤 H A at-mem run) known to-callee (and-then ! (load ! (from ! (stop !)) (look ! 8 refl)) (and-then ! (load ! (from ! (stop !)) (look ! 16 refl)) (and-then ! (load ! (from ! (stop !)) (look ! 14 refl)) (and-then ! (load ! (from ! (stop !)) (look ! 6 refl)) (no-more !))))) (λ w.
+        move ! (5 ∷ 4 ∷ []) $ use2 W (raw (Callee 𝓤 H A at-mem run .pre to-callee)) (goes g) $
+        calls-at ! fm (Callee 𝓤 H A at-mem run) known to-callee (and-then ! (load ! (from ! (stop !)) (look ! 7 refl)) (and-then ! (load ! (from ! (stop !)) (look ! 15 refl)) (and-then ! (load ! (from ! (stop !)) (look ! 13 refl)) (and-then ! (load ! (from ! (stop !)) (look ! 5 refl)) (no-more !))))) (λ w.
         use1 W (later (some (λ (r : Finished). (tokens 𝓤 (κs .1) (qs .1) ⊛ ‵ (TF.the-row .own r (w ∷ []))) ⊛ raw (ensured 𝓤 H A callee.ended (callee.clauses 𝓤 H A at-mem run) (κs .1) arg tt r)))) (id⊢ 𝓤 _) $ await ! tt $ pick ! (λ r.
         split ! $ move ! (1 ∷ []) $ use1 W (some (λ (zs : Lasts). ‵ (lasts callee.ended (κs .1) arg zs) ⊛ raw (fact 𝓤 (Said r zs)))) (id⊢ 𝓤 _) $ pick ! (λ zs.
         split ! $ move ! (1 ∷ []) $ heard ! (Said r zs) (λ e. fsplit ! $ fsplit ! $ move ! (1 ∷ []) $ feqL ! (λ l.
         move ! (2 ∷ []) $ split ! $ move ! (1 ∷ []) $ peeks ! TF.the-row (Is TF.the-row) (shows 𝓤 H A TF.the-row) r (w ∷ []) (λ is.
-        -- [what came back; its tokens; the last buffer; …; the record's cell; what it owns; the open borrow; obs; auth; _8; …; _7; …; …; _0; …]
-        land ! (from ! (stop !)) (init ! 15 refl (LL.lawful TF.the-type TF′.the-laws 𝓤 H A W .typed r _ is .0)) $ rewrite ! 15 (λ (u : Val). ‵ (fat fullShare TF′.mir l₅ 0 u)) (ap only (LL.tells TF.the-type TF′.the-laws r _ is)) refl $
+        -- [what came back; its tokens; the last buffer; …; the record's cell; the open borrow; obs; auth; _8; …; _7; …; …; _0; …]
+        land ! (from ! (stop !)) (init ! 14 refl (LL.lawful TF.the-type TF′.the-laws 𝓤 H A W .typed r _ is .0)) $ rewrite ! 14 (λ (u : Val). ‵ (fat fullShare TF′.mir l₅ 0 u)) (ap only (LL.tells TF.the-type TF′.the-laws r _ is)) refl $
         let fields = LL.owed TF.the-type TF′.the-laws r _ is in
         let given = LL.owes TE.the-type TE′.the-laws (answer r) (fields .1) in
-        assigns ! (of-opd ! (load ! (from ! (fld ! refl (stop !))) (look-in ! 15 (sub ! 0 refl (whole !))))) (from ! (hop ! (look ! 23 refl) (stop !))) (store-raw ! 4 refl (LL.lawful TA.the-type TA′.the-laws 𝓤 H A W .typed (r .asm) _ (fields .0) .0)) $
-        assigns ! (agg ! (and-then ! (load ! (from ! (fld ! refl (stop !))) (look-in ! 15 (sub ! 1 refl (whole !)))) (and-then ! (load ! (from ! (fld ! refl (stop !))) (look-in ! 15 (sub ! 2 refl (whole !)))) (no-more !)))) (from ! (stop !)) (init ! 25 refl (LL.lawful TE.the-type TE′.the-laws 𝓤 H A W .typed (answer r) _ given .0)) $
+        assigns ! (of-opd ! (load ! (from ! (fld ! refl (stop !))) (look-in ! 14 (sub ! 0 refl (whole !))))) (from ! (hop ! (look ! 22 refl) (stop !))) (store-raw ! 4 refl (LL.lawful TA.the-type TA′.the-laws 𝓤 H A W .typed (r .asm) _ (fields .0) .0)) $
+        assigns ! (agg ! (and-then ! (load ! (from ! (fld ! refl (stop !))) (look-in ! 14 (sub ! 1 refl (whole !)))) (and-then ! (load ! (from ! (fld ! refl (stop !))) (look-in ! 14 (sub ! 2 refl (whole !)))) (no-more !)))) (from ! (stop !)) (init ! 24 refl (LL.lawful TE.the-type TE′.the-laws 𝓤 H A W .typed (answer r) _ given .0)) $
         -- the borrow is closed at the new record
-        move ! (5 ∷ []) $ drop ! $ owned ! TA.the-row (Is TA.the-row) (LL.makes TA.the-type TA′.the-plain 𝓤 H A) (r .asm) _ (fields .0) $ move ! (5 ∷ 0 ∷ 6 ∷ 7 ∷ 8 ∷ []) $ closes ! tt TA.the-row (r .asm) (asmV (r .asm) ∷ []) (x .ptr .0) (x .ptr .1) $
+        move ! (4 ∷ 5 ∷ 6 ∷ 7 ∷ []) $ record-closes ! tt x (r .asm) (fields .0) $
         returns ! (look ! 23 refl) $ forget ! 7 refl $ forget ! 9 refl $ forget ! 11 refl $ forget ! 13 refl $ forget ! 15 refl $ forget ! 17 refl $ forget ! 19 refl $ forget ! 21 refl $ forget ! 23 refl $
         move ! (23 ∷ 24 ∷ []) $ free1 ! $ move ! (21 ∷ 22 ∷ []) $ free1 ! $ move ! (19 ∷ 20 ∷ []) $ free1 ! $ move ! (17 ∷ 18 ∷ []) $ free1 ! $ move ! (15 ∷ 16 ∷ []) $ free1 ! $ move ! (13 ∷ 14 ∷ []) $ free1 ! $ move ! (11 ∷ 12 ∷ []) $ free1 ! $ move ! (9 ∷ 10 ∷ []) $ free1 ! $ move ! (7 ∷ 8 ∷ []) $ free1 ! $ free0 ! $
-        keep ! (0 ∷ 1 ∷ 2 ∷ 4 ∷ 5 ∷ []) $ by ! (exits r zs e l given))))))))))))))))))
+        keep ! (0 ∷ 1 ∷ 2 ∷ 4 ∷ 5 ∷ []) $ by ! (exits r zs e l given)))))))))))))))))
 
 module _ {M : Type 1} (𝓤 : URA M) (H : Heap 𝓤) (A : Atoms 𝓤) (W : Given 𝓤 H A) (at-mem : Memory → SProp 𝓤) (run : Routine → Fun 𝓤) where
   walks : (C : Calls 𝓤 H) (Λ : Loops 𝓤 H) → FmC 𝓤 H (W .laws) C → Triple 𝓤 (C callee-def.name) (Callee 𝓤 H A at-mem run) → Walks 𝓤 H A own.ended stayed (WpFn 𝓤 H C Λ code.function) (own.clauses 𝓤 H A at-mem run)

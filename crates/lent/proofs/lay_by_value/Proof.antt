@@ -1,16 +1,6 @@
 use borrow.Author.Needs.{needs}
 use Rattle.lent.proofs.lay_by_value.Statement.{statement}
 use Rattle.lent.proofs.lay_by_value.Tie as tie
-use Rattle.lent.proofs.lay_by_value.Reads as reads
-use Rattle.lent.proofs.lay_by_value.Lts as lts
-use Rattle.assembler.proofs.append_const.Reads as append-const-reads
-use Rattle.assembler.proofs.append_quad.Reads as append-quad-reads
-use Rattle.assembler.proofs.append_word.Reads as append-word-reads
-use Rattle.assembler.proofs.jump.Reads as jump-reads
-use Rattle.assembler.proofs.set_label.Reads as set-label-reads
-use Rattle.frames.proofs.save_used_registers.Reads as save-used-registers-reads
-use Rattle.lent.proofs.access_by_value.Reads as access-by-value-reads
-use Rattle.orders.proofs.emit.Reads as emit-reads
 
 enum-known-p : tie.Need-enum-known-p
 enum-known-p c = search needs
@@ -57,8 +47,26 @@ access-by-value-requires c κs = search needs
 enum-known-p-8 : tie.Need-enum-known-p-8
 enum-known-p-8 c = search needs
 
+prologue-requires : tie.Need-prologue-requires
+prologue-requires c κs = search needs
+
+enum-known-p-9 : tie.Need-enum-known-p-9
+enum-known-p-9 c = search needs
+
+epilogue-requires : tie.Need-epilogue-requires
+epilogue-requires c κs = search needs
+
+enum-known-p-10 : tie.Need-enum-known-p-10
+enum-known-p-10 c = search needs
+
 save-used-registers-requires : tie.Need-save-used-registers-requires
 save-used-registers-requires c κs = search needs
+
+enum-known-p-11 : tie.Need-enum-known-p-11
+enum-known-p-11 c = search needs
+
+load-used-registers-requires : tie.Need-load-used-registers-requires
+load-used-registers-requires c κs = search needs
 
 same-length : tie.Need-same-length
 same-length c = search needs
@@ -106,7 +114,25 @@ same-length-8 : tie.Need-same-length-8
 same-length-8 c = search needs
 
 returns-8 : tie.Need-returns-8
-returns-8 c = rw (c .before .before .before .before .before .before .before .p8 .given .1) (c .before .before .save-used-registers .ensures)
+returns-8 c = rw (c .before .before .before .before .before .before .before .p8 .given .1) (c .before .before .prologue .ensures)
+
+same-length-9 : tie.Need-same-length-9
+same-length-9 c = search needs
+
+returns-9 : tie.Need-returns-9
+returns-9 c = rw (c .before .before .before .before .before .before .before .p9 .given .1) (c .before .before .epilogue .ensures)
+
+same-length-10 : tie.Need-same-length-10
+same-length-10 c = search needs
+
+returns-10 : tie.Need-returns-10
+returns-10 c = rw (c .before .before .before .before .before .before .before .p10 .given .1) (c .before .before .save-used-registers .ensures)
+
+same-length-11 : tie.Need-same-length-11
+same-length-11 c = search needs
+
+returns-11 : tie.Need-returns-11
+returns-11 c = rw (c .before .before .before .before .before .before .before .p11 .given .1) (c .before .before .load-used-registers .ensures)
 
 pub lay-by-value-spec : {M : Type 1} → statement M
 lay-by-value-spec =
@@ -127,7 +153,13 @@ lay-by-value-spec =
     enum-known-p-7
     access-by-value-requires
     enum-known-p-8
+    prologue-requires
+    enum-known-p-9
+    epilogue-requires
+    enum-known-p-10
     save-used-registers-requires
+    enum-known-p-11
+    load-used-registers-requires
     same-length
     returns
     same-length-2
@@ -143,4 +175,10 @@ lay-by-value-spec =
     same-length-7
     returns-7
     same-length-8
-    returns-8)
+    returns-8
+    same-length-9
+    returns-9
+    same-length-10
+    returns-10
+    same-length-11
+    returns-11)
