@@ -32,7 +32,7 @@ import refusals
 
 ROW = 39
 # How many of cases.FAMILIES the program knows; refusals are listed where it knows their calls.
-LISTED = 14
+LISTED = 17
 
 FAMILY, WORDS, ZEROS, LAST, VALUE, REFUSED = 0x00, 0x01, 0x02, 0x03, 0x08, 0x09
 CALLS = {

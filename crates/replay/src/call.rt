@@ -159,6 +159,25 @@ fn ordered(
     orders::emit(o, 0, buf, labels, jumps, asm)
 }
 
+// Jumps have the tag 0 here.
+fn framed(
+    r: Row,
+    buf: &mut [u8; 65536],
+    labels: &mut [u64; 2039],
+    jumps: &mut [u32; 20480],
+    asm: Asm,
+) -> Done {
+    let k = r.kind;
+    match k {
+        0x50 => frames::prologue_fast(r.a, r.b, r.c, r.d, buf, labels, jumps, asm),
+        0x51 => frames::prologue_indirect(r.a, r.b, r.c, r.d, 0, buf, labels, jumps, asm),
+        0x52 => frames::epilogue_fast(r.a, r.b, r.c, r.d, buf, labels, jumps, asm),
+        0x53 => frames::epilogue_indirect(r.a, r.b, r.c, r.d, 0, buf, labels, jumps, asm),
+        0x54 => frames::save_used_registers(r.a, buf, labels, jumps, asm),
+        _ => frames::load_used_registers(r.a, buf, labels, jumps, asm),
+    }
+}
+
 fn answered(
     r: Row,
     buf: &mut [u8; 65536],
@@ -171,7 +190,7 @@ fn answered(
         0x10..=0x1c => assembling(r, buf, labels, jumps, asm),
         0x20..=0x28 => access(r, buf, labels, jumps, asm),
         0x30..=0x4d => ordered(r, buf, labels, jumps, asm),
-        0x54 => frames::save_used_registers(r.a, buf, labels, jumps, asm),
+        0x50..=0x55 => framed(r, buf, labels, jumps, asm),
         _ => unknown(asm),
     }
 }
