@@ -6,7 +6,7 @@ use Prim.Native.Nat.{ℕ, _≤_}
 use native.Mathlib.Omega.{arith}
 use lib.Dec.{T}
 use lib.ListN.{length, length-map}
-use Rattle.isa.specs.Instr.{Instr}
+use Rattle.isa.specs.Instr.{Instr, Valid}
 use Rattle.assembler.specs.Item.{instr}
 use Rattle.assembler.specs.State.{State}
 use Rattle.assembler.specs.Put.{put}
@@ -46,21 +46,21 @@ pub saved-few : (mask : ℕ) → length (saved mask) ≤ 12
 unfolding saved
 saved-few mask = few (in-mask mask) preserved
 
-saves-valid : (rs : List ℕ) → ((r : ℕ) → List·Memᴰ r rs → T (proper r)) → AllValid (map save rs)
-saves-valid [] g = tt
-saves-valid (r ∷ rs) g = (omega (arith, proper-fits r (g r (List·Memᴰ·head refl))), saves-valid rs (λ q m. g q (List·Memᴰ·tail m)))
+-- an instruction for each of a mask's registers, valid where each is for a register that is saved
+list-valid : (f : ℕ → Instr) → ((r : ℕ) → T (proper r) → Valid (f r)) → (rs : List ℕ) → ((r : ℕ) → List·Memᴰ r rs → T (proper r)) → AllValid (map f rs)
+list-valid f v [] g = tt
+list-valid f v (r ∷ rs) g = (v r (g r (List·Memᴰ·head refl)), list-valid f v rs (λ q m. g q (List·Memᴰ·tail m)))
+
+pub save-list-valid : (mask : ℕ) → AllValid (map save (saved mask))
+save-list-valid mask = list-valid save (λ r h. omega (arith, proper-fits r h)) (saved mask) (saved-proper mask)
 
 pub reload-list-valid : (mask : ℕ) → AllValid (map reload (saved mask))
-reload-list-valid mask = go (saved mask) (saved-proper mask)
-  where
-    go : (rs : List ℕ) → ((r : ℕ) → List·Memᴰ r rs → T (proper r)) → AllValid (map reload rs)
-    go [] g = tt
-    go (r ∷ rs) g = (omega (arith, proper-fits r (g r (List·Memᴰ·head refl))), go rs (λ q m. g q (List·Memᴰ·tail m)))
+reload-list-valid mask = list-valid reload (λ r h. omega (arith, proper-fits r h)) (saved mask) (saved-proper mask)
 
 pub saves-put : (mask : ℕ) (p : Plan) (s : State) → p ≡ plan-of (map save (saved mask)) → put 0 (plan-fault p Nothing) (plan-items p Nothing) s ≡ put 0 0 (saves mask) s
 unfolding saves
 saves-put mask p s e =
     let is = map save (saved mask) in
     let n : length is ≤ 12 = omega (arith, saved-few mask, length-map (saved mask) save) in
-    let b : Built (plan-of is) is = built is n (saves-valid (saved mask) (saved-proper mask)) in
+    let b : Built (plan-of is) is = built is n (save-list-valid mask) in
     stands-put p 0 is Nothing 0 s (rw e (b .fault)) (omega arith) (λ z. rw e (b .words)) ∙ rw (append-nil (map instr is))

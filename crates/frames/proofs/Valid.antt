@@ -1,7 +1,7 @@
 -- Every instruction of an accepted frame is valid, jumps resolved by the places of their labels. Assumes nothing.
 use mathlib.Core.Path.{_≡_, refl, ap, _∙_}
 use mathlib.Core.Bool.{Bool, true, false, _&&_, cond}
-use mathlib.Core.List.{List, [], _∷_, _++_, map, List·Memᴰ, List·Memᴰ·head, List·Memᴰ·tail}
+use mathlib.Core.List.{List, [], _∷_, _++_, map}
 use Prim.Native.Nat.{ℕ, zero, suc, _+_, _*_, _≤_, _<_}
 use native.Mathlib.Omega.{arith}
 use borrow.Author.Tests.{lt-ltb}
@@ -28,7 +28,7 @@ use Rattle.frames.specs.Items.{code, mv, kept, opening, closing, loads-f
 use Rattle.frames.specs.Whole.{copy-first, copy-each}
 use Rattle.frames.specs.Fault.{counts-hold, result-limit, result-holds, prologue-holds, epilogue-holds}
 use Rattle.frames.proofs.Walk.{Stands, stands-code, stands-left, stands-right}
-use Rattle.frames.proofs.Rows.{proper, saved-proper, proper-fits}
+use Rattle.frames.proofs.Pushes.{save-list-valid, reload-list-valid}
 use Rattle.frames.proofs.Count.{li-length, sub-stack-length, repeated-words}
 use Rattle.frames.proofs.Indirect.{forward}
 
@@ -133,19 +133,11 @@ branch-valid p here way e h = rw (e, forward here way) (omega arith)
 module _ (at : ℕ → ℕ) (here : ℕ) where
   pub saves-valid : (mask : ℕ) → AllValid at here (saves mask)
   unfolding saves
-  saves-valid mask = valid-code at here (map save (saved mask)) (go (saved mask) (λ r m. saved-proper mask r m))
-    where
-      go : (rs : List ℕ) → ((r : ℕ) → List·Memᴰ r rs → T (proper r)) → Valids (map save rs)
-      go [] g = tt
-      go (r ∷ rs) g = (omega (arith, proper-fits r (g r (List·Memᴰ·head refl))), go rs (λ q m. g q (List·Memᴰ·tail m)))
+  saves-valid mask = valid-code at here (map save (saved mask)) (save-list-valid mask)
 
   pub reloads-valid : (mask : ℕ) → AllValid at here (reloads mask)
   unfolding reloads
-  reloads-valid mask = (omega arith, valid-code at (here + 4) (map reload (saved mask)) (go (saved mask) (λ r m. saved-proper mask r m)))
-    where
-      go : (rs : List ℕ) → ((r : ℕ) → List·Memᴰ r rs → T (proper r)) → Valids (map reload rs)
-      go [] g = tt
-      go (r ∷ rs) g = (omega (arith, proper-fits r (g r (List·Memᴰ·head refl))), go rs (λ q m. g q (List·Memᴰ·tail m)))
+  reloads-valid mask = (omega arith, valid-code at (here + 4) (map reload (saved mask)) (reload-list-valid mask))
 
   pub prologue-valid : (H : Head) → T (prologue-holds H) → Stands at here (prologue H) → AllValid at here (prologue H)
   unfolding prologue
@@ -189,6 +181,6 @@ module _ (at : ℕ → ℕ) (here : ℕ) where
           let copies = repeated (H .obs) first obs-copy at-epi in
           let down = label at-done ∷ code (closing Indirect) in (
             branch-valid (at at-done) here (1 + length (resolved at (here + 4) copies)) ((stands-right at (here + 4) copies down s) .0 ∙ omega arith) (omega (arith, repeated-words at (here + 4) (H .obs) at-epi first obs-copy refl, length-append (li-code 6 (pos (8 * H .states))) (R ADD 6 6 9 ∷ []), li-length 6 (pos (8 * H .states)))),
-            valid-join at (here + 4) copies down (repeated-valid at (here + 4) (H .obs) at-epi first obs-copy refl (valids-join (li-code 6 (pos (8 * H .states))) (R ADD 6 6 9 ∷ []) (li-valid 6 (pos (8 * H .states)) (omega arith)) (omega arith)) (omega arith) (stands-left at (here + 4) copies down s))
+            valid-join at (here + 4) copies down (repeated-valid at (here + 4) (H .obs) at-epi first obs-copy refl (first-valid true (H .states)) (omega arith) (stands-left at (here + 4) copies down s))
                 (valid-code at (here + 4 + 4 * length (resolved at (here + 4) copies)) (closing Indirect) (closing-valid Indirect)),
           )

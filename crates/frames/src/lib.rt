@@ -97,7 +97,7 @@ fn trouble(fault: u8, taken: bool, words: usize, count: usize, n: usize, asm: As
     if fit { 0 } else { 7 }
 }
 
-// Asked before a part is placed whose items have so many words and jumps; nothing changes.
+// Asked before a part is placed whose items have so many words and jumps; nothing changes. A plan without words has the number.
 fn begin(
     fault: u8,
     taken: bool,
