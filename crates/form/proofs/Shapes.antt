@@ -1,5 +1,5 @@
 -- Forms, field by field. Assumes nothing.
-use mathlib.Core.Path.{_≡_, refl, sym, ap, _∙_}
+use mathlib.Core.Path.{_≡_, refl, sym, ap, ap₂, _∙_}
 use mathlib.Core.Bool.{Bool, true, false}
 use mathlib.Core.Option.{Option, some, none, Option·map}
 use mathlib.Core.List.{List, [], _∷_}
@@ -25,7 +25,7 @@ use Rattle.order.specs.declared.Binary.{Binary}
 use Rattle.order.specs.declared.Fused.{Fused}
 use Rattle.form.specs.Line.{Sort, number, integer as integer-sort, word as word-sort, place, flag, Values, place-name, flag-name, sorts}
 use Rattle.form.specs.Read.{first, all-places, all-flags, kind-of, both, read-field, read-values, with-values, read-kind, read-fields, read}
-use Rattle.form.specs.Form.{formed, form-of, named, shaped, shaped′, cons, read-numbers, numbers, first-of, only, placed, cell, flagged}
+use Rattle.form.specs.Form.{formed, form-of, named, shaped, shaped′, cons, read-numbers, numbers, before, first-of, only, placed, cell, flagged}
 use Rattle.form.specs.declared.Kind.{Kind}
 use Rattle.form.specs.declared.Kind.the-variants as Kind
 use Rattle.form.specs.declared.Form.{Form}
@@ -64,44 +64,25 @@ module _ (s : List ℕ) (a : ℕ) where
 
   -- ---- numbers, one after the other
 
-  pub none-left : (k : ℕ) → k ≡ 0 → length s < a → numbers (some []) ≡ numbers (read-numbers k (fields-from s a))
+  pub none-left : length s < a → numbers (some []) ≡ numbers (read-numbers 0 (fields-from s a))
   unfolding read-numbers
-  none-left k z h = rw (z, no-field s a h)
+  none-left h = rw (no-field s a h)
 
-  pub some-left : (k : ℕ) → k ≡ 0 → a ≤ length s → Numbers.Malformed ≡ numbers (read-numbers k (fields-from s a))
+  pub some-left : a ≤ length s → Numbers.Malformed ≡ numbers (read-numbers 0 (fields-from s a))
   unfolding read-numbers
-  some-left k z h = rw (z, field-is s a h)
+  some-left h = rw (field-is s a h)
 
-  next-number : (k : ℕ) → (k ≡ 0 → ⊥) → read-numbers k (fields-from s a) ≡ cons (first-decimal (fields-from s a)) (read-numbers (k - 1) (fields-from s (next-from s a)))
-  next-number zero h = absurd (h refl)
-  next-number (suc k) h = let z : suc k - 1 ≡ k = omega arith in rw z (step-numbers k)
+both-read : (o : Option ℕ) (q : Option (List ℕ)) → before (numeral o) (numbers q) ≡ numbers (cons o q)
+both-read none q = refl
+both-read (some n) none = refl
+both-read (some n) (some ns) = refl
 
-no-first : (o : Option ℕ) (q : Option (List ℕ)) → numeral o ≡ Numeral.Malformed → Numbers.Malformed ≡ numbers (cons o q)
-no-first none q e = refl
-no-first (some n) q e = absurd (let z : _≡_ {A = ℕ} 0 1 = cc in omega arith)
-
-no-rest : (o : Option ℕ) (q : Option (List ℕ)) → numbers q ≡ Numbers.Malformed → Numbers.Malformed ≡ numbers (cons o q)
-no-rest none q e = refl
-no-rest (some n) none e = refl
-no-rest (some n) (some ns) e = absurd (let z : _≡_ {A = ℕ} 0 1 = cc in omega arith)
-
-both-there : (o : Option ℕ) (q : Option (List ℕ)) (m b c d e f : Number) → numeral o ≡ Numeral.Is m → numbers q ≡ Numbers.Are b c d e f → Numbers.Are m b c d e ≡ numbers (cons o q)
-both-there none q m b c d e f g h = absurd (let z : _≡_ {A = ℕ} 0 1 = cc in omega arith)
-both-there (some n) none m b c d e f g h = absurd (let z : _≡_ {A = ℕ} 0 1 = cc in omega arith)
-both-there (some n) (some ns) m b c d e f g h = cc
-
-module _ (s : List ℕ) (a k : ℕ) (h : k ≡ 0 → ⊥) (x : Numeral) (n : ℕ) (r : Numbers) (ex : x ≡ numeral (first-decimal (fields-from s a))) (en : n ≡ next-from s a) (er : r ≡ numbers (read-numbers (k - 1) (fields-from s n))) where
-  from-next : r ≡ numbers (read-numbers (k - 1) (fields-from s (next-from s a)))
-  from-next = er ∙ ap (λ (m : ℕ). numbers (read-numbers (k - 1) (fields-from s m))) en
-
-  pub first-bad : x ≡ Numeral.Malformed → Numbers.Malformed ≡ numbers (read-numbers k (fields-from s a))
-  first-bad e = rw (next-number s a k h) (no-first (first-decimal (fields-from s a)) (read-numbers (k - 1) (fields-from s (next-from s a))) (sym ex ∙ e))
-
-  pub rest-bad : r ≡ Numbers.Malformed → Numbers.Malformed ≡ numbers (read-numbers k (fields-from s a))
-  rest-bad e = rw (next-number s a k h) (no-rest (first-decimal (fields-from s a)) (read-numbers (k - 1) (fields-from s (next-from s a))) (sym from-next ∙ e))
-
-  pub all-good : (m b c d e f : Number) → x ≡ Numeral.Is m → r ≡ Numbers.Are b c d e f → Numbers.Are m b c d e ≡ numbers (read-numbers k (fields-from s a))
-  all-good m b c d e f g i = rw (next-number s a k h) (both-there (first-decimal (fields-from s a)) (read-numbers (k - 1) (fields-from s (next-from s a))) m b c d e f (sym ex ∙ g) (sym from-next ∙ i))
+-- the number in the field at a, and the k from the next place on
+pub one-more : (k : ℕ) (s : List ℕ) (a : ℕ) {x : Numeral} {n : ℕ} {r : Numbers} → x ≡ numeral (first-decimal (fields-from s a)) → n ≡ next-from s a → r ≡ numbers (read-numbers k (fields-from s n)) → before x r ≡ numbers (read-numbers (suc k) (fields-from s a))
+one-more k s a ex en er =
+    ap₂ before ex (er ∙ ap (λ (m : ℕ). numbers (read-numbers k (fields-from s m))) en)
+    ∙ both-read (first-decimal (fields-from s a)) (read-numbers k (fields-from s (next-from s a)))
+    ∙ ap numbers (sym (step-numbers s a k))
 
 -- numbers as values
 abbrev tuple : (k i : ℕ) → List ℕ → Values (replicate k number)

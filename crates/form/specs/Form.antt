@@ -6,6 +6,8 @@ use Prim.Native.Nat.{ℕ, zero, suc}
 use lib.IntN.{ℤ, pos, negsuc}
 use lib.ListN.{getD}
 use Rattle.text.specs.Digits.{read-decimal, sized}
+use Rattle.text.specs.declared.Numeral.{Numeral}
+use Rattle.text.specs.declared.Numeral.the-variants as Numeral
 use Rattle.order.specs.declared.Place.{Place}
 use Rattle.form.specs.Line.{Sort, number, place, Value, Values, sorts, Line}
 use Rattle.form.specs.Read.{read, read-field, read-values}
@@ -90,6 +92,12 @@ read-numbers (suc k) (f ∷ fs) = cons (read-decimal f) (read-numbers k fs)
 abbrev pub numbers : Option (List ℕ) → Numbers
 numbers none = Numbers.Malformed
 numbers (some ns) = Numbers.Are (sized (getD ns 0 0)) (sized (getD ns 1 0)) (sized (getD ns 2 0)) (sized (getD ns 3 0)) (sized (getD ns 4 0))
+
+-- a number before others; the last of those is dropped
+abbrev pub before : Numeral → Numbers → Numbers
+before Numeral.Malformed r = Numbers.Malformed
+before (Numeral.Is n) Numbers.Malformed = Numbers.Malformed
+before (Numeral.Is n) (Numbers.Are b c d e f) = Numbers.Are n b c d e
 
 -- the value of the first of the fields
 abbrev pub first-of : (q : Sort) → List (List ℕ) → Option (Value q)

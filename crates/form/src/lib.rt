@@ -4,7 +4,7 @@ ghost use mathlib.Core.List.{[], _∷_};
 ghost use Rattle.text.specs.Fields.{split, same, fields-from, next-from};
 ghost use Rattle.form.specs.Line.{name, place-name, flag-name, number, place, flag};
 ghost use Rattle.form.specs.Read.{first, names-two, names-three, names-four, names-five, names-six, names-longer, kind-of, all-places, all-flags, read-values, read-fields};
-ghost use Rattle.form.specs.Form.{form-of, formed, shaped, named, or-named, numbers, read-numbers, first-of, only, placed, cell, flagged};
+ghost use Rattle.form.specs.Form.{form-of, formed, shaped, named, or-named, numbers, read-numbers, before, first-of, only, placed, cell, flagged};
 use order::Binary;
 use order::Frame;
 use order::Fused;
@@ -186,26 +186,11 @@ fn kind_named(s: &[u8]) -> Named
 
 // ---- forms: the fields behind the name start at a
 
-// Exactly `count` number fields, to the line's end.
-fn read_numbers(s: &[u8], a: usize, count: u32) -> Numbers
-    ensures { λ r. ⌜ r ≡ numbers (read-numbers count (fields-from (now (s .entry)) a)) ⌝ }
+// A number before others.
+fn joined(x: Numeral, rest: Numbers) -> Numbers
+    ensures { λ r. ⌜ r ≡ before x rest ⌝ }
 {
-    if count == 0 {
-        if s.len() < a {
-            return Numbers::Are(
-                Number::Value(0),
-                Number::Value(0),
-                Number::Value(0),
-                Number::Value(0),
-                Number::Value(0),
-            );
-        }
-        return Numbers::Malformed;
-    }
-    let x = text::number_at(s, a);
-    let rest = read_numbers(s, x.next, count - 1);
-    let n = x.numeral;
-    let Numeral::Is(first) = n else {
+    let Numeral::Is(first) = x else {
         return Numbers::Malformed;
     };
     let Numbers::Are(b, c, d, e, _) = rest else {
@@ -214,10 +199,71 @@ fn read_numbers(s: &[u8], a: usize, count: u32) -> Numbers
     Numbers::Are(first, b, c, d, e)
 }
 
+// Exactly so many number fields, to the line's end.
+fn no_number(s: &[u8], a: usize) -> Numbers
+    ensures { λ r. ⌜ r ≡ numbers (read-numbers 0 (fields-from (now (s .entry)) a)) ⌝ }
+{
+    if s.len() < a {
+        return Numbers::Are(
+            Number::Value(0),
+            Number::Value(0),
+            Number::Value(0),
+            Number::Value(0),
+            Number::Value(0),
+        );
+    }
+    Numbers::Malformed
+}
+
+fn one_number(s: &[u8], a: usize) -> Numbers
+    ensures { λ r. ⌜ r ≡ numbers (read-numbers 1 (fields-from (now (s .entry)) a)) ⌝ }
+{
+    let x = text::number_at(s, a);
+    let rest = no_number(s, x.next);
+    let n = x.numeral;
+    joined(n, rest)
+}
+
+fn two_numbers(s: &[u8], a: usize) -> Numbers
+    ensures { λ r. ⌜ r ≡ numbers (read-numbers 2 (fields-from (now (s .entry)) a)) ⌝ }
+{
+    let x = text::number_at(s, a);
+    let rest = one_number(s, x.next);
+    let n = x.numeral;
+    joined(n, rest)
+}
+
+fn three_numbers(s: &[u8], a: usize) -> Numbers
+    ensures { λ r. ⌜ r ≡ numbers (read-numbers 3 (fields-from (now (s .entry)) a)) ⌝ }
+{
+    let x = text::number_at(s, a);
+    let rest = two_numbers(s, x.next);
+    let n = x.numeral;
+    joined(n, rest)
+}
+
+fn four_numbers(s: &[u8], a: usize) -> Numbers
+    ensures { λ r. ⌜ r ≡ numbers (read-numbers 4 (fields-from (now (s .entry)) a)) ⌝ }
+{
+    let x = text::number_at(s, a);
+    let rest = three_numbers(s, x.next);
+    let n = x.numeral;
+    joined(n, rest)
+}
+
+fn five_numbers(s: &[u8], a: usize) -> Numbers
+    ensures { λ r. ⌜ r ≡ numbers (read-numbers 5 (fields-from (now (s .entry)) a)) ⌝ }
+{
+    let x = text::number_at(s, a);
+    let rest = four_numbers(s, x.next);
+    let n = x.numeral;
+    joined(n, rest)
+}
+
 fn form_head(f: Frame, s: &[u8], a: usize) -> Form
     ensures { λ r. ⌜ r ≡ shaped (Kind.Head f) (fields-from (now (s .entry)) a) ⌝ }
 {
-    let Numbers::Are(cap, states, obs, last, mask) = read_numbers(s, a, 5) else {
+    let Numbers::Are(cap, states, obs, last, mask) = five_numbers(s, a) else {
         return Form::Malformed;
     };
     Form::Head(f, cap, states, obs, last, mask)
@@ -226,7 +272,7 @@ fn form_head(f: Frame, s: &[u8], a: usize) -> Form
 fn form_unary(u: Unary, s: &[u8], a: usize) -> Form
     ensures { λ r. ⌜ r ≡ shaped (Kind.Unary u) (fields-from (now (s .entry)) a) ⌝ }
 {
-    let Numbers::Are(d, x, _, _, _) = read_numbers(s, a, 2) else {
+    let Numbers::Are(d, x, _, _, _) = two_numbers(s, a) else {
         return Form::Malformed;
     };
     Form::Unary(u, d, x)
@@ -235,7 +281,7 @@ fn form_unary(u: Unary, s: &[u8], a: usize) -> Form
 fn form_scratched(u: Scratched, s: &[u8], a: usize) -> Form
     ensures { λ r. ⌜ r ≡ shaped (Kind.Scratched u) (fields-from (now (s .entry)) a) ⌝ }
 {
-    let Numbers::Are(d, x, t, _, _) = read_numbers(s, a, 3) else {
+    let Numbers::Are(d, x, t, _, _) = three_numbers(s, a) else {
         return Form::Malformed;
     };
     Form::Scratched(u, d, x, t)
@@ -244,7 +290,7 @@ fn form_scratched(u: Scratched, s: &[u8], a: usize) -> Form
 fn form_binary(u: Binary, s: &[u8], a: usize) -> Form
     ensures { λ r. ⌜ r ≡ shaped (Kind.Binary u) (fields-from (now (s .entry)) a) ⌝ }
 {
-    let Numbers::Are(d, x, y, _, _) = read_numbers(s, a, 3) else {
+    let Numbers::Are(d, x, y, _, _) = three_numbers(s, a) else {
         return Form::Malformed;
     };
     Form::Binary(u, d, x, y)
@@ -253,7 +299,7 @@ fn form_binary(u: Binary, s: &[u8], a: usize) -> Form
 fn form_fused(u: Fused, s: &[u8], a: usize) -> Form
     ensures { λ r. ⌜ r ≡ shaped (Kind.Fused u) (fields-from (now (s .entry)) a) ⌝ }
 {
-    let Numbers::Are(d, x, y, z, _) = read_numbers(s, a, 4) else {
+    let Numbers::Are(d, x, y, z, _) = four_numbers(s, a) else {
         return Form::Malformed;
     };
     Form::Fused(u, d, x, y, z)
@@ -262,7 +308,7 @@ fn form_fused(u: Fused, s: &[u8], a: usize) -> Form
 fn form_ifelse(s: &[u8], a: usize) -> Form
     ensures { λ r. ⌜ r ≡ shaped Kind.Ifelse (fields-from (now (s .entry)) a) ⌝ }
 {
-    let Numbers::Are(d, x, y, i, _) = read_numbers(s, a, 4) else {
+    let Numbers::Are(d, x, y, i, _) = four_numbers(s, a) else {
         return Form::Malformed;
     };
     Form::Ifelse(d, x, y, i)
@@ -271,7 +317,7 @@ fn form_ifelse(s: &[u8], a: usize) -> Form
 fn form_load_const(s: &[u8], a: usize) -> Form
     ensures { λ r. ⌜ r ≡ shaped Kind.LoadConst (fields-from (now (s .entry)) a) ⌝ }
 {
-    let Numbers::Are(d, k, _, _, _) = read_numbers(s, a, 2) else {
+    let Numbers::Are(d, k, _, _, _) = two_numbers(s, a) else {
         return Form::Malformed;
     };
     Form::LoadConst(d, k)
@@ -280,7 +326,7 @@ fn form_load_const(s: &[u8], a: usize) -> Form
 fn form_label(s: &[u8], a: usize) -> Form
     ensures { λ r. ⌜ r ≡ shaped Kind.SetLabel (fields-from (now (s .entry)) a) ⌝ }
 {
-    let Numbers::Are(n, _, _, _, _) = read_numbers(s, a, 1) else {
+    let Numbers::Are(n, _, _, _, _) = one_number(s, a) else {
         return Form::Malformed;
     };
     Form::SetLabel(n)
@@ -325,7 +371,7 @@ fn read_cell(s: &[u8], a: usize) -> Cell
 {
     let x = text::number_at(s, a);
     let y = place_at(s, x.next);
-    let Numbers::Are(i, _, _, _, _) = read_numbers(s, y.next, 1) else {
+    let Numbers::Are(i, _, _, _, _) = one_number(s, y.next) else {
         return Cell::Malformed;
     };
     let n = x.numeral;

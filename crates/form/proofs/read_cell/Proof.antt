@@ -10,8 +10,8 @@ number-at-requires c κs = search needs
 place-at-requires : tie.Need-place-at-requires
 place-at-requires c κs = search needs
 
-read-numbers-requires : tie.Need-read-numbers-requires
-read-numbers-requires c κs = search needs
+one-number-requires : tie.Need-one-number-requires
+one-number-requires c κs = search needs
 
 enum-known-i : tie.Need-enum-known-i
 enum-known-i c = search needs
@@ -25,7 +25,7 @@ returns c =
     let p = r .before in
     let x = p .before in
     let a = x .before .before .args in
-    cell-no-index (now (a .s)) (a .a) _ _ _ _ _ (x .number-at .ensures .0) (x .number-at .ensures .1) (p .place-at .ensures .0) (p .place-at .ensures .1) (r .read-numbers .ensures) (c .enum-told .given .1)
+    cell-no-index (now (a .s)) (a .a) _ _ _ _ _ (x .number-at .ensures .0) (x .number-at .ensures .1) (p .place-at .ensures .0) (p .place-at .ensures .1) (r .one-number .ensures) (c .enum-told .given .1)
 
 enum-known-n : tie.Need-enum-known-n
 enum-known-n c = search needs
@@ -39,7 +39,7 @@ returns-2 c =
     let p = r .before in
     let x = p .before in
     let a = x .before .before .args in
-    cell-no-number (now (a .s)) (a .a) _ _ _ _ _ (x .number-at .ensures .0) (x .number-at .ensures .1) (p .place-at .ensures .0) (p .place-at .ensures .1) (r .read-numbers .ensures) (c .enum-told2 .given .1)
+    cell-no-number (now (a .s)) (a .a) _ _ _ _ _ (x .number-at .ensures .0) (x .number-at .ensures .1) (p .place-at .ensures .0) (p .place-at .ensures .1) (r .one-number .ensures) (c .enum-told2 .given .1)
 
 enum-known-w : tie.Need-enum-known-w
 enum-known-w c = search needs
@@ -53,7 +53,7 @@ returns-3 c =
     let p = r .before in
     let x = p .before in
     let a = x .before .before .args in
-    cell-no-place (now (a .s)) (a .a) _ _ _ _ _ (x .number-at .ensures .0) (x .number-at .ensures .1) (p .place-at .ensures .0) (p .place-at .ensures .1) (r .read-numbers .ensures) (c .enum-told3 .given .1)
+    cell-no-place (now (a .s)) (a .a) _ _ _ _ _ (x .number-at .ensures .0) (x .number-at .ensures .1) (p .place-at .ensures .0) (p .place-at .ensures .1) (r .one-number .ensures) (c .enum-told3 .given .1)
 
 returns-4 : tie.Need-returns-4
 returns-4 c =
@@ -61,7 +61,7 @@ returns-4 c =
     let p = r .before in
     let x = p .before in
     let a = x .before .before .args in
-    cell-is (now (a .s)) (a .a) _ _ _ _ _ (x .number-at .ensures .0) (x .number-at .ensures .1) (p .place-at .ensures .0) (p .place-at .ensures .1) (r .read-numbers .ensures) _ _ _ _ _ _ _ (c .before .before .before .before .n .given .1) (c .before .w .given .1) (c .before .before .before .before .before .before .before .i .given .1)
+    cell-is (now (a .s)) (a .a) _ _ _ _ _ (x .number-at .ensures .0) (x .number-at .ensures .1) (p .place-at .ensures .0) (p .place-at .ensures .1) (r .one-number .ensures) _ _ _ _ _ _ _ (c .before .before .before .before .n .given .1) (c .before .w .given .1) (c .before .before .before .before .before .before .before .i .given .1)
 
 pub read-cell-spec : {M : Type 1} → statement M
 read-cell-spec =
@@ -69,7 +69,7 @@ read-cell-spec =
     (tie.spec
     number-at-requires
     place-at-requires
-    read-numbers-requires
+    one-number-requires
     enum-known-i
     enum-told
     returns
