@@ -10,7 +10,7 @@ use Rattle.machine.specs.Word.{w64, dist, byte, load8, store8}
 use Rattle.machine.specs.State.{State}
 use Rattle.machine.proofs.Memory.{store-miss}
 use Rattle.order.specs.declared.Head.{Head}
-use Rattle.frames.proofs.Claim as F
+use Rattle.framing.proofs.Claim as F
 use Rattle.call.specs.Terms.{table-cell, observed}
 
 -- ---- bytes of a value

@@ -9,6 +9,7 @@ use native.Mathlib.Omega.{arith}
 use borrow.Author.Tests.{eqb-true}
 use lib.Dec.{T, eqb, leb, lit<, ltb→lt, T-not}
 use lib.ListN.{length, getD}
+use Rattle.order.specs.Count.{cells, cell-count}
 use Rattle.machine.specs.Word.{w64, upd, dist, load8}
 use Rattle.machine.specs.Floats.{Floats}
 use Rattle.machine.specs.State.{State, Sound}
@@ -21,16 +22,16 @@ use Rattle.order.specs.declared.Place.the-variants.{Mem, Stack, Param}
 use Rattle.order.specs.declared.Frame.{Frame}
 use Rattle.order.specs.declared.Frame.the-variants.{Fast, Indirect}
 use Rattle.order.specs.declared.Head.{Head}
-use Rattle.frames.specs.Size.{cells, uses-table, holds-mem}
-use Rattle.frames.specs.Items.{kept}
-use Rattle.frames.specs.Mask.{preserved, chosen, in-mask, saved}
-use Rattle.frames.specs.Fault.{prologue-holds, result-holds}
-use Rattle.frames.proofs.Claim.{mem-at, Observed-at, sets, end-sets, prologue-steps, epilogue-steps, Ready}
-use Rattle.frames.proofs.Claim as F
-use Rattle.frames.proofs.Closing.{leaves}
+use Rattle.framing.specs.Size.{uses-table, holds-mem}
+use Rattle.framing.specs.Items.{kept}
+use Rattle.order.specs.Mask.{preserved, chosen, in-mask, saved}
+use Rattle.framing.specs.Fault.{prologue-holds, result-holds}
+use Rattle.framing.proofs.Claim.{mem-at, Observed-at, sets, end-sets, prologue-steps, epilogue-steps, Ready}
+use Rattle.framing.proofs.Claim as F
+use Rattle.framing.proofs.Closing.{leaves}
 use Rattle.call.specs.Program.{Program}
 use Rattle.call.specs.Plain.{Reading, Reads, Ended}
-use Rattle.call.specs.Terms.{table-used, bottom, base, cell-count, cell-address, as-called, table-cell, start-f, start, observed, end-obs, Within, frame, Terms}
+use Rattle.call.specs.Terms.{table-used, bottom, base, cell-address, as-called, table-cell, start-f, start, observed, end-obs, Within, frame, Terms}
 use Rattle.call.specs.Layout.{place, code-length, routine-words, line-offset}
 use Rattle.call.specs.Good.{member, Good}
 use Rattle.call.specs.Claim.{callers, Byte-of, Observation, Returned, Claim, ForwardClaim}

@@ -25,8 +25,8 @@ use Rattle.reading.specs.Meaning.{meaning, binary}
 use Rattle.reading.specs.Line.{Line, order, constant}
 use Rattle.orders.specs.Code.{code, line-code, binary-code}
 use Rattle.orders.specs.Fault.{fault}
-use Rattle.frames.specs.Mask.{saved}
-use Rattle.frames.specs.Items.{repeated, prologue, saves, reloads, epilogue}
+use Rattle.order.specs.Mask.{saved}
+use Rattle.framing.specs.Items.{repeated, prologue, saves, reloads, epilogue}
 use Rattle.call.specs.Program.{Program, constants}
 use Rattle.call.specs.Plain.{Reading, with-cell, means, with-meaning, does, Reads, none-read, line-read}
 use Rattle.call.specs.Terms.{table-cell, start, Clear, frame, regions, Terms}

@@ -8,6 +8,7 @@ use native.Mathlib.Omega.{arith}
 use borrow.Author.Tests.{ltb-true, ltb-false, eqb-true, eqb-false, leb-true}
 use lib.Dec.{T, eqb, ltb, leb, eqb·suc-zero}
 use lib.ListN.{length}
+use Rattle.order.specs.Count.{cells, param-count, cell-count}
 use Rattle.machine.specs.Word.{w64, upd, dist, load8}
 use Rattle.machine.specs.Floats.{Floats}
 use Rattle.machine.specs.State.{State, Sound}
@@ -23,13 +24,13 @@ use Rattle.order.specs.declared.Frame.the-variants.{Fast, Indirect}
 use Rattle.order.specs.declared.Head.{Head}
 use Rattle.assembler.specs.Resolved.{resolved}
 use Rattle.orders.specs.Code as O
-use Rattle.frames.specs.Size.{cells, holds-mem, stack-size}
-use Rattle.frames.specs.Fault.{prologue-holds}
-use Rattle.frames.specs.Mask.{saved, save-cell}
-use Rattle.frames.proofs.Claim.{mem-at, state-of, indirect, Called, Ready}
-use Rattle.frames.proofs.Opened.{opens}
+use Rattle.framing.specs.Size.{holds-mem, stack-size}
+use Rattle.framing.specs.Fault.{prologue-holds}
+use Rattle.order.specs.Mask.{saved, save-cell}
+use Rattle.framing.proofs.Claim.{mem-at, state-of, indirect, Called, Ready}
+use Rattle.framing.proofs.Opened.{opens}
 use Rattle.call.specs.Program.{Program}
-use Rattle.call.specs.Terms.{table-used, frame-bytes, bottom, base, param-count, cell-count, as-called, table-cell, state-value, stack-value, start-cells, start-f, start, Terms}
+use Rattle.call.specs.Terms.{table-used, frame-bytes, bottom, base, as-called, table-cell, state-value, stack-value, start-cells, start-f, start, Terms}
 use Rattle.call.specs.Layout.{span, body, items, place, entry, exit, code-items, data-items, code-length, routine-words, line-offset}
 use Rattle.call.specs.Good.{cap-holds, Good}
 use Rattle.call.proofs.Items.{span-append, resolved-length}

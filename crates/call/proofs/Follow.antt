@@ -8,6 +8,7 @@ use native.Mathlib.Omega.{arith}
 use borrow.Author.Tests.{ne-eqb}
 use lib.Dec.{T, eqb, leb}
 use lib.ListN.{length, getElem?}
+use Rattle.order.specs.Count.{cell-count}
 use Rattle.machine.specs.Word.{w64, load8}
 use Rattle.machine.specs.Floats.{Floats}
 use Rattle.machine.specs.State.{State, Sound, getx}
@@ -29,7 +30,6 @@ use Rattle.orders.proofs.Does.{order-does}
 use Rattle.orders.proofs.Laws.{line-length}
 use Rattle.call.specs.Program.{Program}
 use Rattle.call.specs.Plain.{Reading, goes, const, means, with-meaning, passed, Step, does, passes, Reads, none-read, line-read}
-use Rattle.call.specs.Terms.{cell-count}
 use Rattle.call.specs.Layout.{span, place, items, code-length, routine-words, line-offset}
 use Rattle.call.specs.Good.{GoodOrder, Good}
 use Rattle.call.proofs.Items.{resolved-length}

@@ -12,7 +12,7 @@ use lib.ListN.{length}
 use Rattle.isa.specs.Instr.{Instr}
 use Rattle.assembler.specs.Item.{Item, instr, raw, jump, label}
 use Rattle.assembler.specs.Resolved.{resolved, label-place}
-use Rattle.frames.proofs.Walk.{Stands}
+use Rattle.framing.proofs.Walk.{Stands}
 use Rattle.call.specs.Layout.{span}
 
 pub span-append : (xs ys : List Item) → span (xs ++ ys) ≡ span xs + span ys

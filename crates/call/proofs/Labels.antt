@@ -13,9 +13,9 @@ use Rattle.order.specs.declared.Head.{Head}
 use Rattle.assembler.specs.Item.{Item, jump, label}
 use Rattle.assembler.specs.declared.Kind.the-variants.{Bne}
 use Rattle.accesses.specs.Code.{li-code, sub-stack-code, allocate-stack-code}
-use Rattle.frames.specs.Size.{frame-size, stack-size}
-use Rattle.frames.specs.Mask.{saved}
-use Rattle.frames.specs.Items.{code, mv, opening, closing, times-over, states-from, state-copy, obs-copy, at-pro, at-epi, at-done, at-main, save, reload, by-frame, repeated, prologue, prologue-fast, prologue-indirect, epilogue, epilogue-fast, epilogue-indirect, saves, reloads}
+use Rattle.framing.specs.Size.{frame-size, stack-size}
+use Rattle.order.specs.Mask.{saved}
+use Rattle.framing.specs.Items.{code, mv, opening, closing, times-over, states-from, state-copy, obs-copy, at-pro, at-epi, at-done, at-main, save, reload, by-frame, repeated, prologue, prologue-fast, prologue-indirect, epilogue, epilogue-fast, epilogue-indirect, saves, reloads}
 use Rattle.call.proofs.Items.{Fresh, fresh-instrs, fresh-then}
 
 -- those of prologues, and those of what follows the body

@@ -5,6 +5,7 @@ use Prim.Native.Nat.{ℕ, _+_, _*_, _^_, _≤_, _<_}
 use native.Mathlib.Omega.{arith}
 use lib.Dec.{T, ltb, ltb→lt}
 use lib.ListN.{length}
+use Rattle.order.specs.Count.{cells, cell-count}
 use Rattle.machine.specs.Word.{w64, dist, load8}
 use Rattle.machine.specs.Floats.{Floats}
 use Rattle.machine.specs.State.{State, Sound}
@@ -17,14 +18,14 @@ use Rattle.order.specs.declared.Frame.{Frame}
 use Rattle.order.specs.declared.Frame.the-variants.{Fast, Indirect}
 use Rattle.order.specs.declared.Head.{Head}
 use Rattle.assembler.specs.Resolved.{resolved}
-use Rattle.frames.specs.Size.{cells, save-size, below-saves}
-use Rattle.frames.specs.Items.{kept}
-use Rattle.frames.specs.Mask.{saved, save-cell}
-use Rattle.frames.proofs.Rows.{saved-proper}
-use Rattle.frames.proofs.Claim.{Observed-at, Ready, Leaving}
+use Rattle.framing.specs.Size.{save-size, below-saves}
+use Rattle.framing.specs.Items.{kept}
+use Rattle.order.specs.Mask.{saved, save-cell}
+use Rattle.framing.proofs.Rows.{saved-proper}
+use Rattle.framing.proofs.Claim.{Observed-at, Ready, Leaving}
 use Rattle.call.specs.Program.{Program}
 use Rattle.call.specs.Plain.{Reading, Reads, Ended}
-use Rattle.call.specs.Terms.{table-used, frame-bytes, bottom, base, cell-count, start, Within, frame, Terms}
+use Rattle.call.specs.Terms.{table-used, frame-bytes, bottom, base, start, Within, frame, Terms}
 use Rattle.call.specs.Layout.{span, body, items, place, entry, exit, code-items, data-items, code-length, routine-words, line-offset}
 use Rattle.call.specs.Good.{Good}
 use Rattle.call.proofs.Items.{span-append, resolved-length}

@@ -5,6 +5,7 @@ use mathlib.Core.List.{[], _∷_}
 use Prim.Native.Nat.{ℕ, zero, suc, _+_, _-_, _*_, _^_, _≤_, _<_}
 use native.Mathlib.Omega.{arith}
 use lib.Dec.{T, eqb, leb, leb→le}
+use Rattle.order.specs.Count.{cells, cell-count}
 use Rattle.machine.specs.Word.{w64, dist}
 use Rattle.machine.specs.State.{State, Sound}
 use Rattle.machine.proofs.Memory.{dist-back}
@@ -14,10 +15,10 @@ use Rattle.order.specs.declared.Place.the-variants.{Mem, Stack, Param}
 use Rattle.order.specs.declared.Frame.{Frame}
 use Rattle.order.specs.declared.Frame.the-variants.{Fast, Indirect}
 use Rattle.order.specs.declared.Head.{Head}
-use Rattle.frames.specs.Size.{align16, cells, holds-mem, stack-size, below-saves}
-use Rattle.frames.specs.Fault.{epilogue-holds}
+use Rattle.framing.specs.Size.{align16, holds-mem, stack-size, below-saves}
+use Rattle.framing.specs.Fault.{epilogue-holds}
 use Rattle.call.specs.Plain.{same-place}
-use Rattle.call.specs.Terms.{cell-count, table-used, frame-bytes, bottom, base, table-cell, Within, code, frame, table, block, params, Separate, Terms}
+use Rattle.call.specs.Terms.{table-used, frame-bytes, bottom, base, table-cell, Within, code, frame, table, block, params, Separate, Terms}
 use Rattle.call.proofs.Cells.{Inside, Rooms}
 
 pub record Lies (H : Head) (len : ℕ) (s : State) : Type 0 where

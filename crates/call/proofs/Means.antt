@@ -6,6 +6,7 @@ use Prim.Native.Nat.{ℕ, _^_, _≤_, _<_}
 use native.Mathlib.Omega.{arith}
 use lib.Dec.{T, leb, leb→le, ltb→lt}
 use lib.ListN.{length}
+use Rattle.order.specs.Count.{cell-count, index-holds}
 use Rattle.machine.specs.Floats.{Floats}
 use Rattle.order.specs.declared.Place.{Place}
 use Rattle.order.specs.declared.Place.the-variants.{Stack}
@@ -17,8 +18,7 @@ use Rattle.reading.specs.Meaning.{on, to, jumps, meaning}
 use Rattle.reading.specs.Line.{Line}
 use Rattle.orders.specs.Fault.{registers-fit, fault}
 use Rattle.call.specs.Program.{constants}
-use Rattle.call.specs.Terms.{cell-count}
-use Rattle.call.specs.Good.{index-holds, Named}
+use Rattle.call.specs.Good.{Named}
 use Rattle.call.proofs.Cells.{Fine}
 
 -- labels and constants that the orders take

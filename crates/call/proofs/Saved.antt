@@ -22,7 +22,7 @@ use Rattle.order.specs.declared.Order.{Order}
 use Rattle.order.specs.declared.Order.the-variants.{Unary, Scratched, Binary, Fused, Ifelse, LoadConst, Load, Save, BranchIf, SetLabel}
 use Rattle.reading.specs.Meaning.{unary, scratched, meaning}
 use Rattle.reading.specs.Line.{Line}
-use Rattle.frames.specs.Mask.{preserved, in-mask, saved, save-cell}
+use Rattle.order.specs.Mask.{preserved, in-mask, saved, save-cell}
 use Rattle.call.specs.Program.{Program}
 use Rattle.call.specs.Plain.{Reading, with-cell, with-cells, Step, does, passes, Reads, none-read, line-read}
 use Rattle.call.specs.Good.{member, all-hold, unary-writes, writes, free, stores-open, Good}

@@ -27,8 +27,8 @@ use Rattle.isa.specs.Instr.{R, I, ADD, FLD}
 use lib.IntN.{pos}
 use Rattle.accesses.specs.Code.{li-code}
 use Rattle.accesses.proofs.Then.{passed}
-use Rattle.frames.specs.Items.{code as instrs, obs-copy, at-epi, at-done, by-frame, repeated, closing, epilogue, epilogue-fast, epilogue-indirect, reloads}
-use Rattle.frames.proofs.Walk.{Stands}
+use Rattle.framing.specs.Items.{code as instrs, obs-copy, at-epi, at-done, by-frame, repeated, closing, epilogue, epilogue-fast, epilogue-indirect, reloads}
+use Rattle.framing.proofs.Walk.{Stands}
 use Rattle.call.specs.Program.{Program, constants, label-line}
 use Rattle.call.specs.Layout.{span, body, constants-from, entry, exit, code-items, data-items, items, constants-offset, place, routine-words, line-offset}
 use Rattle.call.specs.Good.{Good}

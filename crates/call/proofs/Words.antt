@@ -23,10 +23,10 @@ use Rattle.reading.specs.Line.{Line, order, constant}
 use Rattle.orders.specs.Code.{code, line-code, resolve}
 use Rattle.orders.specs.Fault.{fault}
 use Rattle.orders.proofs.Laws.{code-words, code-valid}
-use Rattle.frames.specs.Fault.{prologue-holds}
-use Rattle.frames.specs.Items.{prologue, saves, reloads, epilogue}
-use Rattle.frames.proofs.Walk.{stands-left, stands-right}
-use Rattle.frames.proofs.Valid.{AllValid, prologue-valid, saves-valid, reloads-valid, epilogue-valid}
+use Rattle.framing.specs.Fault.{prologue-holds}
+use Rattle.framing.specs.Items.{prologue, saves, reloads, epilogue}
+use Rattle.framing.proofs.Walk.{stands-left, stands-right}
+use Rattle.framing.proofs.Valid.{AllValid, prologue-valid, saves-valid, reloads-valid, epilogue-valid}
 use Rattle.call.specs.Program.{Program, constants}
 use Rattle.call.specs.Layout.{span, body, constants-from, entry, exit, code-items, data-items, items, constants-offset, place, routine-words, line-offset}
 use Rattle.call.specs.Good.{Good}

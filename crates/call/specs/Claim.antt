@@ -3,6 +3,7 @@ use mathlib.Core.Path.{_≡_}
 use mathlib.Core.List.{List, [], _∷_}
 use Prim.Native.Nat.{ℕ, _+_, _*_, _^_, _≤_, _<_}
 use lib.Dec.{T}
+use Rattle.order.specs.Count.{cell-count}
 use Rattle.machine.specs.Word.{w64, load8}
 use Rattle.machine.specs.Floats.{Floats}
 use Rattle.machine.specs.State.{State, Sound}
@@ -12,11 +13,11 @@ use Rattle.order.specs.declared.Place.the-variants.{Mem}
 use Rattle.order.specs.declared.Head.{Head}
 use Rattle.order.specs.declared.Frame.the-variants.{Fast}
 use Rattle.assembler.specs.Bytes.{bytes}
-use Rattle.frames.specs.Mask.{preserved}
-use Rattle.frames.proofs.Claim.{prologue-steps, epilogue-steps}
+use Rattle.order.specs.Mask.{preserved}
+use Rattle.framing.proofs.Claim.{prologue-steps, epilogue-steps}
 use Rattle.call.specs.Program.{Program}
 use Rattle.call.specs.Plain.{Reading, Reads, Ended, Forward}
-use Rattle.call.specs.Terms.{table-used, cell-count, cell-address, as-called, table-cell, start, end-obs, Within, frame, Terms}
+use Rattle.call.specs.Terms.{table-used, cell-address, as-called, table-cell, start, end-obs, Within, frame, Terms}
 use Rattle.call.specs.Layout.{code-length, routine-words}
 use Rattle.call.specs.Good.{member, Good}
 

@@ -6,6 +6,7 @@ use mathlib.Core.Option.{some, IsSome}
 use Prim.Native.Nat.{ℕ, _^_, _≤_, _<_}
 use lib.Dec.{T, eqb, ltb, leb}
 use lib.ListN.{length, getD, getElem?}
+use Rattle.order.specs.Count.{index-holds}
 use Rattle.order.specs.declared.Place.{Place}
 use Rattle.order.specs.declared.Place.the-variants.{Mem, Stack, Param}
 use Rattle.order.specs.declared.Unary as U
@@ -14,11 +15,10 @@ use Rattle.order.specs.declared.Head.{Head}
 use Rattle.order.specs.declared.Order.{Order}
 use Rattle.order.specs.declared.Order.the-variants.{Unary, Scratched, Binary, Fused, Ifelse, LoadConst, Load, Save, BranchIf, SetLabel}
 use Rattle.reading.specs.Line.{Line, order}
-use Rattle.frames.specs.Mask.{preserved, in-mask, saved, save-cell}
-use Rattle.frames.specs.Fault.{epilogue-holds}
+use Rattle.order.specs.Mask.{preserved, in-mask, saved, save-cell}
+use Rattle.framing.specs.Fault.{epilogue-holds}
 use Rattle.orders.specs.Fault.{fault}
 use Rattle.call.specs.Program.{Program, constants, label-line}
-use Rattle.call.specs.Terms.{cell-count}
 use Rattle.call.specs.Layout.{code-length}
 
 abbrev pub member : ℕ → List ℕ → Bool
@@ -32,19 +32,6 @@ all-hold t (n ∷ ns) = t n && all-hold t ns
 -- 9: "cap at least 16 if the mask has a preserved register"
 abbrev pub cap-holds : Head → Bool
 cap-holds H = leb 16 (H .cap) || eqb (length (saved (H .mask))) 0
-
--- 9: "a cell index below its count"
-abbrev pub index-holds : Head → Order → Bool
-index-holds H (Unary k d s) = true
-index-holds H (Scratched k d s t) = true
-index-holds H (Binary k d a b) = true
-index-holds H (Fused k d a b c) = true
-index-holds H (Ifelse d a b i) = ltb i (H .cap)
-index-holds H (LoadConst d k) = true
-index-holds H (Load d p i) = ltb i (cell-count H p)
-index-holds H (Save s p i) = ltb i (cell-count H p)
-index-holds H (BranchIf c l e) = true
-index-holds H (SetLabel l) = true
 
 -- "`fmov` of a register to itself writes nothing"; `recip` writes f10 too
 abbrev pub unary-writes : U.Unary → (d s : ℕ) → List ℕ

@@ -8,7 +8,7 @@ use Rattle.assembler.specs.Constant.{constant-label, quad}
 use Rattle.assembler.specs.Resolved.{resolved, label-place}
 use Rattle.reading.specs.Line.{Line}
 use Rattle.orders.specs.Code.{line-code}
-use Rattle.frames.specs.Items.{prologue, saves, reloads, epilogue}
+use Rattle.framing.specs.Items.{prologue, saves, reloads, epilogue}
 use Rattle.call.specs.Program.{Program, constants}
 
 -- the bytes that items take: four each, a label none

@@ -5,6 +5,7 @@ use mathlib.Core.Bool.{Bool, cond}
 use mathlib.Core.List.{List, [], _∷_}
 use Prim.Native.Nat.{ℕ, zero, suc, _+_, _-_, _*_, _%_, _^_, _≤_, _<_}
 use lib.Dec.{T, eqb, ltb}
+use Rattle.order.specs.Count.{cells}
 use Rattle.machine.specs.Word.{w64, upd, load8, store8}
 use Rattle.machine.specs.State.{State}
 use Rattle.order.specs.declared.Place.{Place}
@@ -12,21 +13,11 @@ use Rattle.order.specs.declared.Place.the-variants.{Mem, Stack, Param}
 use Rattle.order.specs.declared.Head.{Head}
 use Rattle.order.specs.declared.Frame.{Frame}
 use Rattle.order.specs.declared.Frame.the-variants.{Fast, Indirect}
-use Rattle.frames.specs.Size.{cells, uses-table, holds-mem, stack-size, whole-size}
-use Rattle.frames.specs.Mask.{saved, save-cell}
+use Rattle.framing.specs.Size.{uses-table, holds-mem, stack-size, whole-size}
+use Rattle.order.specs.Mask.{saved, save-cell}
 use Rattle.call.specs.Plain.{Reading}
 
 -- ---- cells
-
--- the parameters of an indirect frame; a fast one has none
-abbrev pub param-count : Frame → (last : ℕ) → ℕ
-param-count Fast n = 0
-param-count Indirect n = n
-
-abbrev pub cell-count : Head → Place → ℕ
-cell-count H Mem = cells H
-cell-count H Stack = H .cap
-cell-count H Param = param-count (H .frame) (H .last)
 
 -- from line 1 and the state s at the call
 module _ (H : Head) (s : State) where

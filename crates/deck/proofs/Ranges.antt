@@ -8,13 +8,14 @@ use lib.Pow.{pow-add}
 use native.Mathlib.Omega.{arith}
 use borrow.Author.Tests.{lt-ltb, le-ltb, ne-eqb, eqb-true, eqb-false}
 use lib.Dec.{eqb}
+use Rattle.order.specs.Mask.{in-mask}
 use Rattle.refusal.specs.Answer.{accepted, refused}
 use Rattle.order.specs.declared.Frame.{Frame}
 use Rattle.order.specs.declared.Head.{Head}
 use Rattle.text.specs.declared.Number.{Number}
 use Rattle.text.specs.declared.Number.the-variants.{Value}
 use Rattle.form.specs.declared.Form.the-variants as Form
-use Rattle.deck.specs.Judge.{below, value, bounded, count, mask, in-mask, any, saves, counts-hold, head-of, head, judged}
+use Rattle.deck.specs.Judge.{below, value, bounded, count, mask, any, saves, counts-hold, head-of, head, judged}
 use Rattle.deck.specs.declared.Bounded.the-variants.{Is, Beyond}
 
 pub is-below : (k : ℕ) (n : Number) (x : ℕ) → bounded k n ≡ Is x → (below k n ≡ true) × (value n ≡ x)

@@ -9,6 +9,8 @@ use Rattle.refusal.specs.Answer.{Answer, accepted, refused}
 use Rattle.refusal.specs.Number.{number-of}
 use Rattle.refusal.specs.declared.Refusal.{Refusal}
 use Rattle.refusal.specs.declared.Refusal.the-variants.{Register, Value as Valued, Label, Count, Line}
+use Rattle.order.specs.Count.{cells}
+use Rattle.order.specs.Mask.{preserved, in-mask}
 use Rattle.order.specs.declared.Place.{Place}
 use Rattle.order.specs.declared.Place.the-variants.{Mem, Stack, Param}
 use Rattle.order.specs.declared.Frame.{Frame}
@@ -88,14 +90,6 @@ signed true n = negℤ (pos n)
 
 -- ---- the head's counts
 
--- fs0..fs11
-abbrev pub preserved : List ℕ
-preserved = 8 ∷ 9 ∷ 18 ∷ 19 ∷ 20 ∷ 21 ∷ 22 ∷ 23 ∷ 24 ∷ 25 ∷ 26 ∷ 27 ∷ []
-
--- bit r of the mask is set
-abbrev pub in-mask : (m r : ℕ) → Bool
-in-mask m r = eqb (m / 2 ^ r % 2) 1
-
 abbrev pub any : (ℕ → Bool) → List ℕ → Bool
 any p [] = false
 any p (r ∷ rs) = p r || any p rs
@@ -103,9 +97,6 @@ any p (r ∷ rs) = p r || any p rs
 -- the mask has a preserved register
 unfoldable pub saves : ℕ → Bool
 saves m = any (in-mask m) preserved
-
-abbrev pub cells : Head → ℕ
-cells h = h .states + h .obs
 
 -- a fast frame has at most 8 states, and its result cell is at most 255 and one of its cells
 abbrev pub frame-holds : Head → Frame → Bool
@@ -161,31 +152,6 @@ heads Form.Malformed = false
 -- line 1 is a head, and no other line is
 unfoldable pub line-judged : (first : Bool) → Form → Answer Content
 line-judged first f = cond (Bool·beq (heads f) first) (judged f) (refused (number-of Line) 0)
-
--- ---- an order's cell, with the head
-
--- how many cells a place has; a fast frame has no parameters
-abbrev pub params : Head → Frame → ℕ
-params h Fast = 0
-params h Indirect = h .last
-
-abbrev pub count-of : Head → Place → ℕ
-count-of h Mem = cells h
-count-of h Stack = h .cap
-count-of h Param = params h (h .frame)
-
--- the index of the cell that an order names is below its count; where not, it is refused by number 9
-abbrev pub within : Order → Head → Bool
-within (Order.Unary u d s) h = true
-within (Order.Scratched u d s t) h = true
-within (Order.Binary u d s t) h = true
-within (Order.Fused u d s t v) h = true
-within (Order.Ifelse d s t i) h = ltb i (count-of h Stack)
-within (Order.LoadConst d k) h = true
-within (Order.Load d p i) h = ltb i (count-of h p)
-within (Order.Save s p i) h = ltb i (count-of h p)
-within (Order.BranchIf c l e) h = true
-within (Order.SetLabel l) h = true
 
 -- ---- the parts of the judge
 

@@ -2,7 +2,8 @@
 ghost use mathlib.Core.Path.{_≡_};
 ghost use Prim.Native.Nat.{_≤_, _^_};
 ghost use Rattle.form.specs.Form.{form-of};
-ghost use Rattle.deck.specs.Judge.{told, judged, heads, line-judged, bounded, saves, counts-hold, frame-holds, count-of, within};
+ghost use Rattle.deck.specs.Judge.{told, judged, heads, line-judged, bounded, saves, counts-hold, frame-holds};
+ghost use Rattle.order.specs.Count.{cell-count, index-holds};
 use form::Form;
 use order::Binary;
 use order::Constant;
@@ -344,7 +345,7 @@ pub fn read_line(first: bool, line: &[u8]) -> Judged
 // ---- cells
 
 fn count_in(head: Head, p: Place) -> u64
-    ensures { λ r. ⌜ r ≡ count-of head p ⌝ }
+    ensures { λ r. ⌜ r ≡ cell-count head p ⌝ }
 {
     match p {
         Place::Mem => head.states as u64 + head.obs as u64,
@@ -361,7 +362,7 @@ fn count_in(head: Head, p: Place) -> u64
 
 // The index of the cell that an order names is below its count.
 pub fn cell_within(o: Order, head: Head) -> bool
-    ensures { λ r. ⌜ r ≡ within o head ⌝ }
+    ensures { λ r. ⌜ r ≡ index-holds head o ⌝ }
 {
     match o {
         Order::Ifelse(_, _, _, i) => (i as u64) < count_in(head, Place::Stack),

@@ -4,13 +4,13 @@ use mathlib.Core.Bool.{Bool, true, false, _&&_, cond}
 use Prim.Native.Nat.{ℕ, _<_, _≤_}
 use borrow.Author.Tests.{lt-ltb, le-ltb, le-leb, lt-leb, leb-true}
 use lib.Dec.{leb, ltb}
+use Rattle.order.specs.Count.{cells}
 use Rattle.isa.proofs.Validity.{both}
 use Rattle.order.specs.declared.Frame.{Frame}
 use Rattle.order.specs.declared.Frame.the-variants.{Fast, Indirect}
 use Rattle.order.specs.declared.Head.{Head}
 use Rattle.laid.proofs.All.{zero-else}
-use Rattle.frames.specs.Size.{cells}
-use Rattle.frames.specs.Fault.{counts-hold, result-holds, prologue-holds, prologue-fault, epilogue-fault}
+use Rattle.framing.specs.Fault.{counts-hold, result-holds, prologue-holds, prologue-fault, epilogue-fault}
 
 module _ (H : Head) where
   pub no-cap : 4096 < H .cap → 9 ≡ prologue-fault H

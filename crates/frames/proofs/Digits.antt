@@ -11,8 +11,8 @@ use lib.Pow.{shr-lt}
 use lib.Arith.{lt-one}
 use lib.Count.{trailingZeros, under}
 use lib.Dec.{eqb}
-use Rattle.frames.specs.Mask.{preserved, in-mask, chosen, saved, is-preserved}
-use Rattle.frames.proofs.Rows.{from}
+use Rattle.order.specs.Mask.{preserved, in-mask, chosen, saved, is-preserved}
+use Rattle.framing.proofs.Rows.{from}
 
 -- i where the digit is set
 abbrev pub one : ℕ → ℕ → List ℕ → List ℕ

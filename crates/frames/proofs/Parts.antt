@@ -24,7 +24,7 @@ use Rattle.accesses.specs.Plans.{plan-of, Built}
 use Rattle.accesses.proofs.Collect.{AllValid, built}
 use Rattle.laid.proofs.All.{accepts}
 use Rattle.laid.proofs.Both.{Accepts, put-split}
-use Rattle.frames.specs.Items.{code, times-over}
+use Rattle.framing.specs.Items.{code, times-over}
 use Rattle.frames.specs.Whole.{is-accepted}
 
 -- ---- code alone

@@ -1,12 +1,11 @@
 -- Instructions of preserved registers, pushed as a mask is walked, and placed. Assumes nothing.
 use mathlib.Core.Path.{_≡_, refl, _∙_}
 use mathlib.Core.Bool.{Bool, true, false, cond}
-use mathlib.Core.List.{List, [], _∷_, map, append-nil, List·Memᴰ, List·Memᴰ·head, List·Memᴰ·tail}
+use mathlib.Core.List.{List, [], _∷_, map, append-nil}
 use Prim.Native.Nat.{ℕ, _≤_}
 use native.Mathlib.Omega.{arith}
-use lib.Dec.{T}
 use lib.ListN.{length, length-map}
-use Rattle.isa.specs.Instr.{Instr, Valid}
+use Rattle.isa.specs.Instr.{Instr}
 use Rattle.assembler.specs.Item.{instr}
 use Rattle.assembler.specs.State.{State}
 use Rattle.assembler.specs.Put.{put}
@@ -15,10 +14,10 @@ use Rattle.assembler.specs.declared.Tail.the-variants.{Nothing}
 use Rattle.assembler.specs.declared.Plan.{Plan}
 use Rattle.assembler.proofs.Plans.{stands-put}
 use Rattle.accesses.specs.Plans.{answer-of, pushes-from, plan-of, Built}
-use Rattle.accesses.proofs.Collect.{AllValid, built}
-use Rattle.frames.specs.Mask.{preserved, in-mask, chosen, saved, is-preserved}
-use Rattle.frames.specs.Items.{save, reload, saves}
-use Rattle.frames.proofs.Rows.{proper, saved-proper, proper-fits}
+use Rattle.accesses.proofs.Collect.{built}
+use Rattle.order.specs.Mask.{preserved, in-mask, chosen, saved, is-preserved}
+use Rattle.framing.specs.Items.{save, saves}
+use Rattle.framing.proofs.Listed.{save-list-valid}
 
 -- q with an instruction for each preserved register of the list
 unfoldable pub all-pushed : (ℕ → Instr) → Plan → List ℕ → Plan
@@ -45,17 +44,6 @@ few p (r ∷ rs) = by (p r) (few p rs)
 pub saved-few : (mask : ℕ) → length (saved mask) ≤ 12
 unfolding saved
 saved-few mask = few (in-mask mask) preserved
-
--- an instruction for each of a mask's registers, valid where each is for a register that is saved
-list-valid : (f : ℕ → Instr) → ((r : ℕ) → T (proper r) → Valid (f r)) → (rs : List ℕ) → ((r : ℕ) → List·Memᴰ r rs → T (proper r)) → AllValid (map f rs)
-list-valid f v [] g = tt
-list-valid f v (r ∷ rs) g = (v r (g r (List·Memᴰ·head refl)), list-valid f v rs (λ q m. g q (List·Memᴰ·tail m)))
-
-pub save-list-valid : (mask : ℕ) → AllValid (map save (saved mask))
-save-list-valid mask = list-valid save (λ r h. omega (arith, proper-fits r h)) (saved mask) (saved-proper mask)
-
-pub reload-list-valid : (mask : ℕ) → AllValid (map reload (saved mask))
-reload-list-valid mask = list-valid reload (λ r h. omega (arith, proper-fits r h)) (saved mask) (saved-proper mask)
 
 pub saves-put : (mask : ℕ) (p : Plan) (s : State) → p ≡ plan-of (map save (saved mask)) → put 0 (plan-fault p Nothing) (plan-items p Nothing) s ≡ put 0 0 (saves mask) s
 unfolding saves

@@ -18,10 +18,10 @@ use Rattle.assembler.specs.declared.Kind.the-variants.{Bne}
 use Rattle.assembler.proofs.Items.{words-append, jumps-append, labels-append}
 use Rattle.accesses.specs.Code.{li-code, sub-stack-code, allocate-stack-code}
 use Rattle.accesses.proofs.Collect.{li-near, li-far}
-use Rattle.frames.specs.Mask.{saved}
-use Rattle.frames.specs.Items.{code, count-down, times-over, repeated, reload, reloads}
+use Rattle.order.specs.Mask.{saved}
+use Rattle.framing.specs.Items.{code, count-down, times-over, repeated, reload, reloads}
 use Rattle.frames.specs.Whole.{copy-first, copy-each, copy-label, copies, looped}
-use Rattle.frames.proofs.Count.{over-length}
+use Rattle.framing.proofs.Count.{over-length}
 use Rattle.frames.proofs.Parts.{words-code, jumps-code, labels-code}
 
 -- ---- li and stack sizes

@@ -5,7 +5,7 @@ use Prim.Native.Nat.{ℕ, _-_, _≤_, _<_}
 use native.Mathlib.Omega.{arith}
 use borrow.Author.Tests.{lt-ltb, le-ltb, le-leb, lt-leb, leb-true}
 use lib.Dec.{leb, ltb}
-use Rattle.frames.specs.Mask.{is-preserved, save-cell}
+use Rattle.order.specs.Mask.{is-preserved, save-cell}
 
 module _ (r : ℕ) where
   pub below : r < 8 → false ≡ is-preserved r

@@ -19,9 +19,9 @@ use Rattle.assembler.specs.declared.Kind.the-variants.{Beq}
 use Rattle.assembler.proofs.Items.{words-append, jumps-append, labels-append}
 use Rattle.accesses.specs.Code.{sub-stack-code, add-stack-code, allocate-stack-code}
 use Rattle.laid.proofs.Both.{Accepts}
-use Rattle.frames.specs.Size.{frame-size, stack-size}
-use Rattle.frames.specs.Items.{code, mv, opening, closing, states-from, prologue-fast, prologue-indirect, epilogue-fast, epilogue-indirect, prologue, epilogue, at-main, at-done}
-use Rattle.frames.specs.Fault.{prologue-fault, epilogue-fault}
+use Rattle.framing.specs.Size.{frame-size, stack-size}
+use Rattle.framing.specs.Items.{code, mv, opening, closing, states-from, prologue-fast, prologue-indirect, epilogue-fast, epilogue-indirect, prologue, epilogue, at-main, at-done}
+use Rattle.framing.specs.Fault.{prologue-fault, epilogue-fault}
 use Rattle.frames.specs.Whole.{copies, entry}
 use Rattle.frames.proofs.Parts.{words-code, jumps-code, labels-code, untagged}
 use Rattle.frames.proofs.Sizes.{code-number, copies-jumps, copies-labels}

@@ -1,5 +1,1 @@
-pub mod Size
-pub mod Mask
-pub mod Items
-pub mod Fault
 pub mod Whole

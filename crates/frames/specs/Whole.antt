@@ -14,7 +14,7 @@ use Rattle.assembler.specs.declared.Asm.{Asm}
 use Rattle.accesses.specs.Code.{li-code}
 use Rattle.assembler.specs.declared.Kind.the-variants.{Beq, Bne}
 use Rattle.order.specs.declared.Frame.the-variants.{Indirect}
-use Rattle.frames.specs.Items.{code, mv, opening, at-self, at-main, count-down, state-copy, obs-copy, repeated, at-pro, at-epi}
+use Rattle.framing.specs.Items.{code, mv, opening, at-self, at-main, count-down, state-copy, obs-copy, repeated, at-pro, at-epi}
 
 abbrev pub is-accepted : Answer (Unit {0}) → Bool
 is-accepted (accepted x) = true
@@ -24,25 +24,6 @@ is-accepted (refused n place) = false
 unfoldable pub trouble : (fault : ℕ) → (taken : Bool) → (words jumps size : ℕ) → Asm → ℕ
 trouble fault taken words jumps size asm =
     cond (eqb fault 0) (cond taken (number-of Twice) (cond (fits size asm words jumps) 0 (number-of Full))) fault
-
--- ---- copies: states to `mem`, or out of `mem` to the observation cells
-
--- t1 is the first cell
-abbrev pub copy-first : (out : Bool) → (states : ℕ) → List Instr
-copy-first true states = li-code 6 (pos (8 * states)) ++ (R ADD 6 6 9 ∷ [])
-copy-first false states = mv 6 9 ∷ []
-
-abbrev pub copy-each : (out : Bool) → List Instr
-copy-each true = obs-copy
-copy-each false = state-copy
-
-abbrev pub copy-label : (out : Bool) → ℕ
-copy-label true = at-epi
-copy-label false = at-pro
-
--- n of them
-abbrev pub copies : (out : Bool) → (states n : ℕ) → List Item
-copies out states n = repeated n (copy-first out states) (copy-each out) (copy-label out)
 
 -- n of them by the loop
 unfoldable pub looped : (out : Bool) → (states n : ℕ) → List Item

@@ -6,8 +6,8 @@ use Rattle.assembler.specs.Plan.{label-fault, jump-fault}
 use Rattle.assembler.specs.Put.{put}
 use Rattle.assembler.specs.Constant.{quad, constant-items, constant-fault}
 use Rattle.orders.specs.Emitted.{emitted}
-use Rattle.frames.specs.Items.{prologue, epilogue, saves, reloads}
-use Rattle.frames.specs.Fault.{prologue-fault, epilogue-fault}
+use Rattle.framing.specs.Items.{prologue, epilogue, saves, reloads}
+use Rattle.framing.specs.Fault.{prologue-fault, epilogue-fault}
 use Rattle.lent.specs.Accessed.{accessed}
 use Rattle.lent.specs.declared.Piece.{Piece}
 use Rattle.lent.specs.declared.Piece.the-variants.{Word, Quad, Label, Jump, Constant, Order, Access, Prologue, Epilogue, Saves, Reloads}

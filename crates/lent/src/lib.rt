@@ -8,7 +8,7 @@ ghost use Rattle.assembler.specs.Plan.{label-fault};
 ghost use Rattle.assembler.specs.Put.{put};
 ghost use Rattle.assembler.specs.Constant.{quad};
 ghost use Rattle.finish.specs.Finish.{finish};
-ghost use Rattle.frames.specs.Items.{saves, reloads};
+ghost use Rattle.framing.specs.Items.{saves, reloads};
 ghost use Rattle.lent.specs.Lent.{answered, ended};
 ghost use Rattle.lent.specs.Accessed.{accessed};
 ghost use Rattle.lent.specs.Laid.{laid};

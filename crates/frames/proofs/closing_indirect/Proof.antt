@@ -9,7 +9,7 @@ use Rattle.accesses.specs.Code.{add-stack-code}
 use Rattle.accesses.proofs.Collect.{answered, collected}
 use Rattle.accesses.proofs.Numbers.{answered-at}
 use Rattle.order.specs.declared.Frame.the-variants.{Indirect}
-use Rattle.frames.specs.Items.{closing, mv}
+use Rattle.framing.specs.Items.{closing, mv}
 use borrow.Author.Needs.{needs}
 use Rattle.frames.proofs.closing_indirect.Statement.{statement}
 use Rattle.frames.proofs.closing_indirect.Tie as tie

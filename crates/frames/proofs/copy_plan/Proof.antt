@@ -6,7 +6,7 @@ use Rattle.assembler.specs.Plan.{pushed}
 use Rattle.assembler.specs.declared.Plan.{Plan}
 use Rattle.accesses.proofs.Collect.{answered, collected}
 use Rattle.accesses.proofs.Numbers.{answered-at}
-use Rattle.frames.specs.Items.{obs-copy, state-copy}
+use Rattle.framing.specs.Items.{obs-copy, state-copy}
 use borrow.Author.Needs.{needs}
 use Rattle.frames.proofs.copy_plan.Statement.{statement}
 use Rattle.frames.proofs.copy_plan.Tie as tie

@@ -6,11 +6,11 @@ use lib.ListN.{length}
 use denote.Ref.{now}
 use Rattle.assembler.specs.State.{State, state}
 use Rattle.laid.proofs.Both.{Accepts}
-use Rattle.frames.specs.Items.{code, times-over}
+use Rattle.framing.specs.Items.{code, times-over}
 use Rattle.frames.specs.Whole.{copy-each}
 use Rattle.frames.proofs.Parts.{plan-code, refuses, opens, closed, row-piece}
 use Rattle.frames.proofs.Sizes.{six, row-number}
-use Rattle.frames.proofs.Valid.{each-valid}
+use Rattle.framing.proofs.Valid.{each-valid}
 use Rattle.frames.proofs.copy_row.Statement.{statement}
 use Rattle.frames.proofs.copy_row.Tie as tie
 

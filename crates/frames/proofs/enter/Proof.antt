@@ -6,11 +6,11 @@ use Rattle.assembler.specs.Item.{jump, label}
 use Rattle.assembler.specs.Put.{jumps}
 use Rattle.assembler.specs.State.{state}
 use Rattle.assembler.specs.declared.Kind.the-variants.{Beq}
-use Rattle.frames.specs.Items.{code, mv, opening, at-main}
+use Rattle.framing.specs.Items.{code, mv, opening, at-main}
 use Rattle.frames.proofs.Parts.{plan-code, label-set, plan-jump, refuses, opens, closes, front-piece, piece}
 use Rattle.order.specs.declared.Frame.the-variants.{Indirect}
 use Rattle.accesses.proofs.Collect.{answered, collected}
-use Rattle.frames.proofs.Valid.{opening-valid}
+use Rattle.framing.proofs.Valid.{opening-valid}
 use Rattle.frames.proofs.Wholes.{opening-few, arguments, entry-number}
 use Rattle.frames.specs.Whole.{entry}
 use borrow.Author.Needs.{needs}

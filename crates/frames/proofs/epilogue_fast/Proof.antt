@@ -9,9 +9,9 @@ use Rattle.order.specs.declared.Head.{Head}
 use Rattle.order.specs.declared.Frame.the-variants.{Fast}
 use Rattle.assembler.specs.Put.{put}
 use Rattle.assembler.specs.State.{state}
-use Rattle.frames.specs.Items.{closing, epilogue}
+use Rattle.framing.specs.Items.{closing, epilogue}
 use Rattle.frames.proofs.Parts.{faulted, plan-code}
-use Rattle.frames.proofs.Valid.{closing-valid}
+use Rattle.framing.proofs.Valid.{closing-valid}
 use Rattle.frames.proofs.Wholes.{closing-few}
 use Rattle.frames.proofs.Counts.{near-result}
 use borrow.Author.Needs.{needs}

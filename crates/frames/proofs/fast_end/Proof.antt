@@ -8,7 +8,7 @@ use Rattle.accesses.specs.Code.{add-stack-code}
 use Rattle.accesses.proofs.Collect.{answered, collected}
 use Rattle.accesses.proofs.Numbers.{answered-at, back-small}
 use Rattle.order.specs.declared.Frame.the-variants.{Fast}
-use Rattle.frames.specs.Items.{closing, mv}
+use Rattle.framing.specs.Items.{closing, mv}
 use native.Mathlib.Omega.{arith}
 use Prim.Native.Nat.{_*_}
 use borrow.Author.Needs.{needs}

@@ -6,14 +6,14 @@ use lib.ListN.{length}
 use denote.Ref.{now}
 use Rattle.assembler.specs.Put.{jumps}
 use Rattle.assembler.specs.State.{state}
-use Rattle.frames.specs.Items.{code, mv, opening, states-from, prologue-fast}
+use Rattle.framing.specs.Items.{code, mv, opening, states-from, prologue-fast}
 use Rattle.frames.proofs.Parts.{plan-code, refuses, opens, closes, code-piece, size-put}
 use Rattle.order.specs.declared.Head.{Head}
 use Rattle.order.specs.declared.Frame.the-variants.{Fast}
 use Rattle.accesses.specs.Code.{sub-stack-code}
 use Rattle.accesses.proofs.Collect.{answered, collected}
-use Rattle.frames.specs.Size.{frame-size, stack-size}
-use Rattle.frames.proofs.Valid.{opening-valid, states-valid}
+use Rattle.framing.specs.Size.{frame-size, stack-size}
+use Rattle.framing.proofs.Valid.{opening-valid, states-valid}
 use Rattle.frames.proofs.Wholes.{opening-few, states-few, fast-number}
 use borrow.Author.Needs.{needs}
 use Rattle.frames.proofs.fast_start.Statement.{statement}

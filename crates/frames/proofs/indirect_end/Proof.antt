@@ -8,12 +8,12 @@ use Rattle.assembler.specs.Item.{jump, label}
 use Rattle.assembler.specs.Put.{jumps}
 use Rattle.assembler.specs.State.{state}
 use Rattle.assembler.specs.declared.Kind.the-variants.{Beq}
-use Rattle.frames.specs.Items.{code, closing, epilogue-indirect, at-done}
+use Rattle.framing.specs.Items.{code, closing, epilogue-indirect, at-done}
 use Rattle.frames.specs.Whole.{copies}
 use Rattle.frames.proofs.Parts.{plan-code, label-set, refuses, opens, closes, piece}
 use Rattle.order.specs.declared.Head.{Head}
 use Rattle.order.specs.declared.Frame.the-variants.{Indirect}
-use Rattle.frames.proofs.Valid.{closing-valid}
+use Rattle.framing.proofs.Valid.{closing-valid}
 use Rattle.frames.proofs.Wholes.{closing-few, end-number}
 use borrow.Author.Needs.{needs}
 use Rattle.frames.proofs.indirect_end.Statement.{statement}

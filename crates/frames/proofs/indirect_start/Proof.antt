@@ -9,7 +9,7 @@ use denote.Ref.{now}
 use Rattle.assembler.specs.Item.{label}
 use Rattle.assembler.specs.Put.{jumps}
 use Rattle.assembler.specs.State.{state}
-use Rattle.frames.specs.Items.{code, mv, prologue-indirect, at-main}
+use Rattle.framing.specs.Items.{code, mv, prologue-indirect, at-main}
 use Rattle.frames.specs.Whole.{copies, entry}
 use Rattle.frames.proofs.Parts.{plan-code, label-set, refuses, opens, closes, front-piece, piece, size-put}
 use Rattle.isa.specs.Instr.{Shift, SLLI}
@@ -18,7 +18,7 @@ use Rattle.order.specs.declared.Frame.the-variants.{Indirect}
 use Rattle.accesses.specs.Code.{sub-stack-code, allocate-stack-code}
 use Rattle.accesses.proofs.Collect.{answered, collected}
 use Rattle.accesses.proofs.Numbers.{answered-at}
-use Rattle.frames.specs.Size.{frame-size, stack-size}
+use Rattle.framing.specs.Size.{frame-size, stack-size}
 use Rattle.frames.proofs.Wholes.{down, up, start-left, start-number}
 use borrow.Author.Needs.{needs}
 use Rattle.frames.proofs.indirect_start.Statement.{statement}

@@ -3,12 +3,12 @@ use lib.IntN.{ℤ, pos}
 use Rattle.isa.specs.Instr.{I, ADDI}
 use Rattle.assembler.specs.Item.{label}
 use Rattle.assembler.specs.Put.{jumps}
-use Rattle.frames.specs.Items.{code, reload, reloads}
+use Rattle.framing.specs.Items.{code, reload, reloads}
 use Rattle.frames.proofs.Parts.{plan-code, refuses, opens, closes, piece}
 use Rattle.accesses.proofs.Collect.{collected}
 use Rattle.accesses.proofs.Numbers.{answered-at}
 use lib.ListN.{length-map}
-use Rattle.frames.specs.Mask.{saved}
+use Rattle.order.specs.Mask.{saved}
 use Rattle.frames.proofs.Pushes.{saved-few, reload-list-valid}
 use Rattle.frames.proofs.Sizes.{reload-number}
 use native.Mathlib.Omega.{arith}

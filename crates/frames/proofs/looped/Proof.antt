@@ -11,10 +11,10 @@ use Rattle.assembler.specs.Label.{is-set}
 use Rattle.assembler.specs.Put.{jumps}
 use Rattle.assembler.specs.State.{state}
 use Rattle.assembler.specs.declared.Kind.the-variants.{Bne}
-use Rattle.frames.specs.Items.{code, count-down}
+use Rattle.framing.specs.Items.{code, count-down}
 use Rattle.frames.specs.Whole.{copy-first, copy-each, copy-label, looped}
 use Rattle.frames.proofs.Parts.{plan-code, label-set, plan-jump, refuses, opens, closes, front-piece, piece}
-use Rattle.frames.proofs.Valid.{first-valid, each-valid}
+use Rattle.framing.proofs.Valid.{first-valid, each-valid}
 use Rattle.accesses.specs.Plans.{plan-of}
 use Rattle.accesses.specs.Code.{li-code}
 use Rattle.assembler.specs.Plan.{pushed}

@@ -11,7 +11,7 @@ use Rattle.assembler.specs.declared.Plan.{Plan}
 use Rattle.accesses.specs.Plans.{answer-of, pushes-from, plan-of}
 use Rattle.accesses.proofs.Collect.{answered}
 use Rattle.accesses.proofs.Numbers.{answered-at, back-small}
-use Rattle.frames.specs.Items.{mv, states-from}
+use Rattle.framing.specs.Items.{mv, states-from}
 use Rattle.frames.proofs.states_plan.Statement.{statement}
 use Rattle.frames.proofs.states_plan.Tie as tie
 

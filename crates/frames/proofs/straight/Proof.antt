@@ -4,10 +4,10 @@ use mathlib.Core.List.{_++_}
 use denote.Ref.{now}
 use Rattle.assembler.specs.Put.{jumps}
 use Rattle.assembler.specs.State.{state}
-use Rattle.frames.specs.Items.{code, times-over}
+use Rattle.framing.specs.Items.{code, times-over}
 use Rattle.frames.specs.Whole.{copy-first, copy-each}
 use Rattle.frames.proofs.Parts.{plan-code, refuses, opens, closes, code-piece}
-use Rattle.frames.proofs.Valid.{first-valid}
+use Rattle.framing.proofs.Valid.{first-valid}
 use Rattle.frames.proofs.Sizes.{straight-number}
 use borrow.Author.Needs.{needs}
 use Rattle.frames.proofs.straight.Statement.{statement}

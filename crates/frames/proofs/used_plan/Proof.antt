@@ -6,8 +6,8 @@ use mathlib.Core.List.{List, map}
 use Prim.Native.Nat.{ℕ, suc, _+_, _-_, _^_, _≤_, _<_}
 use lib.Count.{trailingZeros}
 use Rattle.accesses.specs.Plans.{answer-of, pushes-from, plan-of}
-use Rattle.frames.specs.Mask.{chosen, is-preserved, saved}
-use Rattle.frames.specs.Items.{save, reload}
+use Rattle.order.specs.Mask.{chosen, is-preserved, saved}
+use Rattle.framing.specs.Items.{save, reload}
 use Rattle.frames.proofs.Digits.{digits, First, first, same-place, no-digits, walked}
 use Rattle.frames.proofs.Pushes.{one-more, all-pushed}
 use Rattle.frames.proofs.used_plan.Statement.{statement}

@@ -8,7 +8,7 @@ use mir.Val.{toZ}
 use Rattle.isa.specs.Instr.{S, FSD, I, FLD}
 use Rattle.assembler.specs.Plan.{pushed}
 use Rattle.accesses.proofs.Numbers.{answered-at, back-small}
-use Rattle.frames.specs.Mask.{save-cell}
+use Rattle.order.specs.Mask.{save-cell}
 use Rattle.frames.proofs.Tests.{at-most}
 use Rattle.frames.proofs.with_used.Statement.{statement}
 use Rattle.frames.proofs.with_used.Tie as tie

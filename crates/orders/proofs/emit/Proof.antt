@@ -35,7 +35,7 @@ same-length c = search needs
 
 -- src/lib.rt:386:9
 returns : tie.Need-returns
-returns c = 
+returns c =
     let a = c .before .before .before .before .before .before .before .before .before .before .args in
     c .before .before .place .ensures ∙ order-refused (a .o) (a .tag) (state (a .asm) (now (a .labels)) (now (a .jumps)) (now (a .buf))) (c .before .before .before .before .before .before .refused-plan .result) (c .before .before .before .before .before .before .before .before .fault .result) (c .before .before .before .before .before .before .before .before .fault .ensures) (c .before .before .before .before .before .before .before .if1 .taken) (c .before .before .before .before .before .before .refused-plan .ensures)
 
@@ -57,7 +57,7 @@ same-length-2 c = search needs
 
 -- src/lib.rt:389:9
 returns-2 : tie.Need-returns-2
-returns-2 c = 
+returns-2 c =
     let a = c .before .before .before .before .before .before .before .before .before .before .before .before .before .args in
     c .before .before .append-one .ensures ∙ short-placed (a .o) (a .tag) (state (a .asm) (now (a .labels)) (now (a .jumps)) (now (a .buf))) _ (sym (c .before .before .before .before .before .before .before .before .before .before .before .fault .ensures) ∙ c .before .before .before .before .before .before .before .before .before .before .if1 .left) (sym (c .before .before .before .before .before .before .before .e .given .1) ∙ c .before .before .before .before .before .before .before .before .before .short-order .ensures)
 
@@ -94,7 +94,7 @@ same-length-3 c = search needs
 
 -- src/lib.rt:374:1
 returns-3 : tie.Need-returns-3
-returns-3 c = 
+returns-3 c =
     let a = c .before .before .before .before .before .before .before .before .before .before .before .before .before .before .before .before .before .args in
     let q = rw (c .before .before .before .before .before .before .before .r .given .1) at (c .before .before .before .before .before .before .before .before .before .behind .ensures) in
     c .before .before .place2 .ensures ∙ order-placed (a .o) (a .tag) (state (a .asm) (now (a .labels)) (now (a .jumps)) (now (a .buf))) (c .before .before .before .before .before .before .before .before .before .before .plan .result) (c .before .before .before .before .before .before .before .r .given .0 .0) (sym (c .before .before .before .before .before .before .before .before .before .before .before .before .before .before .before .fault .ensures) ∙ c .before .before .before .before .before .before .before .before .before .before .before .before .before .before .if1 .left) (c .before .before .before .before .before .before .before .before .before .before .plan .ensures) (q .0) (q .1)
@@ -105,7 +105,7 @@ same-length-4 c = search needs
 
 -- src/lib.rt:374:1
 returns-4 : tie.Need-returns-4
-returns-4 c = 
+returns-4 c =
     let a = c .before .before .before .before .before .before .before .before .before .before .before .before .before .before .before .before .before .args in
     let q = rw (c .before .before .before .before .before .before .before .r2 .given .1) at (c .before .before .before .before .before .before .before .before .before .behind .ensures) in
     c .before .before .set-label .ensures ∙ order-label (a .o) (a .tag) (state (a .asm) (now (a .labels)) (now (a .jumps)) (now (a .buf))) _ (sym (c .before .before .before .before .before .before .before .before .before .before .before .before .before .before .before .fault .ensures) ∙ c .before .before .before .before .before .before .before .before .before .before .before .before .before .before .if1 .left) (q .0) (q .1)

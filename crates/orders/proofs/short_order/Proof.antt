@@ -80,7 +80,7 @@ fld-requires c κs = search needs
 -- src/lib.rt:256:17
 returns : tie.Need-returns
 unfolding access-code
-returns c = 
+returns c =
     let x = c .before .before .before .before .o4 .given .0 in
     (rw (lt-ltb (8 * x .1 .1 .0) 2048 (omega (arith, c .before .before .if1 .taken)))
     (ap Is (answered-at _ (λ (z : ℤ). I FLD (x .0) (base (x .1 .0)) z) (rw (c .before .base-of .ensures) at (c .fld .ensures)) (back-small (8 * x .1 .1 .0) (omega (arith, c .before .before .if1 .taken))))))
@@ -109,7 +109,7 @@ fsd-requires c κs = search needs
 -- src/lib.rt:262:17
 returns-2 : tie.Need-returns-2
 unfolding access-code
-returns-2 c = 
+returns-2 c =
     let x = c .before .before .before .before .o5 .given .0 in
     (rw (lt-ltb (8 * x .1 .1 .0) 2048 (omega (arith, c .before .before .if2 .taken)))
     (ap Is (answered-at _ (λ (z : ℤ). S FSD (base (x .1 .0)) (x .0) z) (rw (c .before .base-of2 .ensures) at (c .fsd .ensures)) (back-small (8 * x .1 .1 .0) (omega (arith, c .before .before .if2 .taken))))))

@@ -1,0 +1,76 @@
+use mathlib.Core.Path.{sym}
+use native.Mathlib.Omega.{arith}
+use lib.Seq.{length-take-le}
+use denote.Ref.{now}
+use Rattle.answer.proofs.Listed.{words-told, all-told, refusal-told}
+use borrow.Author.Needs.{needs}
+use Rattle.answer.proofs.answer_text.Statement.{statement}
+use Rattle.answer.proofs.answer_text.Tie as tie
+
+enum-known-answer : tie.Need-enum-known-answer
+enum-known-answer c = search needs
+
+cast-n : tie.Need-cast-n
+cast-n c = search needs
+
+words-text-requires : tie.Need-words-text-requires
+words-text-requires c κs = search needs
+
+same-length : tie.Need-same-length
+same-length c = search needs
+
+returns : tie.Need-returns
+returns c =
+    let a = c .before .before .before .before .before .before .before .before .before .before .args in
+    all-told (a .answer) (now (a .code)) (now (a .out)) _ _ _ _ _ _ _ (c .before .before .before .before .before .before .answer .given .1) (omega arith) (c .before .before .words-text .ensures)
+
+slice-aggregate-words-text : tie.Need-slice-aggregate-words-text
+slice-aggregate-words-text c =
+    sym (length-take-le _ (now (c .before .before .before .before .before .before .before .args .code)) (omega arith))
+
+words-text-requires-2 : tie.Need-words-text-requires-2
+words-text-requires-2 c κs = search needs
+
+enum-known-answer-2 : tie.Need-enum-known-answer-2
+enum-known-answer-2 c = search needs
+
+number-requires : tie.Need-number-requires
+number-requires c κs = search needs
+
+refusal-text-requires : tie.Need-refusal-text-requires
+refusal-text-requires c κs = search needs
+
+same-length-2 : tie.Need-same-length-2
+same-length-2 c = search needs
+
+returns-2 : tie.Need-returns-2
+returns-2 c =
+    let a = c .before .before .before .before .before .before .before .before .before .before .before .args in
+    words-told (a .answer) (now (a .code)) (now (a .out)) _ _ _ _ _ _ _ (c .before .before .before .before .before .before .before .answer .given .1) (c .before .before .words-text2 .ensures)
+
+same-length-3 : tie.Need-same-length-3
+same-length-3 c = search needs
+
+returns-3 : tie.Need-returns-3
+returns-3 c =
+    let a = c .before .before .before .before .before .before .before .before .before .before .args in
+    refusal-told (a .answer) (now (a .code)) (now (a .out)) _ _ _ _ _ (c .before .before .before .before .before .before .answer2 .given .1) (c .before .before .before .before .number .ensures) (omega (arith, c .before .before .before .before .number .ok)) (omega (arith, c .before .before .before .before .before .known-told2 .given)) (c .before .before .refusal-text .ensures)
+
+pub answer-text-spec : {M : Type 1} → statement M
+answer-text-spec =
+    tie.close
+    (tie.spec
+    enum-known-answer
+    cast-n
+    words-text-requires
+    same-length
+    returns
+    slice-aggregate-words-text
+    words-text-requires-2
+    enum-known-answer-2
+    number-requires
+    refusal-text-requires
+    same-length-2
+    returns-2
+    same-length-3
+    returns-3)

@@ -1,0 +1,38 @@
+use Prim.Native.Nat.{ℕ}
+use lib.ListN.{replicate, length-replicate}
+use denote.Ref.{now}
+use Rattle.answer.proofs.Listed.{deck-told}
+use borrow.Author.Needs.{needs}
+use Rattle.answer.proofs.deck_text.Statement.{statement}
+use Rattle.answer.proofs.deck_text.Tie as tie
+
+slice-aggregate-routine : tie.Need-slice-aggregate-routine
+slice-aggregate-routine c = search needs
+
+routine-requires : tie.Need-routine-requires
+routine-requires c κs = search needs
+
+slice-aggregate-answer-text : tie.Need-slice-aggregate-answer-text
+slice-aggregate-answer-text c = search needs
+
+answer-text-requires : tie.Need-answer-text-requires
+answer-text-requires c κs = search needs
+
+same-length : tie.Need-same-length
+same-length c = search needs
+
+returns : tie.Need-returns
+returns c =
+    let a = c .before .before .before .before .before .before .before .before .before .before .args in
+    deck-told (now (a .file)) (replicate 65536 0) _ (length-replicate {A = ℕ} 65536 0) _ _ (now (a .out)) _ (c .before .before .before .before .before .before .routine .kept .1 .0) (c .before .before .before .before .before .before .routine .ensures) (c .before .before .answer-text .ensures)
+
+pub deck-text-spec : {M : Type 1} → statement M
+deck-text-spec =
+    tie.close
+    (tie.spec
+    slice-aggregate-routine
+    routine-requires
+    slice-aggregate-answer-text
+    answer-text-requires
+    same-length
+    returns)

@@ -1,0 +1,23 @@
+-- What `deckwords` prints of a deck file (document 01, "The deck file").
+use mathlib.Core.List.{List}
+use Prim.Native.Nat.{ℕ}
+use lib.ListN.{take}
+use Rattle.refusal.specs.Answer.{Answer, accepted, refused}
+use Rattle.call.specs.Program.{Program}
+use Rattle.call.specs.Layout.{routine-words}
+use Rattle.routine.specs.Routine.{Told, program-of}
+use Rattle.print.specs.Text.{words-of, word-lines, refusal-line}
+
+-- The text of the routine's answer; the code is what stands in the buffer.
+abbrev pub answer-text : Answer Told → (code : List ℕ) → List ℕ
+answer-text (accepted t) code = word-lines 0 (words-of (take (t .length) code))
+answer-text (refused n line) code = refusal-line n line
+
+-- "byte offset (decimal) and word (8 hex digits), or refused,number,line"
+abbrev pub listing : Answer Program → List ℕ
+listing (accepted p) = word-lines 0 (routine-words p)
+listing (refused n line) = refusal-line n line
+
+-- of a file, with the buffer at its full size
+unfoldable pub deck-text : (file : List ℕ) → List ℕ
+deck-text file = listing (program-of 65536 file)

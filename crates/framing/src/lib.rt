@@ -1,0 +1,1 @@
+// Definitions and theorems of the two frames; the functions stand in `frames`.

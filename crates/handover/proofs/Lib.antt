@@ -1,0 +1,10 @@
+pub mod Accepts
+pub mod Contents
+pub mod Taken
+pub mod Reached
+pub mod Whole
+pub mod Same
+pub mod Handover
+pub mod Files
+pub mod Refusals
+pub mod Closed

@@ -1,0 +1,13 @@
+pub mod Bounds
+pub mod Cleared
+pub mod Law
+pub mod LawFinish
+pub mod LawFit
+pub mod LawJudged
+pub mod LawLeave
+pub mod LawLines
+pub mod LawParts
+pub mod LawRoom
+pub mod Lined
+pub mod Onward
+pub mod Unsaved

@@ -1,0 +1,25 @@
+use mathlib.Core.Path.{ap, _∙_}
+use Prim.Native.Nat.{ℕ}
+use denote.Ref.{now}
+use lib.ListN.{replicate, length-replicate}
+use Rattle.routine.specs.Run.{Made}
+use Rattle.routine.proofs.Law.{run-promise}
+use borrow.Author.Needs.{needs}
+use Rattle.routine.proofs.routine.Statement.{statement}
+use Rattle.routine.proofs.routine.Tie as tie
+
+routine-in-requires : tie.Need-routine-in-requires
+routine-in-requires c κs = search needs
+
+same-length : tie.Need-same-length
+same-length c = search needs
+
+returns : tie.Need-returns
+returns c =
+    let r = c .before .before .routine-in in
+    let a = c .before .before .before .before .before .before .before .before .args in
+    let p = run-promise (now (a .file)) (replicate 20480 0) (now (a .buf)) (length-replicate {A = ℕ} 20480 0) in
+    (ap (λ (m : Made). m .answer) (r .ensures) ∙ p .0, ap (λ (m : Made). m .state .buf) (r .ensures) ∙ p .1)
+
+pub routine-spec : {M : Type 1} → statement M
+routine-spec = tie.close (tie.spec routine-in-requires same-length returns)

@@ -1,0 +1,3 @@
+pub mod Routine
+pub mod Run
+pub mod Told
