@@ -7,7 +7,6 @@
 include!("around.rs");
 
 use std::hint::black_box;
-use std::time::Instant;
 
 // The one place that knows how the library is called.
 mod library {
@@ -31,20 +30,31 @@ pub trait Prepare {
     fn prepare(&self, steps: &str) -> Box<dyn Deck>;
 }
 
-// The least time of one call, of nine rounds that take 20 milliseconds or more each.
+// The thread's processor time in nanoseconds, which other programs on the machine disturb less than the clock.
+fn spent() -> f64 {
+    extern "C" {
+        fn clock_gettime(clock: i32, time: *mut [i64; 2]) -> i32;
+    }
+    const THREAD: i32 = 3;
+    let mut time = [0; 2];
+    unsafe { clock_gettime(THREAD, &mut time) };
+    time[0] as f64 * 1e9 + time[1] as f64
+}
+
+// The least time of one call, of 25 rounds that take 5 milliseconds or more each.
 fn nanoseconds(mut call: impl FnMut()) -> f64 {
     let mut times = 1;
     let mut best = f64::MAX;
     let mut rounds = 0;
-    while rounds < 9 {
-        let start = Instant::now();
+    while rounds < 25 {
+        let start = spent();
         (0..times).for_each(|_| call());
-        let spent = start.elapsed().as_nanos() as f64;
-        if spent < 2e7 {
+        let took = spent() - start;
+        if took < 5e6 {
             times *= 2;
             continue;
         }
-        best = best.min(spent / times as f64);
+        best = best.min(took / times as f64);
         rounds += 1;
     }
     best

@@ -1,3 +1,4 @@
 pub mod Value
+pub mod Values
 pub mod Shape
 pub mod Wrap

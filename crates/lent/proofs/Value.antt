@@ -13,6 +13,9 @@ use denote.RattleType.{RattleType}
 use denote.Laws.{Is, Tells, Makes, Typed}
 use denote.Exit.{Exit, yes, Last, left}
 use denote.Plain.{UInt, uint-tells, uint-lawful, uint-makes}
+use denote.Struct.Struct.{Plains}
+use denote.Struct.Declared as SD
+use denote.Struct.Laws as SL
 use denote.Enum.Enum.{Few, Plainss}
 use denote.Enum.Declared.{Declared, variants, shape, row}
 use denote.Enum.Laws.{Laws, Copyabless, val, tells, lawful, makes, still}
@@ -51,4 +54,18 @@ module _ (D : Declared) (laws : Laws D) (copies : Copyabless (D .parts)) (plain 
     makes = λ 𝓤 H A W. makes D plain 𝓤 H A;
     last = λ x. subst (λ (e : Exit (D .D)). Last e x) (sym (still D copies yes)) tt;
     silent = λ x. subst (λ (e : Exit (D .D)). (w : Last e x) → left e x w ≡ ftrue) (sym (still D copies yes)) (λ w. refl);
+  }
+
+-- a struct likewise
+module _ (D : SD.Declared) (laws : SL.Laws D) (copies : SL.Copyables (D .parts)) (plain : Plains (SD.fields D)) (τ : Ty) (one : SD.row D .mir ≡ τ ∷ []) where
+  abbrev pub block : Value
+  block = record {
+    row = SD.row D;
+    ty = τ;
+    val = SL.val D laws;
+    tells = SL.tells D laws;
+    typed = λ 𝓤 H A W x is. subst (λ (τs : List Ty). Typed τs (SL.val D laws x ∷ [])) one (SL.lawful D laws 𝓤 H A W .typed x _ is) .0;
+    makes = λ 𝓤 H A W. SL.makes D plain 𝓤 H A;
+    last = λ x. subst (λ (e : Exit (D .D)). Last e x) (sym (SL.still D copies yes)) tt;
+    silent = λ x. subst (λ (e : Exit (D .D)). (w : Last e x) → left e x w ≡ ftrue) (sym (SL.still D copies yes)) (λ w. refl);
   }

@@ -1,17 +1,18 @@
 // The record lent by `&mut`, as the Rust's `&mut self`: each function takes it apart, calls the covered function, and stores what came back.
-// What takes one number has its own function; jumps, constants, orders, accesses and frames are pieces, and `lay` serves them all.
+// `emit` serves every order and `lay_access` every access; `tag` is the caller's own number, kept with each jump.
 ghost use mathlib.Core.Path.{_≡_};
 ghost use mathlib.Core.List.{[], _∷_};
-ghost use Rattle.assembler.specs.Item.{raw, label};
+ghost use Rattle.assembler.specs.Item.{raw, label, jump as jump-item};
 ghost use Rattle.assembler.specs.State.{state, outcome};
-ghost use Rattle.assembler.specs.Plan.{label-fault};
+ghost use Rattle.assembler.specs.Plan.{label-fault, jump-fault};
 ghost use Rattle.assembler.specs.Put.{put};
-ghost use Rattle.assembler.specs.Constant.{quad};
+ghost use Rattle.assembler.specs.Constant.{quad, constant-items, constant-fault};
 ghost use Rattle.finish.specs.Finish.{finish};
-ghost use Rattle.framing.specs.Items.{saves, reloads};
+ghost use Rattle.orders.specs.Emitted.{emitted};
+ghost use Rattle.framing.specs.Fault.{prologue-fault, epilogue-fault};
+ghost use Rattle.framing.specs.Items.{prologue as prologue-items, epilogue as epilogue-items, saves, reloads};
 ghost use Rattle.lent.specs.Lent.{answered, ended};
 ghost use Rattle.lent.specs.Accessed.{accessed};
-ghost use Rattle.lent.specs.Laid.{laid};
 use assembler::Answer;
 use assembler::Asm;
 use assembler::Done;
@@ -20,9 +21,9 @@ use order::Constant;
 use order::Head;
 use order::Order;
 
-// ---- what is laid
+// ---- the accesses, by value
 
-// The accesses: register and value; register, base and offset; a size.
+// Register and value; register, base and offset; a size.
 pub enum Access {
     Li(u32, i32),
     LoadFloat(u32, u32, u32),
@@ -34,27 +35,6 @@ pub enum Access {
     AddStack(u32),
     AllocateStack(u32),
 }
-
-// All that goes into the buffer before finishing. What leaves jumps has the caller's own number, kept with each jump, as its last.
-pub enum Piece {
-    Word(u32),
-    Quad(u64),
-    Label(u32),
-    // kind, label, register
-    Jump(Kind, u32, u32, u32),
-    // index
-    Constant(u32, Constant),
-    Order(Order, u32),
-    Access(Access),
-    Prologue(Head, u32),
-    Epilogue(Head, u32),
-    // mask
-    Saves(u32),
-    // mask
-    Reloads(u32),
-}
-
-// ---- the same by value
 
 pub fn access_by_value(
     a: Access,
@@ -91,30 +71,6 @@ pub fn access_by_value(
         Access::SubStack(n) => accesses::sub_stack(n, buf, labels, jumps, asm),
         Access::AddStack(n) => accesses::add_stack(n, buf, labels, jumps, asm),
         Access::AllocateStack(n) => accesses::allocate_stack(n, buf, labels, jumps, asm),
-    }
-}
-
-pub fn lay_by_value(
-    p: Piece,
-    buf: &mut [u8],
-    labels: &mut [u64; 2039],
-    jumps: &mut [u32; 20480],
-    asm: Asm,
-) -> Done
-    ensures { λ x. ⌜ outcome x (now (labels .exit)) (now (jumps .exit)) (now (buf .exit)) ≡ laid p (state asm (now (labels .entry)) (now (jumps .entry)) (now (buf .entry))) ⌝ }
-{
-    match p {
-        Piece::Word(w) => assembler::append_word(w, buf, labels, jumps, asm),
-        Piece::Quad(q) => assembler::append_quad(q, buf, labels, jumps, asm),
-        Piece::Label(l) => assembler::set_label(l, buf, labels, jumps, asm),
-        Piece::Jump(k, l, r, tag) => assembler::jump(k, l, r, tag, buf, labels, jumps, asm),
-        Piece::Constant(k, c) => assembler::append_const(k, c, buf, labels, jumps, asm),
-        Piece::Order(o, tag) => orders::emit(o, tag, buf, labels, jumps, asm),
-        Piece::Access(a) => access_by_value(a, buf, labels, jumps, asm),
-        Piece::Prologue(head, tag) => frames::prologue(head, tag, buf, labels, jumps, asm),
-        Piece::Epilogue(head, tag) => frames::epilogue(head, tag, buf, labels, jumps, asm),
-        Piece::Saves(mask) => frames::save_used_registers(mask, buf, labels, jumps, asm),
-        Piece::Reloads(mask) => frames::load_used_registers(mask, buf, labels, jumps, asm),
     }
 }
 
@@ -190,17 +146,95 @@ pub fn load_used_registers(
     d.answer
 }
 
-// Any piece.
-pub fn lay(
+pub fn jump(
     asm: &mut Asm,
-    p: Piece,
+    k: Kind,
+    l: u32,
+    r: u32,
+    tag: u32,
     buf: &mut [u8],
     labels: &mut [u64; 2039],
     jumps: &mut [u32; 20480],
 ) -> Answer
-    ensures { λ r. ⌜ answered r (now (asm .exit)) (now (labels .exit)) (now (jumps .exit)) (now (buf .exit)) ≡ laid p (state (now (asm .entry)) (now (labels .entry)) (now (jumps .entry)) (now (buf .entry))) ⌝ }
+    ensures { λ x. ⌜ answered x (now (asm .exit)) (now (labels .exit)) (now (jumps .exit)) (now (buf .exit)) ≡ put tag (jump-fault l r) (jump-item k l r ∷ []) (state (now (asm .entry)) (now (labels .entry)) (now (jumps .entry)) (now (buf .entry))) ⌝ }
 {
-    let d = lay_by_value(p, buf, labels, jumps, *asm);
+    let d = assembler::jump(k, l, r, tag, buf, labels, jumps, *asm);
+    *asm = d.asm;
+    d.answer
+}
+
+pub fn append_const(
+    asm: &mut Asm,
+    k: u32,
+    c: Constant,
+    buf: &mut [u8],
+    labels: &mut [u64; 2039],
+    jumps: &mut [u32; 20480],
+) -> Answer
+    ensures { λ x. ⌜ answered x (now (asm .exit)) (now (labels .exit)) (now (jumps .exit)) (now (buf .exit)) ≡ put 0 (constant-fault k) (constant-items k c) (state (now (asm .entry)) (now (labels .entry)) (now (jumps .entry)) (now (buf .entry))) ⌝ }
+{
+    let d = assembler::append_const(k, c, buf, labels, jumps, *asm);
+    *asm = d.asm;
+    d.answer
+}
+
+// Any order.
+pub fn emit(
+    asm: &mut Asm,
+    o: Order,
+    tag: u32,
+    buf: &mut [u8],
+    labels: &mut [u64; 2039],
+    jumps: &mut [u32; 20480],
+) -> Answer
+    ensures { λ x. ⌜ answered x (now (asm .exit)) (now (labels .exit)) (now (jumps .exit)) (now (buf .exit)) ≡ emitted tag o (state (now (asm .entry)) (now (labels .entry)) (now (jumps .entry)) (now (buf .entry))) ⌝ }
+{
+    let d = orders::emit(o, tag, buf, labels, jumps, *asm);
+    *asm = d.asm;
+    d.answer
+}
+
+// Any access.
+pub fn lay_access(
+    asm: &mut Asm,
+    a: Access,
+    buf: &mut [u8],
+    labels: &mut [u64; 2039],
+    jumps: &mut [u32; 20480],
+) -> Answer
+    ensures { λ x. ⌜ answered x (now (asm .exit)) (now (labels .exit)) (now (jumps .exit)) (now (buf .exit)) ≡ accessed a (state (now (asm .entry)) (now (labels .entry)) (now (jumps .entry)) (now (buf .entry))) ⌝ }
+{
+    let d = access_by_value(a, buf, labels, jumps, *asm);
+    *asm = d.asm;
+    d.answer
+}
+
+pub fn prologue(
+    asm: &mut Asm,
+    head: Head,
+    tag: u32,
+    buf: &mut [u8],
+    labels: &mut [u64; 2039],
+    jumps: &mut [u32; 20480],
+) -> Answer
+    ensures { λ x. ⌜ answered x (now (asm .exit)) (now (labels .exit)) (now (jumps .exit)) (now (buf .exit)) ≡ put tag (prologue-fault head) (prologue-items head) (state (now (asm .entry)) (now (labels .entry)) (now (jumps .entry)) (now (buf .entry))) ⌝ }
+{
+    let d = frames::prologue(head, tag, buf, labels, jumps, *asm);
+    *asm = d.asm;
+    d.answer
+}
+
+pub fn epilogue(
+    asm: &mut Asm,
+    head: Head,
+    tag: u32,
+    buf: &mut [u8],
+    labels: &mut [u64; 2039],
+    jumps: &mut [u32; 20480],
+) -> Answer
+    ensures { λ x. ⌜ answered x (now (asm .exit)) (now (labels .exit)) (now (jumps .exit)) (now (buf .exit)) ≡ put tag (epilogue-fault head) (epilogue-items head) (state (now (asm .entry)) (now (labels .entry)) (now (jumps .entry)) (now (buf .entry))) ⌝ }
+{
+    let d = frames::epilogue(head, tag, buf, labels, jumps, *asm);
     *asm = d.asm;
     d.answer
 }

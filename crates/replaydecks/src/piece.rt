@@ -1,0 +1,80 @@
+// A deck is put together piece by piece: a row's text, or one byte, so many times.
+
+// Bytes of the lent memories: more than a file or a buffer that counts may have.
+pub const ROOM: usize = 70016;
+
+// A piece comes at most so often.
+const TIMES: u32 = 70016;
+
+// Where a row's text starts.
+const TEXT: usize = 20;
+
+// The byte that a character of a text stands for: a tilde is a line's end.
+fn plain(b: u8) -> u8 {
+    if b == b'~' { 10 } else { b }
+}
+
+// The text of s behind the first n bytes, as far as there is room; how many bytes there are then.
+fn put(s: &[u8], n: usize, file: &mut [u8; ROOM]) -> usize {
+    let mut at = n;
+    let mut i = 0;
+    while i < s.len() {
+        if at >= ROOM {
+            return at;
+        }
+        file[at] = plain(s[i]);
+        at += 1;
+        i += 1;
+    }
+    at
+}
+
+fn repeat(s: &[u8], times: u32, n: usize, file: &mut [u8; ROOM]) -> usize {
+    if times > TIMES {
+        return n;
+    }
+    let mut at = n;
+    let mut k = 0;
+    while k < times {
+        at = put(s, at, file);
+        k += 1;
+    }
+    at
+}
+
+// A row of text.
+pub fn text(s: &[u8], n: usize, file: &mut [u8; ROOM]) -> usize {
+    let times = crate::row::column(s, 0);
+    let count = crate::row::column(s, 1);
+    if count > 107 {
+        return n;
+    }
+    let e = TEXT + count as usize;
+    if s.len() < e {
+        return n;
+    }
+    repeat(&s[TEXT..e], times, n, file)
+}
+
+// A row of one byte, whichever it is.
+pub fn byte(s: &[u8], n: usize, file: &mut [u8; ROOM]) -> usize {
+    let times = crate::row::column(s, 0);
+    let value = crate::row::column(s, 1);
+    if times > TIMES {
+        return n;
+    }
+    if value > 255 {
+        return n;
+    }
+    let mut at = n;
+    let mut k = 0;
+    while k < times {
+        if at >= ROOM {
+            return at;
+        }
+        file[at] = value as u8;
+        at += 1;
+        k += 1;
+    }
+    at
+}
