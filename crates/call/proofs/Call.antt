@@ -26,7 +26,8 @@ use Rattle.framing.specs.Size.{uses-table, holds-mem}
 use Rattle.framing.specs.Items.{kept}
 use Rattle.order.specs.Mask.{preserved, chosen, in-mask, saved}
 use Rattle.framing.specs.Fault.{prologue-holds, result-holds}
-use Rattle.framing.proofs.Claim.{mem-at, Observed-at, sets, end-sets, prologue-steps, epilogue-steps, Ready}
+use Rattle.framing.specs.Steps.{prologue-steps, epilogue-steps}
+use Rattle.framing.proofs.Claim.{mem-at, Observed-at, sets, end-sets, Ready}
 use Rattle.framing.proofs.Claim as F
 use Rattle.framing.proofs.Closing.{leaves}
 use Rattle.call.specs.Program.{Program}

@@ -14,7 +14,7 @@ use Rattle.order.specs.declared.Head.{Head}
 use Rattle.order.specs.declared.Frame.the-variants.{Fast}
 use Rattle.assembler.specs.Bytes.{bytes}
 use Rattle.order.specs.Mask.{preserved}
-use Rattle.framing.proofs.Claim.{prologue-steps, epilogue-steps}
+use Rattle.framing.specs.Steps.{prologue-steps, epilogue-steps}
 use Rattle.call.specs.Program.{Program}
 use Rattle.call.specs.Plain.{Reading, Reads, Ended, Forward}
 use Rattle.call.specs.Terms.{table-used, cell-address, as-called, table-cell, start, end-obs, Within, frame, Terms}

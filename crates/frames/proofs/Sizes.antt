@@ -20,7 +20,8 @@ use Rattle.accesses.specs.Code.{li-code, sub-stack-code, allocate-stack-code}
 use Rattle.accesses.proofs.Collect.{li-near, li-far}
 use Rattle.order.specs.Mask.{saved}
 use Rattle.framing.specs.Items.{code, count-down, times-over, repeated, reload, reloads}
-use Rattle.frames.specs.Whole.{copy-first, copy-each, copy-label, copies, looped}
+use Rattle.framing.specs.Copies.{copy-first, copy-each, copy-label, copies}
+use Rattle.frames.specs.Whole.{looped}
 use Rattle.framing.proofs.Count.{over-length}
 use Rattle.frames.proofs.Parts.{words-code, jumps-code, labels-code}
 

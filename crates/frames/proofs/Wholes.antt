@@ -22,7 +22,8 @@ use Rattle.laid.proofs.Both.{Accepts}
 use Rattle.framing.specs.Size.{frame-size, stack-size}
 use Rattle.framing.specs.Items.{code, mv, opening, closing, states-from, prologue-fast, prologue-indirect, epilogue-fast, epilogue-indirect, prologue, epilogue, at-main, at-done}
 use Rattle.framing.specs.Fault.{prologue-fault, epilogue-fault}
-use Rattle.frames.specs.Whole.{copies, entry}
+use Rattle.framing.specs.Copies.{copies}
+use Rattle.frames.specs.Whole.{entry}
 use Rattle.frames.proofs.Parts.{words-code, jumps-code, labels-code, untagged}
 use Rattle.frames.proofs.Sizes.{code-number, copies-jumps, copies-labels}
 

@@ -14,6 +14,7 @@ use Rattle.assembler.specs.declared.Asm.{Asm}
 use Rattle.accesses.specs.Code.{li-code}
 use Rattle.assembler.specs.declared.Kind.the-variants.{Beq, Bne}
 use Rattle.order.specs.declared.Frame.the-variants.{Indirect}
+use Rattle.framing.specs.Copies.{copy-first, copy-each, copy-label}
 use Rattle.framing.specs.Items.{code, mv, opening, at-self, at-main, count-down, state-copy, obs-copy, repeated, at-pro, at-epi}
 
 abbrev pub is-accepted : Answer (Unit {0}) → Bool

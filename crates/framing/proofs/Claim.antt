@@ -20,6 +20,7 @@ use Rattle.order.specs.declared.Head.{Head}
 use Rattle.assembler.specs.Item.{Item}
 use Rattle.assembler.specs.Resolved.{resolved}
 use Rattle.accesses.specs.Code.{li-code, sub-stack-code, allocate-stack-code}
+use Rattle.framing.specs.Steps.{prologue-steps, epilogue-steps}
 use Rattle.framing.specs.Size.{uses-table, holds-mem, frame-size, stack-size, below-saves, whole-size}
 use Rattle.order.specs.Mask.{saved, save-cell}
 use Rattle.framing.specs.Items.{kept, prologue, saves, reloads, epilogue}
@@ -73,23 +74,6 @@ pub record Called (H : Head) (at : ℕ → ℕ) (s : State) (bottom : ℕ) : Typ
 abbrev pub indirect : Frame → Bool
 indirect Fast = false
 indirect Indirect = true
-
--- the words run by `repeated`: those of `first`, then six a round, or eight in the loop
-abbrev pub repeated-steps : ℕ → (first : ℕ) → ℕ
-repeated-steps n first =
-    cond (eqb n 0) 0 (cond (leb n 16) (first + 6 * n) (first + length (li-code 7 (pos n)) + 8 * n))
-
--- the words that prologue and saves run
-abbrev pub prologue-steps : Head → Frame → (a1 : ℕ) → ℕ
-prologue-steps H Fast a1 =
-    8 + length (sub-stack-code (frame-size H)) + length (sub-stack-code (stack-size H)) + H .states
-    + length (saved (H .mask))
-prologue-steps H Indirect a1 =
-    14
-    + cond (eqb a1 0) 0
-    (length (sub-stack-code (frame-size H)) + 2 + repeated-steps (H .states) 1)
-    + length (allocate-stack-code (stack-size H))
-    + length (saved (H .mask))
 
 -- registers that a frame sets: sp, t0..t2, s0, s1, s2..s5
 abbrev pub sets : Frame → ℕ → Bool
@@ -170,14 +154,6 @@ pub record Leaving (H : Head) (at : ℕ → ℕ) (s : State) (bottom a here : �
   pub code-apart : Off (Observed-at H s) (u .pc) (4 * length (exit-words H at here))
   pub frame-apart : Off (Observed-at H s) bottom (whole-size H (s .x 11))
   pub table-apart : T (uses-table (H .frame) (s .x 11)) → Off (Observed-at H s) (s .x 11) (16 * cells H)
-
--- the words that reloads and epilogue run
-abbrev pub epilogue-steps : Head → Frame → (a1 : ℕ) → ℕ
-epilogue-steps H Fast a1 = 10 + length (saved (H .mask))
-epilogue-steps H Indirect a1 =
-    13
-    + cond (eqb a1 0) 0 (repeated-steps (H .obs) (length (li-code 6 (pos (8 * H .states))) + 1))
-    + length (saved (H .mask))
 
 -- registers that the end sets: ra, sp, t0..t2, a0, and those that it restores
 abbrev pub end-sets : Frame → ℕ → Bool

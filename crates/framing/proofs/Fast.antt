@@ -30,7 +30,8 @@ use Rattle.framing.proofs.Land.{In, load8-same, off-above, off-below, n
 use Rattle.framing.proofs.Walk.{resolved-all, code-append, Words, Came, run-rm}
 use Rattle.framing.proofs.Seg.{Seg, seg-join, seg-wider, seg-same, onward-seg, Lowered, down-to, Begun, begun}
 use Rattle.framing.proofs.Rows.{Stored, states-stored, saves-stored}
-use Rattle.framing.proofs.Claim.{Frame-at, Called, Ready, prologue-steps, sets}
+use Rattle.framing.specs.Steps.{prologue-steps}
+use Rattle.framing.proofs.Claim.{Frame-at, Called, Ready, sets}
 
 lengths : (o a b c d : List Instr) (m n : Instr) → length ((o ++ (a ++ (m ∷ (b ++ (n ∷ c))))) ++ d) ≡ length o + (length a + suc (length b + suc (length c))) + length d
 lengths o a b c d m n =

@@ -39,7 +39,8 @@ use Rattle.framing.proofs.Rows.{Stored, saves-stored, not-ten}
 use Rattle.framing.proofs.Count.{sub-stack-length, repeated-words, repeated-none}
 use Rattle.framing.proofs.Repeat.{Round, repeat}
 use Rattle.framing.proofs.Copy.{off-part, copy-regs, Copied, copied-free, round, begin, floats-last}
-use Rattle.framing.proofs.Claim.{Frame-at, Called, Ready, prologue-steps, repeated-steps, sets, table-cell, mem-at, state-of, floats-of}
+use Rattle.framing.specs.Steps.{prologue-steps, repeated-steps}
+use Rattle.framing.proofs.Claim.{Frame-at, Called, Ready, sets, table-cell, mem-at, state-of, floats-of}
 
 -- ---- the branch over the table's part
 

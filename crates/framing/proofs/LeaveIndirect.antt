@@ -40,7 +40,8 @@ use Rattle.framing.proofs.Indirect.{forward, over, over-keeps, over-goe
 use Rattle.framing.proofs.Rows.{not-ten}
 use Rattle.framing.proofs.Reload.{restoring, return, restored, Restored, restores-indirect}
 use Rattle.framing.proofs.Leave.{Reloaded, stood, reloaded, Closed, closes}
-use Rattle.framing.proofs.Claim.{Observed-at, observed, table-cell, mem-at, repeated-steps, Leaving, Returned, end-sets}
+use Rattle.framing.specs.Steps.{repeated-steps}
+use Rattle.framing.proofs.Claim.{Observed-at, observed, table-cell, mem-at, Leaving, Returned, end-sets}
 
 -- a register that the end doesn't set
 clear : (r : ℕ) → T (not (end-sets Indirect r)) → T (not (restored Indirect r)) × T (not (copy-regs r)) × (r ≢ 10)

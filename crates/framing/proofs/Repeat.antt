@@ -26,7 +26,7 @@ use Rattle.framing.specs.Items.{code, times-over, count-down, repeated}
 use Rattle.framing.proofs.Walk.{Stands, Words, Stood, piece, behind, behind-label, jump-word, stood-code, Came, came-at, onward, hop}
 use Rattle.framing.proofs.Stack.{li}
 use Rattle.framing.proofs.Count.{over-length, row-words, loop-words}
-use Rattle.framing.proofs.Claim.{repeated-steps}
+use Rattle.framing.specs.Steps.{repeated-steps}
 use Rattle.framing.proofs.Seg.{Seg, seg-join, seg-none, seg-quiet, onward-seg}
 
 -- ---- back over seven words

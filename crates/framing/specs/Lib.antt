@@ -2,3 +2,4 @@ pub mod Size
 pub mod Items
 pub mod Copies
 pub mod Fault
+pub mod Steps

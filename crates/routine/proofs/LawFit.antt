@@ -21,7 +21,7 @@ use Rattle.assembler.specs.declared.Kind.the-variants.{Bne}
 use Rattle.accesses.specs.Code.{li-code, sub-stack-code, allocate-stack-code, load-int-code, load-float-code, save-float-code}
 use Rattle.framing.specs.Size.{frame-size, stack-size}
 use Rattle.order.specs.Mask.{saved}
-use Rattle.frames.specs.Items as F
+use Rattle.framing.specs.Items as F
 use Rattle.framing.specs.Items.{mv, opening, closing, times-over, states-from, state-copy, obs-copy, count-down, at-pro, at-epi, save, reload, by-frame, repeated, prologue, prologue-fast, prologue-indirect, epilogue, epilogue-fast, epilogue-indirect, saves, reloads}
 use Rattle.orders.specs.Code.{base, unary-code, scratched-code, binary-code, choose-code, code}
 use Rattle.orders.specs.Fault.{fault}

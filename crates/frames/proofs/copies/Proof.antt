@@ -6,7 +6,8 @@ use Rattle.assembler.specs.Item.{Item}
 use Rattle.assembler.specs.Put.{jumps, put}
 use Rattle.assembler.specs.State.{state}
 use Rattle.framing.specs.Items.{times-over}
-use Rattle.frames.specs.Whole.{copy-first, copy-each, looped}
+use Rattle.framing.specs.Copies.{copy-first, copy-each}
+use Rattle.frames.specs.Whole.{looped}
 use Rattle.frames.proofs.Parts.{jumps-code, untagged, plan-code}
 use Rattle.frames.proofs.Sizes.{none-are, few-are, many-are}
 use borrow.Author.Needs.{needs}

@@ -7,7 +7,7 @@ use denote.Ref.{now}
 use Rattle.assembler.specs.State.{State, state}
 use Rattle.laid.proofs.Both.{Accepts}
 use Rattle.framing.specs.Items.{code, times-over}
-use Rattle.frames.specs.Whole.{copy-each}
+use Rattle.framing.specs.Copies.{copy-each}
 use Rattle.frames.proofs.Parts.{plan-code, refuses, opens, closed, row-piece}
 use Rattle.frames.proofs.Sizes.{six, row-number}
 use Rattle.framing.proofs.Valid.{each-valid}

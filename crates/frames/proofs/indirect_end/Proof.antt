@@ -9,7 +9,7 @@ use Rattle.assembler.specs.Put.{jumps}
 use Rattle.assembler.specs.State.{state}
 use Rattle.assembler.specs.declared.Kind.the-variants.{Beq}
 use Rattle.framing.specs.Items.{code, closing, epilogue-indirect, at-done}
-use Rattle.frames.specs.Whole.{copies}
+use Rattle.framing.specs.Copies.{copies}
 use Rattle.frames.proofs.Parts.{plan-code, label-set, refuses, opens, closes, piece}
 use Rattle.order.specs.declared.Head.{Head}
 use Rattle.order.specs.declared.Frame.the-variants.{Indirect}

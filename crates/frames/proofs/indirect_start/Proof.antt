@@ -10,7 +10,8 @@ use Rattle.assembler.specs.Item.{label}
 use Rattle.assembler.specs.Put.{jumps}
 use Rattle.assembler.specs.State.{state}
 use Rattle.framing.specs.Items.{code, mv, prologue-indirect, at-main}
-use Rattle.frames.specs.Whole.{copies, entry}
+use Rattle.framing.specs.Copies.{copies}
+use Rattle.frames.specs.Whole.{entry}
 use Rattle.frames.proofs.Parts.{plan-code, label-set, refuses, opens, closes, front-piece, piece, size-put}
 use Rattle.isa.specs.Instr.{Shift, SLLI}
 use Rattle.order.specs.declared.Head.{Head}

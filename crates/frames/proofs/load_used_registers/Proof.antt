@@ -9,7 +9,8 @@ use Rattle.accesses.proofs.Collect.{collected}
 use Rattle.accesses.proofs.Numbers.{answered-at}
 use lib.ListN.{length-map}
 use Rattle.order.specs.Mask.{saved}
-use Rattle.frames.proofs.Pushes.{saved-few, reload-list-valid}
+use Rattle.framing.proofs.Listed.{reload-list-valid}
+use Rattle.frames.proofs.Pushes.{saved-few}
 use Rattle.frames.proofs.Sizes.{reload-number}
 use native.Mathlib.Omega.{arith}
 use mathlib.Core.Path.{refl, sym, _∙_}

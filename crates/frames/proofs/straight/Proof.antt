@@ -5,7 +5,7 @@ use denote.Ref.{now}
 use Rattle.assembler.specs.Put.{jumps}
 use Rattle.assembler.specs.State.{state}
 use Rattle.framing.specs.Items.{code, times-over}
-use Rattle.frames.specs.Whole.{copy-first, copy-each}
+use Rattle.framing.specs.Copies.{copy-first, copy-each}
 use Rattle.frames.proofs.Parts.{plan-code, refuses, opens, closes, code-piece}
 use Rattle.framing.proofs.Valid.{first-valid}
 use Rattle.frames.proofs.Sizes.{straight-number}
