@@ -1,0 +1,51 @@
+-- Answers as the numbers that a caller in C gets.
+use mathlib.Core.Path.{_≡_}
+use mathlib.Core.List.{List, [], _∷_}
+use Prim.Native.Nat.{ℕ}
+use lib.ListN.{length}
+use Rattle.refusal.specs.Answer.{Answer, accepted, refused}
+use Rattle.order.specs.declared.Frame.{Frame}
+use Rattle.order.specs.declared.Frame.the-variants.{Fast, Indirect}
+use Rattle.print.specs.declared.Text.{Text}
+use Rattle.print.specs.declared.Text.the-variants as Text
+use Rattle.routine.specs.Routine.{Told, program-of, told-answer, buffer-after}
+use Rattle.routine.specs.Run.{Made}
+
+-- document 01's number; 0 where the answer is no refusal
+abbrev pub number : {A : Type 0} → Answer A → ℕ
+number (accepted a) = 0
+number (refused n place) = n
+
+abbrev pub place : {A : Type 0} → Answer A → ℕ
+place (accepted a) = 0
+place (refused n p) = p
+
+abbrev pub frame-number : Frame → ℕ
+frame-number Fast = 0
+frame-number Indirect = 1
+
+-- number, line, length, the constants' offset and count, jump count, frame; 0 what the answer hasn't
+abbrev pub deck-numbers : Answer Told → List ℕ
+deck-numbers (accepted t) = 0 ∷ 0 ∷ t .length ∷ t .offset ∷ t .constants ∷ t .jumps ∷ frame-number (t .frame) ∷ []
+deck-numbers (refused n line) = n ∷ line ∷ 0 ∷ 0 ∷ 0 ∷ 0 ∷ 0 ∷ []
+
+-- What `deck_emit` answers and leaves.
+abbrev pub Deck : (file buf : List ℕ) → (answer : ℕ) → (told after : List ℕ) → Type 0
+Deck file buf answer told after =
+    (answer ≡ number (program-of (length buf) file))
+    × (told ≡ deck-numbers (told-answer (program-of (length buf) file)))
+    × (after ≡ buffer-after (program-of (length buf) file) buf)
+
+-- What `deck_emit_in` answers and leaves.
+abbrev pub DeckIn : Made → (answer : ℕ) → (told labels jumps buf : List ℕ) → Type 0
+DeckIn m answer told labels jumps buf =
+    (answer ≡ number (m .answer))
+    × (told ≡ deck-numbers (m .answer))
+    × (labels ≡ m .state .labels)
+    × (jumps ≡ m .state .jumps)
+    × (buf ≡ m .state .buf)
+
+-- how long a text is that was put; 0 where it was not
+abbrev pub text-number : Text → ℕ
+text-number (Text.Length n) = n
+text-number Text.TooLong = 0

@@ -1,0 +1,245 @@
+// Deck files and single orders for a caller in C or Rust: numbers and lent memory (include/handheld.h).
+ghost use mathlib.Core.Path.{_≡_};
+ghost use mathlib.Core.List.{List, []};
+ghost use Prim.Native.Nat.{ℕ};
+ghost use Rattle.refusal.specs.Number.{number-of};
+ghost use Rattle.form.specs.Form.{form-of};
+ghost use Rattle.assembler.specs.State.{state, outcome};
+ghost use Rattle.assembler.specs.Put.{put};
+ghost use Rattle.finish.specs.Finish.{finish};
+ghost use Rattle.routine.specs.Told.{told as told-answer};
+ghost use Rattle.routine.specs.Run.{run};
+ghost use Rattle.print.specs.Text.{length-in, put-in};
+ghost use Rattle.answer.specs.Answer.{deck-text as text-of-deck};
+ghost use Rattle.handheld.specs.Numbers.{number, frame-number as number-of-frame, deck-numbers, Deck, DeckIn, text-number};
+ghost use Rattle.handheld.specs.Single.{is-order as names-order, no-order as no-order-of, line-put, asm-of as record-of, numbers-of as record-numbers, left, order-left, finish-left, finish-told};
+use assembler::Asm;
+use assembler::Done;
+use assembler::Plan;
+use assembler::Tail;
+use deck::Judged;
+use form::Form;
+use order::Frame;
+use print::Text;
+use refusal::Refusal;
+use routine::Answer;
+
+// ---- a deck file
+
+fn frame_number(f: Frame) -> u32
+    ensures { λ r. ⌜ r ≡ number-of-frame f ⌝ }
+{
+    match f {
+        Frame::Fast => 0,
+        Frame::Indirect => 1,
+    }
+}
+
+// Number, line, length, the constants' offset and count, jump count, frame.
+fn numbers(a: Answer) -> [u32; 7]
+    ensures { λ r. ⌜ r ≡ deck-numbers (told-answer a) ⌝ }
+{
+    match a {
+        Answer::Accepted(length, offset, constants, jumps, frame) => {
+            let f = frame_number(frame);
+            [0, 0, length, offset, constants, jumps, f]
+        }
+        Answer::Refused(why, line) => {
+            let n = refusal::number(why) as u32;
+            [n, line, 0, 0, 0, 0, 0]
+        }
+    }
+}
+
+fn answer_number(a: Answer) -> u32
+    ensures { λ r. ⌜ r ≡ number (told-answer a) ⌝ }
+{
+    match a {
+        Answer::Accepted(_, _, _, _, _) => 0,
+        Answer::Refused(why, _) => refusal::number(why) as u32,
+    }
+}
+
+// The routine of a file in a buffer: 0, or the number of the refusal.
+#[no_mangle]
+pub extern "C" fn deck_emit(file: &[u8], buf: &mut [u8], told: &mut [u32; 7]) -> u32
+    ensures { λ r. ⌜ Deck (now (file .entry)) (now (buf .entry)) r (now (told .exit)) (now (buf .exit)) ⌝ }
+{
+    let a = routine::routine(file, buf);
+    *told = numbers(a);
+    answer_number(a)
+}
+
+// The same in lent label and jump memory.
+#[no_mangle]
+pub extern "C" fn deck_emit_in(
+    file: &[u8],
+    buf: &mut [u8],
+    labels: &mut [u64; 2039],
+    jumps: &mut [u32; 20480],
+    told: &mut [u32; 7],
+) -> u32
+    ensures { λ r. ⌜ DeckIn (run (now (file .entry)) (now (jumps .entry)) (now (buf .entry))) r (now (told .exit)) (now (labels .exit)) (now (jumps .exit)) (now (buf .exit)) ⌝ }
+{
+    let e = routine::routine_in(file, buf, labels, jumps);
+    let a = e.answer;
+    *told = numbers(a);
+    answer_number(a)
+}
+
+// What `deckwords` prints of a file: the text's length, or 0 and nothing written where `out` is too short.
+#[no_mangle]
+pub extern "C" fn deck_text(file: &[u8], out: &mut [u8]) -> usize
+    ensures { λ r. ⌜ (r ≡ text-number (length-in (text-of-deck (now (file .entry))) 0 (now (out .entry)))) × (now (out .exit) ≡ put-in (text-of-deck (now (file .entry))) 0 (now (out .entry))) ⌝ }
+{
+    match answer::deck_text(file, out) {
+        Text::Length(n) => n,
+        Text::TooLong => 0,
+    }
+}
+
+// ---- single orders
+
+fn is_order(form: Form) -> bool
+    ensures { λ r. ⌜ r ≡ names-order form ⌝ }
+{
+    match form {
+        Form::Head(_, _, _, _, _, _) => false,
+        Form::Unary(_, _, _) => true,
+        Form::Scratched(_, _, _, _) => true,
+        Form::Binary(_, _, _, _) => true,
+        Form::Fused(_, _, _, _, _) => true,
+        Form::Ifelse(_, _, _, _) => true,
+        Form::LoadConst(_, _) => true,
+        Form::Load(_, _, _) => true,
+        Form::Save(_, _, _) => true,
+        Form::BranchIf(_, _, _) => true,
+        Form::SetLabel(_) => true,
+        Form::Float(_, _) => false,
+        Form::Bits(_) => false,
+        Form::Malformed => false,
+    }
+}
+
+fn no_order(asm: Asm) -> Done
+    ensures { λ r. ⌜ ((ls js b : List ℕ) → outcome r ls js b ≡ no-order-of (state asm ls js b)) ⌝ }
+{
+    Done {
+        asm,
+        answer: assembler::Answer::Refused(Refusal::Line, 0),
+    }
+}
+
+// A field's refusal, behind 8 and what else comes before it.
+fn refuse(
+    why: Refusal,
+    tag: u32,
+    buf: &mut [u8],
+    labels: &mut [u64; 2039],
+    jumps: &mut [u32; 20480],
+    asm: Asm,
+) -> Done
+    ensures { λ r. ⌜ outcome r (now (labels .exit)) (now (jumps .exit)) (now (buf .exit)) ≡ put tag (number-of why) [] (state asm (now (labels .entry)) (now (jumps .entry)) (now (buf .entry))) ⌝ }
+{
+    let p = Plan {
+        n: 0,
+        fault: refusal::number(why),
+        w: [0u32; 12],
+    };
+    assembler::place(p, Tail::Nothing, tag, buf, labels, jumps, asm)
+}
+
+// A line's order.
+fn put_line(
+    line: &[u8],
+    tag: u32,
+    buf: &mut [u8],
+    labels: &mut [u64; 2039],
+    jumps: &mut [u32; 20480],
+    asm: Asm,
+) -> Done
+    ensures { λ r. ⌜ outcome r (now (labels .exit)) (now (jumps .exit)) (now (buf .exit)) ≡ line-put tag (form-of (now (line .entry))) (state asm (now (labels .entry)) (now (jumps .entry)) (now (buf .entry))) ⌝ }
+{
+    let form = form::read_form(line);
+    if is_order(form) {
+        let j = deck::judge(form);
+        return match j {
+            Judged::Order(o) => orders::emit(o, tag, buf, labels, jumps, asm),
+            Judged::Refused(why) => refuse(why, tag, buf, labels, jumps, asm),
+            Judged::Head(_) => no_order(asm),
+            Judged::Constant(_) => no_order(asm),
+        };
+    }
+    no_order(asm)
+}
+
+// ---- the record of three numbers
+
+fn size(n: u64) -> usize
+    ensures { λ r. ⌜ r ≡ n ⌝ }
+{
+    n as usize
+}
+
+fn asm_of(rec: &[u64; 3]) -> Asm
+    ensures { λ r. ⌜ r ≡ record-of (now (rec .entry)) ⌝ }
+{
+    Asm {
+        len: size(rec[0]),
+        jumps: size(rec[1]),
+        closed: rec[2] != 0,
+    }
+}
+
+fn numbers_of(asm: Asm) -> [u64; 3]
+    ensures { λ r. ⌜ r ≡ record-numbers asm ⌝ }
+{
+    if asm.closed {
+        return [asm.len as u64, asm.jumps as u64, 1];
+    }
+    [asm.len as u64, asm.jumps as u64, 0]
+}
+
+// One order by its line, byte 10 included: 0, or the number of the refusal. `tag` is kept with each jump.
+#[no_mangle]
+pub extern "C" fn order_emit(
+    line: &[u8],
+    tag: u32,
+    buf: &mut [u8],
+    labels: &mut [u64; 2039],
+    jumps: &mut [u32; 20480],
+    rec: &mut [u64; 3],
+) -> u32
+    ensures { λ r. ⌜ left r (now (rec .exit)) (now (labels .exit)) (now (jumps .exit)) (now (buf .exit)) ≡ order-left (now (rec .entry)) (line-put tag (form-of (now (line .entry))) (state (record-of (now (rec .entry))) (now (labels .entry)) (now (jumps .entry)) (now (buf .entry)))) ⌝ }
+{
+    let d = put_line(line, tag, buf, labels, jumps, asm_of(rec));
+    let a = d.answer;
+    if let assembler::Answer::Refused(why, _) = a {
+        return refusal::number(why) as u32;
+    }
+    *rec = numbers_of(d.asm);
+    0
+}
+
+// Finishing: 0, or the number of the refusal, with its place and the jump's tag.
+#[no_mangle]
+pub extern "C" fn order_finish(
+    buf: &mut [u8],
+    labels: &[u64; 2039],
+    jumps: &[u32; 20480],
+    rec: &mut [u64; 3],
+    told: &mut [u32; 2],
+) -> u32
+    ensures { λ r. ⌜ (left r (now (rec .exit)) (now (labels .entry)) (now (jumps .entry)) (now (buf .exit)) ≡ finish-left (now (rec .entry)) (finish (state (record-of (now (rec .entry))) (now (labels .entry)) (now (jumps .entry)) (now (buf .entry))))) × (now (told .exit) ≡ finish-told (finish (state (record-of (now (rec .entry))) (now (labels .entry)) (now (jumps .entry)) (now (buf .entry))))) ⌝ }
+{
+    let f = finish::apply_jumps(buf, labels, jumps, asm_of(rec));
+    let a = f.answer;
+    let tag = f.tag;
+    if let assembler::Answer::Refused(why, at) = a {
+        *told = [at, tag];
+        return refusal::number(why) as u32;
+    }
+    *told = [0, tag];
+    *rec = numbers_of(f.asm);
+    0
+}

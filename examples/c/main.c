@@ -1,0 +1,65 @@
+/* Prints a deck file's words and what is told of them, then lays a few orders by hand.
+
+   tools/handheld builds and tries this. By hand, from the root of the repository:
+
+       rt staticlib handheld
+       cc -Iinclude examples/c/main.c target/staticlib/libhandheld.a -o target/handheld_c
+       target/handheld_c examples/free_bays.deck */
+#include <inttypes.h>
+#include <stdio.h>
+#include <string.h>
+
+#include "handheld.h"
+
+static uint8_t file[DECK_FILE + 1]; /* one byte more, so that a file too long is seen to be */
+static uint8_t code[DECK_ROOM];
+static uint8_t text[DECK_TEXT];
+static uint64_t labels[DECK_LABELS];
+static uint32_t jumps[DECK_JUMPS];
+
+static void deck(size_t length) {
+    uint32_t told[DECK_TOLD];
+    uint32_t number = deck_emit(file, length, code, sizeof code, told);
+    fwrite(text, 1, deck_text(file, length, text, sizeof text), stdout);
+    printf("number %" PRIu32 ", line %" PRIu32 ", length %" PRIu32 ", constants %" PRIu32 " at %" PRIu32
+           ", jumps %" PRIu32 ", frame %" PRIu32 "\n",
+           number, told[DECK_TOLD_LINE], told[DECK_TOLD_LENGTH], told[DECK_TOLD_CONSTANTS],
+           told[DECK_TOLD_OFFSET], told[DECK_TOLD_JUMPS], told[DECK_TOLD_FRAME]);
+}
+
+static void words(const uint8_t *at, size_t length) {
+    for (size_t i = 0; i + 4 <= length; i += 4)
+        printf("%zu,%02x%02x%02x%02x\n", i, at[i + 3], at[i + 2], at[i + 1], at[i]);
+}
+
+/* Lays a line's order, with its own number among the lines as the tag. */
+static void lay(const char *line, uint32_t tag, uint64_t record[ORDER_RECORD]) {
+    uint32_t number = order_emit((const uint8_t *)line, strlen(line), tag, code, sizeof code, labels, jumps, record);
+    printf("%" PRIu32 " %s", number, line);
+}
+
+static void by_hand(const char *const *lines, uint32_t count) {
+    uint64_t record[ORDER_RECORD] = {0};
+    uint32_t told[2];
+    memset(code, 0, sizeof code);
+    memset(labels, 0, sizeof labels);
+    for (uint32_t i = 0; i < count; i++) lay(lines[i], i + 1, record);
+    uint32_t number = order_finish(code, sizeof code, labels, jumps, record, told);
+    printf("%" PRIu32 " finish: place %" PRIu32 ", tag %" PRIu32 ", length %" PRIu64 ", jumps %" PRIu64 ", closed %" PRIu64 "\n",
+           number, told[0], told[1], record[ORDER_LENGTH], record[ORDER_JUMPS], record[ORDER_CLOSED]);
+    lay(lines[0], 0, record);
+    words(code, record[ORDER_LENGTH]);
+}
+
+int main(int argc, char **argv) {
+    FILE *in = argc == 2 ? fopen(argv[1], "rb") : NULL;
+    if (!in) {
+        fprintf(stderr, "usage: %s DECK\n", argv[0]);
+        return 2;
+    }
+    deck(fread(file, 1, sizeof file, in));
+    fclose(in);
+    by_hand((const char *const[]){"label,0\n", "minus,10,10,11\n", "minus,10,10,32\n", "float,3\n", "branch,10,0,0\n"}, 5);
+    by_hand((const char *const[]){"fmov,10,11\n", "branch,10,7,1\n"}, 2);
+    return 0;
+}

@@ -1,0 +1,142 @@
+//! Prints a deck file's words and what is told of them, then lays a few orders by hand.
+//!
+//! tools/handheld builds and tries this. By hand, from the root of the repository:
+//!
+//!     rt staticlib handheld
+//!     rustc -L target/staticlib -l static=handheld examples/rust/main.rs -o target/handheld_rust
+//!     target/handheld_rust examples/free_bays.deck
+
+use std::io::Write;
+
+/// include/handheld.h in Rust: memory as slices and arrays, so that lengths, alignment and overlap
+/// are the compiler's care.
+mod handheld {
+    pub const ROOM: usize = 65536;
+    pub const TEXT: usize = 245760;
+    pub const LABELS: usize = 2039;
+    pub const JUMPS: usize = 20480;
+
+    mod c {
+        use super::{JUMPS, LABELS};
+        extern "C" {
+            pub fn deck_emit(file: *const u8, n: usize, buf: *mut u8, m: usize, told: &mut [u32; 7]) -> u32;
+            pub fn deck_text(file: *const u8, n: usize, out: *mut u8, m: usize) -> usize;
+            pub fn order_emit(
+                line: *const u8,
+                n: usize,
+                tag: u32,
+                buf: *mut u8,
+                m: usize,
+                labels: &mut [u64; LABELS],
+                jumps: &mut [u32; JUMPS],
+                record: &mut [u64; 3],
+            ) -> u32;
+            pub fn order_finish(
+                buf: *mut u8,
+                m: usize,
+                labels: &[u64; LABELS],
+                jumps: &[u32; JUMPS],
+                record: &mut [u64; 3],
+                told: &mut [u32; 2],
+            ) -> u32;
+        }
+    }
+
+    /// The number, and all that is told.
+    pub fn deck_emit(file: &[u8], buf: &mut [u8]) -> (u32, [u32; 7]) {
+        let mut told = [0; 7];
+        let number = unsafe { c::deck_emit(file.as_ptr(), file.len(), buf.as_mut_ptr(), buf.len(), &mut told) };
+        (number, told)
+    }
+
+    pub fn deck_text(file: &[u8]) -> Vec<u8> {
+        let mut out = vec![0; TEXT];
+        let n = unsafe { c::deck_text(file.as_ptr(), file.len(), out.as_mut_ptr(), out.len()) };
+        out.truncate(n);
+        out
+    }
+
+    /// Single orders, with their record and memories.
+    pub struct Orders {
+        pub buf: Vec<u8>,
+        pub record: [u64; 3],
+        labels: Box<[u64; LABELS]>,
+        jumps: Box<[u32; JUMPS]>,
+    }
+
+    impl Orders {
+        pub fn new() -> Orders {
+            Orders {
+                buf: vec![0; ROOM],
+                record: [0; 3],
+                labels: Box::new([0; LABELS]),
+                jumps: Box::new([0; JUMPS]),
+            }
+        }
+
+        pub fn emit(&mut self, line: &[u8], tag: u32) -> u32 {
+            unsafe {
+                c::order_emit(
+                    line.as_ptr(),
+                    line.len(),
+                    tag,
+                    self.buf.as_mut_ptr(),
+                    self.buf.len(),
+                    &mut self.labels,
+                    &mut self.jumps,
+                    &mut self.record,
+                )
+            }
+        }
+
+        /// The number, and the refusal's place and tag.
+        pub fn finish(&mut self) -> (u32, [u32; 2]) {
+            let mut told = [0; 2];
+            let number = unsafe {
+                c::order_finish(
+                    self.buf.as_mut_ptr(),
+                    self.buf.len(),
+                    &self.labels,
+                    &self.jumps,
+                    &mut self.record,
+                    &mut told,
+                )
+            };
+            (number, told)
+        }
+    }
+}
+
+fn deck(file: &[u8]) {
+    let mut code = vec![0; handheld::ROOM];
+    let (number, [_, line, length, offset, constants, jumps, frame]) = handheld::deck_emit(file, &mut code);
+    std::io::stdout().write_all(&handheld::deck_text(file)).unwrap();
+    println!(
+        "number {number}, line {line}, length {length}, constants {constants} at {offset}, jumps {jumps}, frame {frame}"
+    );
+}
+
+/// Lays the lines' orders, each with its number among them as the tag.
+fn by_hand(lines: &[&str]) {
+    let mut orders = handheld::Orders::new();
+    for (i, line) in lines.iter().enumerate() {
+        print!("{} {line}", orders.emit(line.as_bytes(), i as u32 + 1));
+    }
+    let (number, [place, tag]) = orders.finish();
+    let [length, jumps, closed] = orders.record;
+    println!("{number} finish: place {place}, tag {tag}, length {length}, jumps {jumps}, closed {closed}");
+    print!("{} {}", orders.emit(lines[0].as_bytes(), 0), lines[0]);
+    for (i, word) in orders.buf[..orders.record[0] as usize].chunks(4).enumerate() {
+        println!("{},{:08x}", 4 * i, u32::from_le_bytes(word.try_into().unwrap()));
+    }
+}
+
+fn main() {
+    let Some(path) = std::env::args().nth(1) else {
+        eprintln!("usage: handheld_rust DECK");
+        std::process::exit(2);
+    };
+    deck(&std::fs::read(path).unwrap());
+    by_hand(&["label,0\n", "minus,10,10,11\n", "minus,10,10,32\n", "float,3\n", "branch,10,0,0\n"]);
+    by_hand(&["fmov,10,11\n", "branch,10,7,1\n"]);
+}

@@ -1,0 +1,99 @@
+/* Deck files and single orders as RV64 machine words: libhandheld.a (`rt staticlib handheld`).
+
+   Every function is proved to answer and leave what crates/handheld says, for all arguments that
+   meet the terms below. The library keeps nothing between calls, allocates nothing and calls no
+   other library.
+
+   What the caller owes, since C cannot state it:
+   - A pointer with a length: that many bytes may be read, and written where it is not const. It is
+     not null, even where the length is 0. No length exceeds PTRDIFF_MAX.
+   - An array in brackets has exactly that many elements, at its type's alignment.
+   - No memory of a call overlaps another one's of the same call.
+   - 256 KiB of stack.
+
+   A refusal is one of the numbers below; 0 is none. */
+#ifndef HANDHELD_H
+#define HANDHELD_H
+
+#include <stddef.h>
+#include <stdint.h>
+
+#ifdef __cplusplus
+extern "C" {
+#endif
+
+enum {
+    DECK_REGISTER = 1,
+    DECK_VALUE = 2,
+    DECK_LABEL = 3,
+    DECK_TWICE = 4,
+    DECK_UNSET = 5,
+    DECK_FAR = 6,
+    DECK_FULL = 7,
+    DECK_CLOSED = 8,
+    DECK_COUNT = 9,
+    DECK_BASE = 10,
+    DECK_UNSAVED = 11,
+    DECK_LINE = 12
+};
+
+enum {
+    DECK_FILE = 65536,  /* the longest file that is not refused for its length */
+    DECK_ROOM = 65536,  /* so many bytes of a buffer count; those behind never change */
+    DECK_TEXT = 245760, /* no text is longer */
+    DECK_LABELS = 2039,
+    DECK_JUMPS = 20480
+};
+
+/* What deck_emit and deck_emit_in tell. The last five are 0 in a refusal, the line in an accepted file. */
+enum {
+    DECK_TOLD_NUMBER,
+    DECK_TOLD_LINE,
+    DECK_TOLD_LENGTH,    /* of the code, constants included, in bytes */
+    DECK_TOLD_OFFSET,    /* where constants start; the length where there are none */
+    DECK_TOLD_CONSTANTS, /* how many */
+    DECK_TOLD_JUMPS,
+    DECK_TOLD_FRAME,     /* 0 fast, 1 indirect */
+    DECK_TOLD
+};
+
+/* A deck file's routine into buf, from its first byte on, with zeros behind it; a refused file leaves
+   zeros. Answers the number. */
+uint32_t deck_emit(const uint8_t *file, size_t file_length, uint8_t *buf, size_t buf_length,
+                   uint32_t told[DECK_TOLD]);
+
+/* The same in lent label and jump memory, whatever they hold; they are left as the routine made them. */
+uint32_t deck_emit_in(const uint8_t *file, size_t file_length, uint8_t *buf, size_t buf_length,
+                      uint64_t labels[DECK_LABELS], uint32_t jumps[DECK_JUMPS], uint32_t told[DECK_TOLD]);
+
+/* What deckwords prints of a file, into out: a line for each word, or the refusal. Answers the text's
+   length; 0 where out is too short, which is then as it was. */
+size_t deck_text(const uint8_t *file, size_t file_length, uint8_t *out, size_t out_length);
+
+/* The record of single orders. All zeros before the first order, as is the label memory; the jump
+   memory may hold anything. */
+enum {
+    ORDER_LENGTH, /* bytes written */
+    ORDER_JUMPS,
+    ORDER_CLOSED, /* 0 until an accepted finish, then 1; any other number counts as 1 */
+    ORDER_RECORD
+};
+
+/* One order by its line in a deck file, byte 10 included; any other line is DECK_LINE, a constant's
+   too. Its words go behind those written, its jumps behind the others, with the tag. A refusal changes
+   nothing. Answers the number. No head is known here: an index is DECK_COUNT above 4,095 only, and
+   DECK_UNSAVED never comes. */
+uint32_t order_emit(const uint8_t *line, size_t line_length, uint32_t tag, uint8_t *buf, size_t buf_length,
+                    uint64_t labels[DECK_LABELS], uint32_t jumps[DECK_JUMPS], uint64_t record[ORDER_RECORD]);
+
+/* Every jump's word, and the record closed; a refusal changes neither. told: the place of the refusal
+   in bytes, and the tag of the jump that it is about; both 0 where it is about none. Answers the
+   number. */
+uint32_t order_finish(uint8_t *buf, size_t buf_length, const uint64_t labels[DECK_LABELS],
+                      const uint32_t jumps[DECK_JUMPS], uint64_t record[ORDER_RECORD], uint32_t told[2]);
+
+#ifdef __cplusplus
+}
+#endif
+
+#endif
