@@ -8,14 +8,37 @@ include!("around.rs");
 
 use std::hint::black_box;
 
-// The one place that knows how the library is called.
+// The one place that knows how the library is called (include/handheld.h).
 mod library {
     extern "C" {
-        fn deck_emit(file: *const u8, file_len: usize, buf: *mut u8, buf_len: usize) -> u64;
+        fn deck_emit_in(
+            file: *const u8,
+            file_len: usize,
+            buf: *mut u8,
+            buf_len: usize,
+            labels: &mut [u64; 2039],
+            jumps: &mut [u32; 20480],
+            told: &mut [u32; 7],
+        ) -> u32;
     }
 
-    pub fn emit(file: &[u8], buf: &mut [u8]) {
-        unsafe { deck_emit(file.as_ptr(), file.len(), buf.as_mut_ptr(), buf.len()) };
+    // Label and jump memory, lent for every deck.
+    pub struct Memory {
+        labels: [u64; 2039],
+        jumps: [u32; 20480],
+    }
+
+    impl Memory {
+        pub fn new() -> Memory {
+            Memory { labels: [0; 2039], jumps: [0; 20480] }
+        }
+
+        pub fn emit(&mut self, file: &[u8], buf: &mut [u8]) {
+            let mut told = [0; 7];
+            unsafe {
+                deck_emit_in(file.as_ptr(), file.len(), buf.as_mut_ptr(), buf.len(), &mut self.labels, &mut self.jumps, &mut told)
+            };
+        }
     }
 }
 
@@ -65,19 +88,20 @@ fn bytes(digits: &str) -> Vec<u8> {
 }
 
 fn main() {
+    let mut memory = library::Memory::new();
     for line in std::io::stdin().lines() {
         let line = line.unwrap();
         let mut parts = line.splitn(4, ' ');
         let (name, lines, file, steps) = (parts.next().unwrap(), parts.next().unwrap(), bytes(parts.next().unwrap()), parts.next().unwrap());
         let mut deck = Bench.prepare(steps);
         let (mut ours, mut theirs) = (vec![1; 65536], vec![1; 65536]);
-        library::emit(&file, &mut ours);
+        memory.emit(&file, &mut ours);
         let length = deck.emit(Some(&mut theirs));
         if ours != theirs {
             println!("{name}: the words differ");
             std::process::exit(1);
         }
-        let a = nanoseconds(|| library::emit(black_box(&file), black_box(&mut ours)));
+        let a = nanoseconds(|| memory.emit(black_box(&file), black_box(&mut ours)));
         let b = nanoseconds(|| drop(black_box(deck.emit(Some(black_box(&mut theirs))))));
         let c = nanoseconds(|| drop(black_box(deck.emit(None))));
         println!("{name} {lines} {} {length} {a:.0} {b:.0} {c:.0}", file.len());
