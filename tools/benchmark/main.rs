@@ -1,7 +1,8 @@
 // Times decks: from file to words through the static library, and the Rust's functions on the same orders, which are prepared before.
 // A line of standard input is a deck: its name, the count of its lines, its bytes in hexadecimal digits, and behind a space the steps that the
 // driver takes. A line of the answer is: name, lines, bytes of the file, bytes of code, and nanoseconds for a deck: through the static library;
-// the Rust's functions with a cleared buffer of 65,536 bytes that gets the code; the Rust's functions alone.
+// a plain Rust reader of the same file over the Rust's functions, with a cleared buffer of 65,536 bytes that gets the code; the Rust's functions
+// with such a buffer; the Rust's functions alone.
 #![allow(warnings)]
 
 include!("around.rs");
@@ -45,6 +46,8 @@ mod library {
 // A deck of the Rust's: its steps are prepared. `emit` does them on a fresh assembler; with a buffer, that is cleared and gets the code.
 pub trait Deck {
     fn emit(&mut self, buf: Option<&mut [u8]>) -> usize;
+    // the same from the file's text
+    fn read(&mut self, file: &[u8], buf: &mut [u8]) -> usize;
 }
 
 pub struct Bench;
@@ -101,9 +104,16 @@ fn main() {
             println!("{name}: the words differ");
             std::process::exit(1);
         }
+        theirs.fill(1);
+        deck.read(&file, &mut theirs);
+        if ours != theirs {
+            println!("{name}: the words read differ");
+            std::process::exit(1);
+        }
         let a = nanoseconds(|| memory.emit(black_box(&file), black_box(&mut ours)));
+        let read = nanoseconds(|| drop(black_box(deck.read(black_box(&file), black_box(&mut theirs)))));
         let b = nanoseconds(|| drop(black_box(deck.emit(Some(black_box(&mut theirs))))));
         let c = nanoseconds(|| drop(black_box(deck.emit(None))));
-        println!("{name} {lines} {} {length} {a:.0} {b:.0} {c:.0}", file.len());
+        println!("{name} {lines} {} {length} {a:.0} {read:.0} {b:.0} {c:.0}", file.len());
     }
 }

@@ -6,6 +6,7 @@ type Step = Box<dyn Fn(&mut RiscV)>;
 struct Steps {
     riscv: RiscV,
     steps: Vec<Step>,
+    registers: [Reg; 32],
 }
 
 impl crate::Prepare for crate::Bench {
@@ -16,7 +17,19 @@ impl crate::Prepare for crate::Bench {
             let name = words.next().unwrap().to_string();
             prepared(&name, words.map(|w| w.parse().unwrap()).collect())
         });
-        Box::new(Steps { riscv: RiscV::new(config), steps: steps.collect() })
+        let registers = std::array::from_fn(|i| float(i as i64));
+        Box::new(Steps { riscv: RiscV::new(config), steps: steps.collect(), registers })
+    }
+}
+
+impl Steps {
+    fn hand_out(&self, buf: Option<&mut [u8]>) -> usize {
+        let code = &self.riscv.a.buf;
+        if let Some(buf) = buf {
+            buf.fill(0);
+            buf[..code.len()].copy_from_slice(code);
+        }
+        code.len()
     }
 }
 
@@ -26,12 +39,119 @@ impl crate::Deck for Steps {
         for step in &self.steps {
             step(&mut self.riscv);
         }
-        let code = &self.riscv.a.buf;
-        if let Some(buf) = buf {
-            buf.fill(0);
-            buf[..code.len()].copy_from_slice(code);
+        self.hand_out(buf)
+    }
+
+    fn read(&mut self, file: &[u8], buf: &mut [u8]) -> usize {
+        self.riscv.a = Assembler::new();
+        read_deck(&mut self.riscv, &self.registers, std::str::from_utf8(file).unwrap());
+        self.hand_out(Some(buf))
+    }
+}
+
+// A plain reader: lines, fields, a name matched and numbers parsed; nothing is judged.
+fn read_deck(r: &mut RiscV, registers: &[Reg; 32], text: &str) {
+    let mut lines = text.lines();
+    let mut head = lines.next().unwrap().split(',');
+    let fast = head.next().unwrap() == "fast";
+    let mut count = || head.next().unwrap().parse::<usize>().unwrap();
+    let (cap, states, obs, last, mask) = (count(), count(), count(), count(), count());
+    let saved: Vec<Reg> = (0..32).filter(|i| mask >> i & 1 == 1).map(|i| registers[i]).collect();
+    if fast {
+        r.prologue_fast(cap, states, obs);
+    } else {
+        r.prologue_indirect(cap, states, obs, last);
+    }
+    r.save_used_registers(&saved);
+    let mut values = Vec::new();
+    for line in lines {
+        read_line(r, registers, line, &mut values);
+    }
+    r.load_used_registers(&saved);
+    if fast {
+        r.epilogue_fast(cap, states, obs, last as i32);
+    } else {
+        r.epilogue_indirect(cap, states, obs, last);
+    }
+    r.add_consts(&values);
+    r.apply_jumps();
+}
+
+fn read_line(r: &mut RiscV, registers: &[Reg; 32], line: &str, values: &mut Vec<f64>) {
+    let mut fields = line.split(',');
+    let name = fields.next().unwrap();
+    macro_rules! n {
+        () => {
+            fields.next().unwrap().parse::<u32>().unwrap()
+        };
+    }
+    macro_rules! f {
+        () => {
+            registers[n!() as usize]
+        };
+    }
+    macro_rules! order {
+        ($name:ident, $d:ident $(, $more:ident)*) => {{
+            let $d = f!();
+            $(let $more = f!();)*
+            r.$name($d $(, $more)*)
+        }};
+    }
+    match name {
+        "fmov" => order!(fmov, d, a),
+        "recip" => order!(recip, d, a),
+        "round" => order!(round, d, a),
+        "floor" => order!(floor, d, a),
+        "not" => order!(not, d, a),
+        "frac" => order!(frac, d, a),
+        "minus" => order!(minus, d, a, b),
+        "times" => order!(times, d, a, b),
+        "divide" => order!(divide, d, a, b),
+        "gt" => order!(gt, d, a, b),
+        "neq" => order!(neq, d, a, b),
+        "and" => order!(and, d, a, b),
+        "andnot" => order!(andnot, d, a, b),
+        "or" => order!(or, d, a, b),
+        "xor" => order!(xor, d, a, b),
+        "fused_mul_add" => order!(fused_mul_add, d, a, b, c),
+        "fused_mul_sub" => order!(fused_mul_sub, d, a, b, c),
+        "fused_neg_mul_add" => order!(fused_neg_mul_add, d, a, b, c),
+        "fused_neg_mul_sub" => order!(fused_neg_mul_sub, d, a, b, c),
+        "ifelse" => {
+            let (d, a, b) = (f!(), f!(), f!());
+            r.ifelse(d, a, b, n!())
         }
-        code.len()
+        "load_const" => {
+            let d = f!();
+            r.load_const(d, n!())
+        }
+        "get" => {
+            let d = f!();
+            let place = fields.next().unwrap();
+            match place {
+                "mem" => r.load_mem(d, n!()),
+                "stack" => r.load_stack(d, n!()),
+                _ => r.load_param(d, n!()),
+            }
+        }
+        "put" => {
+            let d = f!();
+            let place = fields.next().unwrap();
+            match place {
+                "mem" => r.save_mem(d, n!()),
+                "stack" => r.save_stack(d, n!()),
+                _ => r.save_d_to_loc(ϕ(d), Loc::Param(n!())),
+            }
+        }
+        "branch" => {
+            let c = f!();
+            let target = label(n!() as i64);
+            r.branch_if(c, &target, n!() != 0)
+        }
+        "label" => r.set_label(&label(n!() as i64)),
+        "float" => values.push(fields.next().unwrap().parse::<i64>().unwrap() as f64),
+        "bits" => values.push(f64::from_bits(u64::from_str_radix(fields.next().unwrap(), 16).unwrap())),
+        _ => panic!("no such line"),
     }
 }
 
