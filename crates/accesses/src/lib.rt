@@ -10,11 +10,11 @@ ghost use Rattle.isa.specs.Instr.{R, I, U, ADD, ADDI, LUI};
 ghost use Rattle.assembler.specs.Item.{instr};
 ghost use Rattle.assembler.specs.State.{state, outcome};
 ghost use Rattle.assembler.specs.Put.{put};
-ghost use Rattle.assembler.specs.Plan.{plan-items, plan-fault};
+ghost use Rattle.assembler.specs.Plan.{plan-items, plan-fault, pushed};
 ghost use Rattle.assembler.specs.declared.Tail.the-variants.{Nothing};
 ghost use Rattle.accesses.specs.Code.{li-code, point-code, load-float-code, save-float-code, load-int-code, load-complex-code, save-complex-code, sub-stack-code, add-stack-code, allocate-stack-code};
 ghost use Rattle.accesses.specs.Fault.{li-fault, access-fault, one-fault, pair-fault, stack-fault};
-ghost use Rattle.accesses.specs.Plans.{is-word, word-of, pushes, plan-of, settled-plan};
+ghost use Rattle.accesses.specs.Plans.{is-word, word-of, pushes-from, pushes, plan-of, settled-plan};
 use assembler::Asm;
 use assembler::Done;
 use assembler::Plan;
@@ -120,6 +120,62 @@ pub fn five(a: Encoded, b: Encoded, c: Encoded, d: Encoded, e: Encoded) -> Plan
     assembler::push(four(a, b, c, d), e)
 }
 
+// Seven words behind those of p, which has room for them.
+fn with_seven(p: Plan, a: u32, b: u32, c: u32, d: u32, e: u32, f: u32, g: u32) -> Plan
+    requires { ⌜ p .n ≤ 5 ⌝ }
+    ensures { λ r. ⌜ r ≡ pushes-from p (Encoded.Word a ∷ Encoded.Word b ∷ Encoded.Word c ∷ Encoded.Word d ∷ Encoded.Word e ∷ Encoded.Word f ∷ Encoded.Word g ∷ []) ⌝ }
+{
+    let n = p.n;
+    let mut next = p;
+    next.w[n] = a;
+    next.w[n + 1] = b;
+    next.w[n + 2] = c;
+    next.w[n + 3] = d;
+    next.w[n + 4] = e;
+    next.w[n + 5] = f;
+    next.w[n + 6] = g;
+    next.n = n + 7;
+    next
+}
+
+// Seven instructions more.
+pub fn seven_more(
+    p: Plan,
+    a: Encoded,
+    b: Encoded,
+    c: Encoded,
+    d: Encoded,
+    e: Encoded,
+    f: Encoded,
+    g: Encoded,
+) -> Plan
+    ensures { λ r. ⌜ r ≡ pushes-from p (a ∷ b ∷ c ∷ d ∷ e ∷ f ∷ g ∷ []) ⌝ }
+{
+    if p.n <= 5
+        && is_word(a)
+        && is_word(b)
+        && is_word(c)
+        && is_word(d)
+        && is_word(e)
+        && is_word(f)
+        && is_word(g)
+    {
+        return with_seven(
+            p,
+            word(a),
+            word(b),
+            word(c),
+            word(d),
+            word(e),
+            word(f),
+            word(g),
+        );
+    }
+    let p = assembler::push(assembler::push(assembler::push(p, a), b), c);
+    let p = assembler::push(assembler::push(p, d), e);
+    assembler::push(assembler::push(p, f), g)
+}
+
 // One instruction, placed.
 pub fn append_one(
     a: Encoded,
@@ -196,13 +252,26 @@ fn point(base: u32, n: u32) -> Plan
     assembler::push(li_offset(n), encoder::add(T0, T0, base))
 }
 
+// The access `last` through t0 = base + n.
+fn far(base: u32, n: u32, last: Encoded) -> Plan
+    requires { ⌜ 2048 ≤ n ⌝ }
+    ensures { λ r. ⌜ r ≡ pushed (plan-of (point-code base n)) last ⌝ }
+{
+    four(
+        encoder::lui(T0, encoder::hi(n)),
+        encoder::addi(T0, T0, encoder::lo(n)),
+        encoder::add(T0, T0, base),
+        last,
+    )
+}
+
 pub fn load_float_plan(d: u32, base: u32, n: u32) -> Plan
     ensures { λ r. ⌜ r ≡ plan-of (load-float-code d base n) ⌝ }
 {
     if n < 2048 {
         return one(encoder::fld(d, base, n as i32));
     }
-    assembler::push(point(base, n), encoder::fld(d, T0, 0))
+    far(base, n, encoder::fld(d, T0, 0))
 }
 
 pub fn save_float_plan(s: u32, base: u32, n: u32) -> Plan
@@ -211,7 +280,7 @@ pub fn save_float_plan(s: u32, base: u32, n: u32) -> Plan
     if n < 2048 {
         return one(encoder::fsd(s, base, n as i32));
     }
-    assembler::push(point(base, n), encoder::fsd(s, T0, 0))
+    far(base, n, encoder::fsd(s, T0, 0))
 }
 
 pub fn load_int_plan(d: u32, base: u32, n: u32) -> Plan
@@ -220,7 +289,7 @@ pub fn load_int_plan(d: u32, base: u32, n: u32) -> Plan
     if n < 2048 {
         return one(encoder::ld(d, base, n as i32));
     }
-    assembler::push(point(base, n), encoder::ld(d, T0, 0))
+    far(base, n, encoder::ld(d, T0, 0))
 }
 
 // Pairs are placed only where r is below 31, so the sum fits.

@@ -1,4 +1,5 @@
 pub mod First
+pub mod Unset
 pub mod Near
 pub mod Wrong
 pub mod Patched

@@ -1,7 +1,7 @@
 // assembler.rs, `apply_jumps`: finishing.
 ghost use mathlib.Core.Path.{_≡_};
 ghost use mathlib.Core.Bool.{Bool, true, false, cond, not};
-ghost use Prim.Native.Nat.{ℕ, _+_, _*_, _≤_, _<_};
+ghost use Prim.Native.Nat.{ℕ, _+_, _-_, _*_, _≤_, _<_};
 ghost use lib.Dec.{eqb};
 ghost use lib.IntN.{subℕ};
 ghost use lib.ListN.{length, getD};
@@ -59,12 +59,27 @@ fn good_label(e: u64, len: usize) -> bool
     p % 4 == 0
 }
 
-// How many labels stand before the first that is not good.
-fn first_label(labels: &[u64; 2039], len: usize) -> usize
-    ensures { λ r. ⌜ (r ≡ first (λ i. not (label-good len (getD (now (labels .entry)) i 0))) 0 2039) × (r ≤ 2039) ⌝ }
+// None of the eight labels from i on holds anything.
+fn eight_unset(labels: &[u64; 2039], i: usize) -> bool
+    requires { ⌜ i < 2032 ⌝ }
+    ensures { λ r. ⌜ (r ≡ true → (j : ℕ) → j < 8 → getD (now (labels .entry)) (i + j) 0 ≡ 0) ⌝ }
 {
-    let mut i = 0;
-    while i < 2039 {
+    let a = labels[i] | labels[i + 1];
+    let b = labels[i + 2] | labels[i + 3];
+    let c = labels[i + 4] | labels[i + 5];
+    let d = labels[i + 6] | labels[i + 7];
+    let e = a | b;
+    let f = c | d;
+    e | f == 0
+}
+
+// The first label from `from` on that is not good, or n.
+fn first_from(labels: &[u64; 2039], len: usize, from: usize, n: usize) -> usize
+    requires { ⌜ (from ≤ n) × (n ≤ 2039) ⌝ }
+    ensures { λ r. ⌜ (r ≡ from + first (λ i. not (label-good len (getD (now (labels .entry)) i 0))) from (n - from)) × (r ≤ n) ⌝ }
+{
+    let mut i = from;
+    while i < n {
         let g = good_label(labels[i], len);
         if g {
             i += 1;
@@ -73,6 +88,26 @@ fn first_label(labels: &[u64; 2039], len: usize) -> usize
         }
     }
     i
+}
+
+// How many labels stand before the first that is not good. Most are unset: looked at by eights.
+fn first_label(labels: &[u64; 2039], len: usize) -> usize
+    ensures { λ r. ⌜ (r ≡ first (λ i. not (label-good len (getD (now (labels .entry)) i 0))) 0 2039) × (r ≤ 2039) ⌝ }
+{
+    let mut i = 0;
+    while i < 2032 {
+        let u = eight_unset(labels, i);
+        if u {
+            i += 8;
+            continue;
+        }
+        let k = first_from(labels, len, i, i + 8);
+        if k < i + 8 {
+            return k;
+        }
+        i += 8;
+    }
+    first_from(labels, len, i, 2039)
 }
 
 // ---- a jump's word

@@ -171,14 +171,16 @@ fn fused_plan(k: Fused, d: u32, a: u32, b: u32, c: u32) -> Plan
 fn choose_plan(d: u32, a: u32, b: u32, n: u32) -> Plan
     ensures { λ r. ⌜ r ≡ plan-of (load-int-code 5 21 n ++ choose-code d a b) ⌝ }
 {
-    let p = accesses::load_int_plan(T0, STACK, n);
-    let p = assembler::push(p, encoder::fmv_x_d(T1, a));
-    let p = assembler::push(p, encoder::fmv_x_d(T2, b));
-    let p = assembler::push(p, encoder::and(T1, T1, T0));
-    let p = assembler::push(p, encoder::not(T0, T0));
-    let p = assembler::push(p, encoder::and(T2, T2, T0));
-    let p = assembler::push(p, encoder::or(T0, T1, T2));
-    assembler::push(p, encoder::fmv_d_x(d, T0))
+    accesses::seven_more(
+        accesses::load_int_plan(T0, STACK, n),
+        encoder::fmv_x_d(T1, a),
+        encoder::fmv_x_d(T2, b),
+        encoder::and(T1, T1, T0),
+        encoder::not(T0, T0),
+        encoder::and(T2, T2, T0),
+        encoder::or(T0, T1, T2),
+        encoder::fmv_d_x(d, T0),
+    )
 }
 
 // The branch over the jump.

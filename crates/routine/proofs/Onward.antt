@@ -19,7 +19,7 @@ use Rattle.finish.specs.Finish.{finish, ending}
 use Rattle.finish.specs.declared.Finished.{Finished}
 use Rattle.framing.specs.Items.{prologue, epilogue, saves, reloads}
 use Rattle.framing.specs.Fault.{prologue-fault, epilogue-fault}
-use Rattle.routine.specs.Run.{Made, refused-at, next, enter-run, constants-run, finish-run, leave-run}
+use Rattle.routine.specs.Run.{Made, refused-at, next, enter-run, constants-run, constants-then, finish-run, leave-run}
 use Rattle.routine.specs.Told.{made}
 use Rattle.routine.specs.declared.Answer.the-variants as Ruled
 
@@ -33,6 +33,9 @@ module _ (d : Done) (ls js b : List ℕ) (line : ℕ) (f : State → Made) where
 
   pub goes : d .answer ≡ Accepted → next (outcome d ls js b) line f ≡ f (state (d .asm) ls js b)
   goes h = rw h
+
+pub no-both : (d : Done) (r : Refusal) (place : ℕ) → d .answer ≡ Refused r place → d .answer ≡ Accepted → ⊥
+no-both d r place h g = let z : _≡_ {A = ℕ} 0 1 = cc in absurd (omega arith)
 
 -- ---- line 1
 
@@ -84,10 +87,10 @@ module _ (H : Head) (line : ℕ) (cs : List Constant) (s : State) (d : Done) (ls
   reloads-stop r place h = rw (← e, h)
 
   module _ (i : d .answer ≡ Accepted) (g : Done) (ls₂ js₂ b₂ : List ℕ) (u : outcome g ls₂ js₂ b₂ ≡ put line (epilogue-fault H) (epilogue H) (state (d .asm) ls js b)) where
-    pub epilogue-stops : (r : Refusal) (place : ℕ) → g .answer ≡ Refused r place → no r line (state (g .asm) ls₂ js₂ b₂) ≡ leave-run H line cs s
+    pub epilogue-then : leave-run H line cs s ≡ next (outcome g ls₂ js₂ b₂) line (constants-then H line cs)
     unfolding leave-run
-    epilogue-stops r place h = rw (← e, i, ← u, h)
+    epilogue-then = rw (← e, i, ← u)
 
-    pub epilogue-goes : g .answer ≡ Accepted → leave-run H line cs s ≡ constants-run line 0 cs (state (g .asm) ls₂ js₂ b₂) (finish-run H (g .asm .len) (length cs))
-    unfolding leave-run
-    epilogue-goes h = rw (← e, i, ← u, h)
+pub leave-goes : (H : Head) (line n : ℕ) (cs : List Constant) (u : Done) (ls js b : List ℕ) → u .answer ≡ Accepted → length cs ≡ n
+    → next (outcome u ls js b) line (constants-then H line cs) ≡ constants-run line 0 cs (state (u .asm) ls js b) (finish-run H (u .asm .len) n)
+leave-goes H line n cs u ls js b h w = rw (h, w)

@@ -62,11 +62,15 @@ constants-run line k [] s f = f s
 constants-run line k (c ∷ cs) s f =
     next (put 0 (constant-fault k) (constant-items k c) s) line (λ (t : State). constants-run line (suc k) cs t f)
 
+-- behind the epilogue: the constants, then finishing
+abbrev pub constants-then : Head → (line : ℕ) → List Constant → State → Made
+constants-then H line cs u = constants-run line 0 cs u (finish-run H (u .asm .len) (length cs))
+
 unfoldable pub leave-run : Head → (line : ℕ) → List Constant → State → Made
 leave-run H line cs s =
     next (put 0 0 (reloads (H .mask)) s) line
     (λ (t : State). next (put line (epilogue-fault H) (epilogue H) t) line
-    (λ (u : State). constants-run line 0 cs u (finish-run H (u .asm .len) (length cs))))
+    (constants-then H line cs))
 
 -- ---- the body
 

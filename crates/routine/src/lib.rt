@@ -1,14 +1,16 @@
 // Document 01, "Added: the routine".
 ghost use mathlib.Core.Path.{_≡_};
-ghost use mathlib.Core.List.{[], _++_};
+ghost use mathlib.Core.List.{List, [], _++_};
 ghost use Prim.Native.Nat.{ℕ, _≤_, _<_};
 ghost use lib.ListN.{length, take, drop, replicate};
 ghost use Rattle.text.specs.Lines.{lines-of};
 ghost use Rattle.assembler.specs.Bytes.{room};
 ghost use Rattle.assembler.specs.State.{State, state, outcome};
+ghost use Rattle.assembler.specs.declared.Answer.the-variants.{Accepted as Taken};
 ghost use Rattle.order.specs.Mask.{in-mask};
+ghost use Rattle.order.specs.declared.Constant.{Constant};
 ghost use Rattle.call.specs.Good.{free, open-cell, saves-hold, all-hold, unary-writes};
-ghost use Rattle.routine.specs.Run.{Made, next, cleared, order-run, enter-run, constants-run, finish-run, leave-run, lines-run, file-run, run};
+ghost use Rattle.routine.specs.Run.{Made, next, cleared, order-run, enter-run, constants-then, finish-run, leave-run, lines-run, file-run, run};
 ghost use Rattle.routine.specs.Routine.{Promise};
 ghost use Rattle.routine.specs.Told.{told, made};
 use assembler::Asm;
@@ -190,35 +192,6 @@ fn enter(
 
 // ---- behind the body
 
-// The first n of cs.
-fn append_constants(
-    n: usize,
-    cs: [Constant; 1008],
-    buf: &mut [u8],
-    labels: &mut [u64; 2039],
-    jumps: &mut [u32; 20480],
-    start: Asm,
-) -> Done
-    requires { ⌜ n ≤ 1008 ⌝ }
-    ensures { λ r. ⌜ ((line : ℕ) (f : State → Made) → constants-run line 0 (take n cs) (state start (now (labels .entry)) (now (jumps .entry)) (now (buf .entry))) f ≡ next (outcome r (now (labels .exit)) (now (jumps .exit)) (now (buf .exit))) line f) ⌝ }
-{
-    let mut asm = start;
-    let mut k = 0;
-    while k < n {
-        let d = assembler::append_const(k as u32, cs[k], buf, labels, jumps, asm);
-        let w = d.answer;
-        if let assembler::Answer::Refused(_, _) = w {
-            return d;
-        }
-        asm = d.asm;
-        k += 1;
-    }
-    Done {
-        asm,
-        answer: assembler::Answer::Accepted,
-    }
-}
-
 // Finishing; constants start at `at`, and there are n.
 fn close(
     head: Head,
@@ -245,37 +218,56 @@ fn close(
     }
 }
 
-// Reloads, epilogue, constants, finishing: at the last line.
+// Reloads and epilogue, at the last line.
+fn unwind(
+    head: Head,
+    line: u32,
+    buf: &mut [u8],
+    labels: &mut [u64; 2039],
+    jumps: &mut [u32; 20480],
+    asm: Asm,
+) -> Done
+    ensures { λ r. ⌜ ((cs : List Constant) → leave-run head line cs (state asm (now (labels .entry)) (now (jumps .entry)) (now (buf .entry))) ≡ next (outcome r (now (labels .exit)) (now (jumps .exit)) (now (buf .exit))) line (constants-then head line cs)) × (r .answer ≡ Taken → r .asm .len ≤ 65536) ⌝ }
+{
+    let d = frames::load_used_registers(head.mask, buf, labels, jumps, asm);
+    let w = d.answer;
+    if let assembler::Answer::Refused(_, _) = w {
+        return d;
+    }
+    frames::epilogue(head, line, buf, labels, jumps, d.asm)
+}
+
+// Behind the epilogue `u`: the first n of cs, and finishing.
 fn leave(
     head: Head,
     line: u32,
     n: usize,
     cs: [Constant; 1008],
+    u: Done,
     buf: &mut [u8],
     labels: &mut [u64; 2039],
     jumps: &mut [u32; 20480],
-    asm: Asm,
 ) -> Ended
-    requires { ⌜ n ≤ 1008 ⌝ }
-    ensures { λ r. ⌜ made r (now (labels .exit)) (now (jumps .exit)) (now (buf .exit)) ≡ leave-run head line (take n cs) (state asm (now (labels .entry)) (now (jumps .entry)) (now (buf .entry))) ⌝ }
+    requires { ⌜ (n ≤ 1008) × (u .answer ≡ Taken → u .asm .len ≤ 65536) ⌝ }
+    ensures { λ r. ⌜ made r (now (labels .exit)) (now (jumps .exit)) (now (buf .exit)) ≡ next (outcome u (now (labels .entry)) (now (jumps .entry)) (now (buf .entry))) line (constants-then head line (take n cs)) ⌝ }
 {
-    let d = frames::load_used_registers(head.mask, buf, labels, jumps, asm);
-    let w = d.answer;
-    if let assembler::Answer::Refused(r, _) = w {
-        return refused(r, line, d.asm);
-    }
-    let e = frames::epilogue(head, line, buf, labels, jumps, d.asm);
-    let v = e.answer;
-    let a = e.asm;
+    let v = u.answer;
+    let mut asm = u.asm;
     if let assembler::Answer::Refused(r, _) = v {
-        return refused(r, line, a);
+        return refused(r, line, asm);
     }
-    let k = append_constants(n, cs, buf, labels, jumps, a);
-    let u = k.answer;
-    if let assembler::Answer::Refused(r, _) = u {
-        return refused(r, line, k.asm);
+    let at = asm.len;
+    let mut k = 0;
+    while k < n {
+        let d = assembler::append_const(k as u32, cs[k], buf, labels, jumps, asm);
+        let w = d.answer;
+        asm = d.asm;
+        if let assembler::Answer::Refused(r, _) = w {
+            return refused(r, line, asm);
+        }
+        k += 1;
     }
-    close(head, a.len, n, buf, labels, jumps, k.asm)
+    close(head, at, n, buf, labels, jumps, asm)
 }
 
 // ---- the body
@@ -354,7 +346,8 @@ fn lines(
             Judged::Refused(r) => return refused(r, n, asm),
         }
     }
-    leave(head, n, k, cs, buf, labels, jumps, asm)
+    let u = unwind(head, n, buf, labels, jumps, asm);
+    leave(head, n, k, cs, u, buf, labels, jumps)
 }
 
 // ---- the whole

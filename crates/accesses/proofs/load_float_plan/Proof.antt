@@ -1,5 +1,5 @@
 use borrow.Author.Needs.{needs}
-use mathlib.Core.Path.{_≡_, refl, sym, _∙_, ap}
+use mathlib.Core.Path.{refl, _∙_}
 use lib.IntN.{ℤ, pos}
 use Rattle.isa.specs.Immediate.{hi, lo}
 use Rattle.accesses.specs.Plans.{answer-of}
@@ -10,7 +10,6 @@ use borrow.Author.Tests.{lt-ltb, le-ltb}
 use native.Mathlib.Omega.{arith}
 use Rattle.isa.specs.Instr.{I, FLD}
 use Rattle.accesses.specs.Code.{access-code, point-code}
-use Rattle.assembler.specs.Plan.{pushed}
 use Rattle.accesses.proofs.Collect.{pushed-last}
 use Rattle.accesses.proofs.load_float_plan.Statement.{statement}
 use Rattle.accesses.proofs.load_float_plan.Tie as tie
@@ -33,22 +32,18 @@ returns c =
     ∙ collected (c .before .fld .result ∷ []) (I FLD (a .d) (a .base) (pos (a .n)) ∷ [])
     (answered-at _ (λ (z : ℤ). I FLD (a .d) (a .base) z) (c .before .fld .ensures) (back-small (a .n) (omega arith)), tt))
 
-point-requires : tie.Need-point-requires
-point-requires c κs = search needs
-
 fld-requires-2 : tie.Need-fld-requires-2
 fld-requires-2 c κs = search needs
 
-push-requires : tie.Need-push-requires
-push-requires c κs = search needs
+far-requires : tie.Need-far-requires
+far-requires c κs = search needs
 
 returns-2 : tie.Need-returns-2
 unfolding access-code
 returns-2 c =
-    let a = c .before .before .before .before .args in
-    rw (le-ltb (a .n) 2048 (c .before .before .before .if1 .left))
-    (c .push .ensures
-    ∙ ap (λ p. pushed p (c .before .fld2 .result)) (c .before .before .point .ensures)
+    let a = c .before .before .before .args in
+    rw (le-ltb (a .n) 2048 (c .before .before .if1 .left))
+    (c .far .ensures
     ∙ pushed-last (point-code (a .base) (a .n)) (I FLD (a .d) 5 (pos 0)) (answered-at _ (λ (z : ℤ). I FLD (a .d) 5 z) (c .before .fld2 .ensures) refl))
 
 pub load-float-plan-spec : {M : Type 1} → statement M
@@ -59,7 +54,6 @@ load-float-plan-spec =
     fld-requires
     one-requires
     returns
-    point-requires
     fld-requires-2
-    push-requires
+    far-requires
     returns-2)

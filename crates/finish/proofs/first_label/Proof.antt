@@ -1,14 +1,15 @@
 use native.Mathlib.Omega.{arith}
-use mathlib.Core.Path.{_≡_, sym, ap, _∙_}
+use mathlib.Core.Path.{_≡_, sym, _∙_}
 use borrow.Author.Needs.{needs}
 use denote.Ref.{now}
-use Prim.Native.Nat.{ℕ, _+_, _-_, _≤_}
+use Prim.Native.Nat.{ℕ, _+_, _-_, _%_, _≤_}
 use native.Mathlib.Nat.{zero-add}
 use mathlib.Core.Bool.{Bool, not}
 use mathlib.Core.List.{List}
 use lib.ListN.{getD}
 use Rattle.finish.specs.Finish.{first, label-good}
-use Rattle.finish.proofs.First.{first-here, first-later, first-end}
+use Rattle.finish.proofs.First.{first-past, first-within}
+use Rattle.finish.proofs.Unset.{eight-good}
 use Rattle.finish.proofs.first_label.Statement.{statement}
 use Rattle.finish.proofs.first_label.Tie as tie
 
@@ -16,49 +17,69 @@ abbrev bad : List ℕ → ℕ → ℕ → Bool
 bad labels len i = not (label-good len (getD labels i 0))
 
 abbrev Inv-loop : tie.InvT-loop
-Inv-loop labels len i₀ i = (i ≤ 2039) × (first (bad labels len) 0 2039 ≡ i + first (bad labels len) i (2039 - i))
+Inv-loop labels len i₀ i = (i ≤ 2032) × (i % 8 ≡ 0) × (first (bad labels len) 0 2039 ≡ i + first (bad labels len) i (2039 - i))
 
 abbrev μ-loop : tie.MeasureT-loop
-μ-loop labels len i₀ i = 2039 - i
+μ-loop labels len i₀ i = 2032 - i
 
 loop-holds : tie.Need-loop-holds Inv-loop μ-loop
-loop-holds c = (omega arith, sym (zero-add _))
+loop-holds c = (omega arith, omega arith, sym (zero-add _))
 
-mul-good-label : tie.Need-mul-good-label Inv-loop μ-loop
-mul-good-label c = search needs
-
-element-copy-out-good-label : tie.Need-element-copy-out-good-label Inv-loop μ-loop
-element-copy-out-good-label c = search needs
-
-good-label-requires : tie.Need-good-label-requires Inv-loop μ-loop
-good-label-requires c κs = search needs
+eight-unset-requires : tie.Need-eight-unset-requires Inv-loop μ-loop
+eight-unset-requires c κs = search needs
 
 add-i : tie.Need-add-i Inv-loop μ-loop
 add-i c = search needs
 
 loop-less : tie.Need-loop-less Inv-loop μ-loop
-loop-less c = search needs
+loop-less c = omega arith
 
 loop-again : tie.Need-loop-again Inv-loop μ-loop
 loop-again c =
-    let l = c .before .before .before .before in
+    let l = c .before .before .before in
     let a = l .before .args in
-    let e = first-later (bad (now (a .labels)) (a .len)) (l .loop .i) 2039 (c .before .before .before .loop-test .taken) (ap not (sym (c .before .good-label .ensures) ∙ c .if1 .taken)) in
-    (omega arith, omega (arith, e, l .loop .inv .1))
+    let i = l .loop .i in
+    let f = eight-good (now (a .labels)) (a .len) i (c .before .eight-unset .ensures (c .if1 .taken)) in
+    let e = first-past (bad (now (a .labels)) (a .len)) i (i + 8) 2039 (omega arith) (omega arith) f in
+    (omega arith, omega arith, l .loop .inv .2 ∙ e)
+
+add-first-from : tie.Need-add-first-from Inv-loop μ-loop
+add-first-from c = search needs
+
+first-from-requires : tie.Need-first-from-requires Inv-loop μ-loop
+first-from-requires c κs = (omega arith, omega arith)
+
+add-if2 : tie.Need-add-if2 Inv-loop μ-loop
+add-if2 c = search needs
 
 returns : tie.Need-returns Inv-loop μ-loop
 returns c =
-    let l = c .before .before .before .before in
+    let l = c .before .before .before .before .before in
     let a = l .before .args in
-    let e = first-here (bad (now (a .labels)) (a .len)) (l .loop .i) 2039 (c .before .before .before .loop-test .taken) (ap not (sym (c .before .good-label .ensures) ∙ c .if1 .left)) in
-    (omega (arith, e, l .loop .inv .1), omega arith)
+    let i = l .loop .i in
+    let r = c .before .first-from .ensures in
+    let e = first-within (bad (now (a .labels)) (a .len)) i (i + 8) 2039 (omega arith) (omega arith) (omega (arith, r .0)) in
+    (omega (arith, e, r .0, l .loop .inv .2), omega arith)
+
+add-i-2 : tie.Need-add-i-2 Inv-loop μ-loop
+add-i-2 c = search needs
+
+loop-less-2 : tie.Need-loop-less-2 Inv-loop μ-loop
+loop-less-2 c = omega arith
+
+loop-again-2 : tie.Need-loop-again-2 Inv-loop μ-loop
+loop-again-2 c =
+    let l = c .before .before .before .before .before in
+    let a = l .before .args in
+    let i = l .loop .i in
+    let e = first-past (bad (now (a .labels)) (a .len)) i (i + 8) 2039 (omega arith) (omega arith) (omega (arith, c .before .first-from .ensures .0)) in
+    (omega arith, omega arith, l .loop .inv .2 ∙ e)
+
+first-from-requires-2 : tie.Need-first-from-requires-2 Inv-loop μ-loop
+first-from-requires-2 c κs = (omega arith, omega arith)
 
 returns-2 : tie.Need-returns-2 Inv-loop μ-loop
-returns-2 c =
-    let l = c .before in
-    let a = l .before .args in
-    let e = first-end (bad (now (a .labels)) (a .len)) (l .loop .i) 2039 (c .loop-test .left) in
-    (omega (arith, e, l .loop .inv .1), omega arith)
+returns-2 c = (c .first-from2 .ensures .0 ∙ sym (c .before .before .loop .inv .2), c .first-from2 .ensures .1)
 
 pub first-label-spec : {M : Type 1} → statement M
 first-label-spec =
@@ -67,11 +88,16 @@ first-label-spec =
     Inv-loop
     μ-loop
     loop-holds
-    mul-good-label
-    element-copy-out-good-label
-    good-label-requires
+    eight-unset-requires
     add-i
     loop-less
     loop-again
+    add-first-from
+    first-from-requires
+    add-if2
     returns
+    add-i-2
+    loop-less-2
+    loop-again-2
+    first-from-requires-2
     returns-2)

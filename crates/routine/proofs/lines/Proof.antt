@@ -168,18 +168,21 @@ returns-4 c =
     let s = state (l .asm) (l .labels) (l .jumps) (l .buf) in
     rw (c .refused4 .ensures) (line-refused (a .head) (l .n) (take (l .k) (l .cs)) _ (lines-of (drop (e .result) (now (a .file)))) _ (g .2) s (r .result) (r .ensures) _ (c .before .before .j3 .given .1) ∙ sym (l .inv .5))
 
+unwind-requires : tie.Need-unwind-requires Inv-loop μ-loop
+unwind-requires c κs = search needs
+
 leave-requires : tie.Need-leave-requires Inv-loop μ-loop
-leave-requires c κs = search needs
+leave-requires c κs = (c .before .before .before .before .before .before .before .before .before .before .loop .inv .2, c .before .before .before .before .before .unwind .ensures .1)
 
 same-length-5 : tie.Need-same-length-5 Inv-loop μ-loop
-same-length-5 c = c .before .buf2 .given ∙ c .before .before .before .before .before .before .before .loop .inv .4
+same-length-5 c = c .before .buf3 .given ∙ c .before .before .before .before .before .before .before .buf2 .given ∙ c .before .before .before .before .before .before .before .before .before .before .before .before .before .loop .inv .4
 
 returns-5 : tie.Need-returns-5 Inv-loop μ-loop
 returns-5 c =
-    let l = c .before .before .before .before .before .before .before .loop in
-    let a = c .before .before .before .before .before .before .before .before .before .before .args in
+    let l = c .before .before .before .before .before .before .before .before .before .before .before .before .before .loop in
+    let a = c .before .before .before .before .before .before .before .before .before .before .before .before .before .before .before .before .args in
     let y : length (now (a .file)) ≤ l .at = omega arith in
-    c .before .before .leave .ensures ∙ sym (l .inv .5 ∙ lines-end (a .head) (l .n) (take (l .k) (l .cs)) _ _ (rw (drop-of-length-le (now (a .file)) y) no-lines))
+    c .before .before .leave .ensures ∙ sym (l .inv .5 ∙ lines-end (a .head) (l .n) (take (l .k) (l .cs)) _ _ (rw (drop-of-length-le (now (a .file)) y) no-lines) ∙ c .before .before .before .before .before .before .before .before .unwind .ensures .0 (take (l .k) (l .cs)))
 
 pub lines-spec : {M : Type 1} → statement M
 lines-spec =
@@ -220,6 +223,7 @@ lines-spec =
     refused-requires-4
     same-length-4
     returns-4
+    unwind-requires
     leave-requires
     same-length-5
     returns-5)
