@@ -10,4 +10,5 @@ pub mod LawParts
 pub mod LawRoom
 pub mod Lined
 pub mod Onward
+pub mod Placed
 pub mod Unsaved

@@ -1,11 +1,10 @@
 -- What follows an answer, part by part of the run: a refusal ends it at its line, else the state is handed on. Assumes nothing.
 use mathlib.Core.Path.{_≡_, refl}
 use mathlib.Core.List.{List, [], _∷_}
-use Prim.Native.Nat.{ℕ, _+_, _≤_, _<_}
+use Prim.Native.Nat.{ℕ, _+_}
 use native.Mathlib.Numerals.{add-one}
 use native.Mathlib.Omega.{arith}
-use lib.ListN.{length, getD, take, drop, length-take}
-use lib.Seq.{drop-cons, getD-take}
+use lib.ListN.{length}
 use Rattle.refusal.specs.Number.{number-of}
 use Rattle.refusal.specs.declared.Refusal.{Refusal}
 use Rattle.order.specs.declared.Head.{Head}
@@ -53,12 +52,6 @@ module _ (H : Head) (s : State) (d : Done) (ls js b : List ℕ) (e : outcome d l
 pub constants-end : (line k : ℕ) (s : State) (f : State → Made) → constants-run line k [] s f ≡ f s
 unfolding constants-run
 constants-end line k s f = refl
-
-module _ (n k : ℕ) (cs : List Constant) (z : Constant) (h : k < n) (g : n ≤ length cs) where
-  pub constant-next : drop k (take n cs) ≡ getD cs k z ∷ drop (k + 1) (take n cs)
-  constant-next =
-      let l : k < length (take n cs) = simp length-take (omega arith) in
-      rw (drop-cons (take n cs) k z l, getD-take n cs k z h, add-one k)
 
 module _ (line k : ℕ) (l cs : List Constant) (c : Constant) (i : l ≡ c ∷ cs) (s : State) (d : Done) (ls js b : List ℕ) (e : outcome d ls js b ≡ put 0 (constant-fault k) (constant-items k c) s) (f : State → Made) where
   pub constants-stop : (r : Refusal) (place : ℕ) → d .answer ≡ Refused r place → constants-run line k l s f ≡ next (outcome d ls js b) line f

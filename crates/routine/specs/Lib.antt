@@ -1,3 +1,4 @@
+pub mod Places
 pub mod Routine
 pub mod Run
 pub mod Told

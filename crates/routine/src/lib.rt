@@ -12,6 +12,7 @@ ghost use Rattle.order.specs.declared.Constant.{Constant};
 ghost use Rattle.call.specs.Good.{free, open-cell, saves-hold, all-hold, unary-writes};
 ghost use Rattle.routine.specs.Run.{Made, next, cleared, order-run, enter-run, constants-then, finish-run, leave-run, lines-run, file-run, run};
 ghost use Rattle.routine.specs.Routine.{Promise};
+ghost use Rattle.routine.specs.Places.{constant-at, constants-at};
 ghost use Rattle.routine.specs.Told.{told, made};
 use assembler::Asm;
 use assembler::Done;
@@ -237,19 +238,38 @@ fn unwind(
     frames::epilogue(head, line, buf, labels, jumps, d.asm)
 }
 
-// Behind the epilogue `u`: the first n of cs, and finishing.
+// The constant of the line that starts at `place`; 0 where there is none.
+fn constant_at(file: &[u8], place: u32) -> Constant
+    ensures { λ c. ⌜ c ≡ constant-at (now (file .entry)) place ⌝ }
+{
+    let p = place as usize;
+    if file.len() <= p {
+        return Constant::Bits(0);
+    }
+    let e = lines::line_end(file, p);
+    let j = deck::read_line(false, &file[p..e]);
+    match j {
+        Judged::Constant(c) => c,
+        Judged::Head(_) => Constant::Bits(0),
+        Judged::Order(_) => Constant::Bits(0),
+        Judged::Refused(_) => Constant::Bits(0),
+    }
+}
+
+// Behind the epilogue `u`: the constants at the first n places, and finishing.
 fn leave(
+    file: &[u8],
+    places: &[u32; 1008],
+    n: usize,
     head: Head,
     line: u32,
-    n: usize,
-    cs: [Constant; 1008],
     u: Done,
     buf: &mut [u8],
     labels: &mut [u64; 2039],
     jumps: &mut [u32; 20480],
 ) -> Ended
-    requires { ⌜ (n ≤ 1008) × (u .answer ≡ Taken → u .asm .len ≤ 65536) ⌝ }
-    ensures { λ r. ⌜ made r (now (labels .exit)) (now (jumps .exit)) (now (buf .exit)) ≡ next (outcome u (now (labels .entry)) (now (jumps .entry)) (now (buf .entry))) line (constants-then head line (take n cs)) ⌝ }
+    requires { ⌜ (n ≤ 1008) × (length (now places) ≡ 1008) × (u .answer ≡ Taken → u .asm .len ≤ 65536) ⌝ }
+    ensures { λ r. ⌜ made r (now (labels .exit)) (now (jumps .exit)) (now (buf .exit)) ≡ next (outcome u (now (labels .entry)) (now (jumps .entry)) (now (buf .entry))) line (constants-then head line (constants-at (now (file .entry)) (take n (now (places .entry))))) ⌝ }
 {
     let v = u.answer;
     let mut asm = u.asm;
@@ -259,7 +279,8 @@ fn leave(
     let at = asm.len;
     let mut k = 0;
     while k < n {
-        let d = assembler::append_const(k as u32, cs[k], buf, labels, jumps, asm);
+        let c = constant_at(file, places[k]);
+        let d = assembler::append_const(k as u32, c, buf, labels, jumps, asm);
         let w = d.answer;
         asm = d.asm;
         if let assembler::Answer::Refused(r, _) = w {
@@ -314,7 +335,7 @@ fn lines(
     requires { ⌜ (length (now file) ≤ 65536) × (from ≤ length (now file)) ⌝ }
     ensures { λ r. ⌜ made r (now (labels .exit)) (now (jumps .exit)) (now (buf .exit)) ≡ lines-run head 1 [] (lines-of (drop from (now (file .entry)))) (state start (now (labels .entry)) (now (jumps .entry)) (now (buf .entry))) ⌝ }
 {
-    let mut cs = [Constant::Bits(0); 1008];
+    let mut places = [0u32; 1008];
     let mut k = 0;
     let mut asm = start;
     let mut at = from;
@@ -322,6 +343,7 @@ fn lines(
     while at < file.len() {
         let e = lines::line_end(file, at);
         let j = deck::read_line(false, &file[at..e]);
+        let place = at as u32;
         at = e;
         n += 1;
         match j {
@@ -334,11 +356,11 @@ fn lines(
                 }
                 continue;
             }
-            Judged::Constant(c) => {
+            Judged::Constant(_) => {
                 if k == 1008 {
                     return refused(Refusal::Count, n, asm);
                 }
-                cs[k] = c;
+                places[k] = place;
                 k += 1;
                 continue;
             }
@@ -347,7 +369,7 @@ fn lines(
         }
     }
     let u = unwind(head, n, buf, labels, jumps, asm);
-    leave(head, n, k, cs, u, buf, labels, jumps)
+    leave(file, &places, k, head, n, u, buf, labels, jumps)
 }
 
 // ---- the whole

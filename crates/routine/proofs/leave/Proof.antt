@@ -3,29 +3,22 @@ use native.Mathlib.Omega.{arith}
 use mathlib.Core.Path.{_≡_, refl, sym, _∙_}
 use Prim.Native.Nat.{_+_, _-_, _≤_}
 use denote.Ref.{now}
-use lib.Ieee.{nan}
-use lib.ListN.{length, take, drop, drop-of-length-le}
-use lib.Seq.{length-take-le}
-use Rattle.order.specs.declared.Constant.the-variants.{Float}
+use lib.ListN.{length, take, drop}
 use Rattle.assembler.specs.State.{state}
+use Rattle.routine.specs.Places.{constants-at}
 use Rattle.routine.specs.Run.{constants-run, finish-run}
-use Rattle.routine.proofs.Onward.{halts, leave-goes, constant-next, constants-stop, constants-go, constants-end}
+use Rattle.routine.proofs.Onward.{halts, leave-goes, constants-stop, constants-go, constants-end}
+use Rattle.routine.proofs.Placed.{places-length, places-end, place-next}
 use Rattle.routine.proofs.leave.Statement.{statement}
 use Rattle.routine.proofs.leave.Tie as tie
 
 abbrev Inv-loop : tie.InvT-loop
-Inv-loop head line n buf₀ labels₀ jumps₀ cs asm₀ at k₀ buf labels jumps asm k =
+Inv-loop file places n head line buf₀ labels₀ jumps₀ asm₀ at k₀ buf labels jumps asm k =
     (k ≤ n) × (length buf ≡ length buf₀)
-    × (constants-run line 0 (take n cs) (state asm₀ labels₀ jumps₀ buf₀) (finish-run head at n) ≡ constants-run line k (drop k (take n cs)) (state asm labels jumps buf) (finish-run head at n))
+    × (constants-run line 0 (constants-at file (take n places)) (state asm₀ labels₀ jumps₀ buf₀) (finish-run head at n) ≡ constants-run line k (constants-at file (drop k (take n places))) (state asm labels jumps buf) (finish-run head at n))
 
 abbrev μ-loop : tie.MeasureT-loop
-μ-loop head line n buf₀ labels₀ jumps₀ cs asm₀ at k₀ buf labels jumps asm k = n - k
-
-wide : (s : tie.Start Inv-loop μ-loop) → length (s .args .t4) ≡ 1008
-wide s = search needs
-
-counted : (s : tie.Start Inv-loop μ-loop) → length (take (s .args .n) (s .args .t4)) ≡ s .args .n
-counted s = length-take-le (s .args .n) (s .args .t4) (omega (arith, wide s, s .pre .0))
+μ-loop file places n head line buf₀ labels₀ jumps₀ asm₀ at k₀ buf labels jumps asm k = n - k
 
 enum-known-v : tie.Need-enum-known-v Inv-loop μ-loop
 enum-known-v c = search needs
@@ -35,7 +28,7 @@ refused-requires c κs = search needs
 
 returns : tie.Need-returns Inv-loop μ-loop
 returns c =
-    let a = c .before .before .before .before .before .before .args in
+    let a = c .before .before .before .before .before .before .before .args in
     rw (c .refused .ensures) (sym (halts (a .u) (now (a .labels)) (now (a .jumps)) (now (a .buf)) (a .line) _ _ _ (c .before .before .v .given .1)))
 
 enum-told : tie.Need-enum-told Inv-loop μ-loop
@@ -44,14 +37,17 @@ enum-told c = search needs
 loop-holds : tie.Need-loop-holds Inv-loop μ-loop
 loop-holds c = (search needs, refl, refl)
 
+mul-constant-at : tie.Need-mul-constant-at Inv-loop μ-loop
+mul-constant-at c = search needs
+
+element-copy-out-constant-at : tie.Need-element-copy-out-constant-at Inv-loop μ-loop
+element-copy-out-constant-at c = search needs
+
+constant-at-requires : tie.Need-constant-at-requires Inv-loop μ-loop
+constant-at-requires c κs = search needs
+
 cast-append-const : tie.Need-cast-append-const Inv-loop μ-loop
 cast-append-const c = search needs
-
-mul-append-const : tie.Need-mul-append-const Inv-loop μ-loop
-mul-append-const c = search needs
-
-array-copy-out-append-const : tie.Need-array-copy-out-append-const Inv-loop μ-loop
-array-copy-out-append-const c = search needs
 
 append-const-requires : tie.Need-append-const-requires Inv-loop μ-loop
 append-const-requires c κs = search needs
@@ -63,16 +59,19 @@ refused-requires-2 : tie.Need-refused-requires-2 Inv-loop μ-loop
 refused-requires-2 c κs = search needs
 
 same-length : tie.Need-same-length Inv-loop μ-loop
-same-length c = c .before .before .before .before .before .before .buf .given ∙ c .before .before .before .before .before .before .before .before .before .before .before .before .before .loop .inv .1
+same-length c = c .before .before .before .before .before .before .buf .given ∙ c .before .before .before .before .before .before .before .before .before .before .before .before .before .before .loop .inv .1
 
 returns-2 : tie.Need-returns-2 Inv-loop μ-loop
 returns-2 c =
-    let d = c .before .before .before .before .before .before .before .append-const in
-    let l = c .before .before .before .before .before .before .before .before .before .before .before .before .before .loop in
-    let s = c .before .before .before .before .before .before .before .before .before .before .before .before .before .before .before .before .before .before in
+    let l = c .before .before .before .before .before .before .before .before .before .before .before .before .before .before .loop in
+    let s = c .before .before .before .before .before .before .before .before .before .before .before .before .before .before .before .before .before .before .before .before in
     let a = s .args in
-    let w = wide s in
-    rw (c .refused2 .ensures) (sym (leave-goes (a .head) (a .line) (a .n) (take (a .n) (a .t4)) (a .u) (now (a .labels)) (now (a .jumps)) (now (a .buf)) (c .before .before .before .before .before .before .before .before .before .before .before .before .before .before .enum-told .given .1) (counted s) ∙ l .inv .2 ∙ constants-stop (a .line) (l .k) (drop (l .k) (take (a .n) (a .t4))) (drop (l .k + 1) (take (a .n) (a .t4))) _ (constant-next (a .n) (l .k) (a .t4) (Float nan) (c .before .before .before .before .before .before .before .before .before .before .before .before .loop-test .taken) (omega (arith, w, s .pre .0))) _ (d .result) _ _ _ (d .ensures) _ _ _ (c .before .before .w .given .1) ∙ halts (d .result) _ _ _ (a .line) _ _ _ (c .before .before .w .given .1)))
+    let f = now (a .file) in
+    let ps = now (a .places) in
+    let h : a .n ≤ length ps = omega (arith, s .pre) in
+    let d = c .before .before .before .before .before .before .before .append-const in
+    let e = rw (c .before .before .before .before .before .before .before .before .before .before .before .constant-at .ensures) at (d .ensures) in
+    rw (c .refused2 .ensures) (sym (leave-goes (a .head) (a .line) (a .n) (constants-at f (take (a .n) ps)) (a .u) (now (a .labels)) (now (a .jumps)) (now (a .buf)) (c .before .before .before .before .before .before .before .before .before .before .before .before .before .before .before .enum-told .given .1) (places-length f ps (a .n) h) ∙ l .inv .2 ∙ constants-stop (a .line) (l .k) (constants-at f (drop (l .k) (take (a .n) ps))) (constants-at f (drop (l .k + 1) (take (a .n) ps))) _ (place-next f ps (a .n) h (l .k) (c .before .before .before .before .before .before .before .before .before .before .before .before .before .loop-test .taken)) _ (d .result) _ _ _ e _ _ _ (c .before .before .w .given .1) ∙ halts (d .result) _ _ _ (a .line) _ _ _ (c .before .before .w .given .1)))
 
 enum-told-2 : tie.Need-enum-told-2 Inv-loop μ-loop
 enum-told-2 c = search needs
@@ -85,15 +84,18 @@ loop-less c = search needs
 
 loop-again : tie.Need-loop-again Inv-loop μ-loop
 loop-again c =
-    let d = c .before .before .before .before .before .append-const in
-    let l = c .before .before .before .before .before .before .before .before .before .before .before .loop in
-    let s = c .before .before .before .before .before .before .before .before .before .before .before .before .before .before .before .before in
+    let l = c .before .before .before .before .before .before .before .before .before .before .before .before .loop in
+    let s = c .before .before .before .before .before .before .before .before .before .before .before .before .before .before .before .before .before .before in
     let a = s .args in
-    let w = wide s in
-    (omega (arith, c .before .before .before .before .before .before .before .before .before .before .loop-test .taken), search needs, l .inv .2 ∙ constants-go (a .line) (l .k) (drop (l .k) (take (a .n) (a .t4))) (drop (l .k + 1) (take (a .n) (a .t4))) _ (constant-next (a .n) (l .k) (a .t4) (Float nan) (c .before .before .before .before .before .before .before .before .before .before .loop-test .taken) (omega (arith, w, s .pre .0))) _ (d .result) _ _ _ (d .ensures) _ (c .enum-told2 .given .1))
+    let f = now (a .file) in
+    let ps = now (a .places) in
+    let h : a .n ≤ length ps = omega (arith, s .pre) in
+    let d = c .before .before .before .before .before .append-const in
+    let e = rw (c .before .before .before .before .before .before .before .before .before .constant-at .ensures) at (d .ensures) in
+    (omega (arith, c .before .before .before .before .before .before .before .before .before .before .before .loop-test .taken), search needs, l .inv .2 ∙ constants-go (a .line) (l .k) (constants-at f (drop (l .k) (take (a .n) ps))) (constants-at f (drop (l .k + 1) (take (a .n) ps))) _ (place-next f ps (a .n) h (l .k) (c .before .before .before .before .before .before .before .before .before .before .before .loop-test .taken)) _ (d .result) _ _ _ e _ (c .enum-told2 .given .1))
 
 close-requires : tie.Need-close-requires Inv-loop μ-loop
-close-requires c κs = (c .before .before .before .before .before .before .before .before .before .pre .1 (c .before .before .before .before .before .enum-told .given .1), c .before .before .before .before .before .before .before .before .before .pre .0)
+close-requires c κs = (c .before .before .before .before .before .before .before .before .before .before .pre .2 (c .before .before .before .before .before .enum-told .given .1), c .before .before .before .before .before .before .before .before .before .before .pre .0)
 
 same-length-2 : tie.Need-same-length-2 Inv-loop μ-loop
 same-length-2 c = c .before .buf2 .given ∙ c .before .before .before .before .before .before .before .loop .inv .1
@@ -101,10 +103,12 @@ same-length-2 c = c .before .buf2 .given ∙ c .before .before .before .before .
 returns-3 : tie.Need-returns-3 Inv-loop μ-loop
 returns-3 c =
     let l = c .before .before .before .before .before .before .before .loop in
-    let s = c .before .before .before .before .before .before .before .before .before .before .before .before in
+    let s = c .before .before .before .before .before .before .before .before .before .before .before .before .before in
     let a = s .args in
-    let y : length (take (a .n) (a .t4)) ≤ l .k = omega (arith, counted s) in
-    c .before .before .close .ensures ∙ sym (leave-goes (a .head) (a .line) (a .n) (take (a .n) (a .t4)) (a .u) (now (a .labels)) (now (a .jumps)) (now (a .buf)) (c .before .before .before .before .before .before .before .before .enum-told .given .1) (counted s) ∙ l .inv .2 ∙ rw (drop-of-length-le (take (a .n) (a .t4)) y) (constants-end (a .line) (l .k) _ _))
+    let f = now (a .file) in
+    let ps = now (a .places) in
+    let h : a .n ≤ length ps = omega (arith, s .pre) in
+    c .before .before .close .ensures ∙ sym (leave-goes (a .head) (a .line) (a .n) (constants-at f (take (a .n) ps)) (a .u) (now (a .labels)) (now (a .jumps)) (now (a .buf)) (c .before .before .before .before .before .before .before .before .enum-told .given .1) (places-length f ps (a .n) h) ∙ l .inv .2 ∙ rw (places-end f ps (a .n) h (l .k) (c .before .before .before .before .before .before .loop-test .left)) (constants-end (a .line) (l .k) _ _))
 
 pub leave-spec : {M : Type 1} → statement M
 leave-spec =
@@ -117,9 +121,10 @@ leave-spec =
     returns
     enum-told
     loop-holds
+    mul-constant-at
+    element-copy-out-constant-at
+    constant-at-requires
     cast-append-const
-    mul-append-const
-    array-copy-out-append-const
     append-const-requires
     enum-known-w
     refused-requires-2
