@@ -3,3 +3,4 @@ pub mod Lined
 pub mod Numerals
 pub mod Answers
 pub mod Joined
+pub mod Short

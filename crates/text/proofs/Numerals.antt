@@ -30,7 +30,7 @@ between a c b true true e f g = (leb-true a c e, leb-true c b f)
 between a c b true false e f g = absurd (let z : _≡_ {A = ℕ} 0 1 = cc in omega arith)
 between a c b false u e f g = absurd (let z : _≡_ {A = ℕ} 0 1 = cc in omega arith)
 
-value-byte : (c : ℕ) → digit-value c < 16 → digit-byte (digit-value c) ≡ c
+pub value-byte : (c : ℕ) → digit-value c < 16 → digit-byte (digit-value c) ≡ c
 value-byte c h = go (leb 48 c && leb c 57) (leb 97 c && leb c 102) refl refl h
   where
     go : (t u : Bool) → leb 48 c && leb c 57 ≡ t → leb 97 c && leb c 102 ≡ u → cond t (c - 48) (cond u (c - 87) 16) < 16 → digit-byte (cond t (c - 48) (cond u (c - 87) 16)) ≡ c

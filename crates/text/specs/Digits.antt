@@ -58,6 +58,14 @@ unfoldable pub read-decimal : List ℕ → Option ℕ
 read-decimal [] = none
 read-decimal (c ∷ cs) = cond (eqb c 48 && not (eqb (length cs) 0)) none (read-from 10 0 (c ∷ cs))
 
+-- a number of at most three digits, 1000 for everything else
+abbrev pub or-1000 : Option ℕ → ℕ
+or-1000 none = 1000
+or-1000 (some n) = n
+
+unfoldable pub short-of : List ℕ → ℕ
+short-of s = cond (leb (length s) 3) (or-1000 (read-decimal s)) 1000
+
 abbrev pub negative : Option ℕ → Option ℤ
 negative none = none
 negative (some zero) = none

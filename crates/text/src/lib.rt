@@ -3,7 +3,7 @@ ghost use mathlib.Core.Path.{_≡_};
 ghost use mathlib.Core.List.{_∷_};
 ghost use Prim.Native.Nat.{_+_, _-_, _≤_, _<_};
 ghost use lib.ListN.{length, take, drop};
-ghost use Rattle.text.specs.Digits.{negative as negative-of, digit-value, read-from, read-decimal, read-integer, read-word, numeral, further, integer as integer-of, word as word-of};
+ghost use Rattle.text.specs.Digits.{negative as negative-of, digit-value, read-from, read-decimal, read-integer, read-word, numeral, further, short-of, integer as integer-of, word as word-of};
 ghost use Rattle.text.specs.Fields.{same as same-of, fields-from, end-from, next-from, first-decimal};
 ghost use Rattle.text.specs.Lines.{lines-of, first-length};
 
@@ -95,6 +95,60 @@ pub fn read_number(s: &[u8]) -> Numeral
         return Numeral::Malformed;
     }
     digits(s, 10)
+}
+
+// One digit, or three.
+fn odd_number(s: &[u8]) -> u64
+    requires { ⌜ (length (now s) ≡ 2 → ⊥) ⌝ }
+    ensures { λ r. ⌜ r ≡ short-of (now (s .entry)) ⌝ }
+{
+    if s.len() == 1 {
+        let d = digit(s[0]);
+        return if d < 10 { d } else { 1000 };
+    }
+    if s.len() != 3 {
+        return 1000;
+    }
+    let a = digit(s[0]);
+    let b = digit(s[1]);
+    let c = digit(s[2]);
+    if a == 0 {
+        return 1000;
+    }
+    if a >= 10 {
+        return 1000;
+    }
+    if b >= 10 {
+        return 1000;
+    }
+    if c >= 10 {
+        return 1000;
+    }
+    100 * a + 10 * b + c
+}
+
+// A decimal number of one, two or three digits, else 1000. Most fields have two.
+pub fn short_number(s: &[u8]) -> u64
+    ensures { λ r. ⌜ r ≡ short-of (now (s .entry)) ⌝ }
+{
+    if s.len() != 2 {
+        return odd_number(s);
+    }
+    let a = s[0];
+    let b = s[1];
+    if a < 49 {
+        return 1000;
+    }
+    if a > 57 {
+        return 1000;
+    }
+    if b < 48 {
+        return 1000;
+    }
+    if b > 57 {
+        return 1000;
+    }
+    10 * (a - 48) as u64 + (b - 48) as u64
 }
 
 // A decimal number that may have a minus.

@@ -1,0 +1,145 @@
+-- Numbers of at most three digits. Assumes nothing.
+use mathlib.Core.Path.{_≡_, refl, sym, ap, _∙_}
+use mathlib.Core.Bool.{Bool, true, false, cond, _&&_, not}
+use mathlib.Core.Option.{Option, some, none}
+use mathlib.Core.List.{List, [], _∷_, _++_}
+use Prim.Native.Nat.{ℕ, zero, suc, _+_, _*_, _-_, _<_, _≤_}
+use native.Mathlib.Omega.{arith}
+use borrow.Author.Tests.{lt-ltb, le-ltb, lt-leb, le-leb, ltb-true, ltb-false, leb-true}
+use lib.Dec.{eqb, ltb, leb}
+use lib.ListN.{length, getD}
+use Rattle.text.specs.Digits.{digit-value, read-from, read-decimal, or-1000, short-of}
+use Rattle.text.specs.Fields.{commas, split}
+use Rattle.text.proofs.Answers.{empty, alone, leading, led}
+use Rattle.text.proofs.Numerals.{value-byte, decimal-read}
+use Rattle.text.proofs.Joined.{free, split-join, free-decimal}
+
+-- ---- what is read
+
+-- a number has no comma, so it is the only field
+pub one-field : (t : List ℕ) (v : ℕ) → read-decimal t ≡ some v → split t ≡ t ∷ []
+unfolding commas
+one-field t v e =
+    let f : free t ≡ true = rw (decimal-read t v e) at (free-decimal v) in
+    rw (append-nil t) at (split-join t [] f refl)
+  where
+    append-nil : (s : List ℕ) → s ++ [] ≡ s
+    append-nil [] = refl
+    append-nil (c ∷ cs) = ap (λ (l : List ℕ). c ∷ l) (append-nil cs)
+
+pub short-read : (t : List ℕ) → short-of t < 1000 → read-decimal t ≡ some (short-of t)
+unfolding short-of
+short-read t h = go (leb (length t) 3) (read-decimal t) h
+  where
+    go : (b : Bool) (o : Option ℕ) → cond b (or-1000 o) 1000 < 1000 → o ≡ some (cond b (or-1000 o) 1000)
+    go true none h = absurd (omega arith)
+    go true (some n) h = refl
+    go false o h = absurd (omega arith)
+
+-- ---- what is 1000
+
+no-number : (s : List ℕ) → read-decimal s ≡ none → 1000 ≡ short-of s
+unfolding short-of
+no-number s e = rw e (go (leb (length s) 3))
+  where
+    go : (b : Bool) → 1000 ≡ cond b (or-1000 none) 1000
+    go true = refl
+    go false = refl
+
+none-from : (v : ℕ) (s : List ℕ) (i : ℕ) → i < length s → 10 ≤ digit-value (getD s i 0) → read-from 10 v s ≡ none
+unfolding read-from
+none-from v [] i h e = absurd (omega arith)
+none-from v (c ∷ cs) zero h e = rw (le-ltb (digit-value c) 10 e)
+none-from v (c ∷ cs) (suc i) h e = go (ltb (digit-value c) 10) (none-from (v * 10 + digit-value c) cs i (omega arith) e)
+  where
+    go : (t : Bool) → read-from 10 (v * 10 + digit-value c) cs ≡ none → cond t (read-from 10 (v * 10 + digit-value c) cs) none ≡ none
+    go true f = f
+    go false f = refl
+
+none-in : (s : List ℕ) (i : ℕ) → i < length s → 10 ≤ digit-value (getD s i 0) → read-decimal s ≡ none
+unfolding read-decimal
+none-in [] i h e = absurd (omega arith)
+none-in (c ∷ cs) i h e = rw (none-from 0 (c ∷ cs) i h e) (go (eqb c 48 && not (eqb (length cs) 0)))
+  where
+    go : (t : Bool) → cond {A = Option ℕ} t none none ≡ none
+    go true = refl
+    go false = refl
+
+module _ (s : List ℕ) where
+  pub no-digit : (i : ℕ) → i < length s → 10 ≤ digit-value (getD s i 0) → 1000 ≡ short-of s
+  no-digit i h e = no-number s (none-in s i h e)
+
+  zero-led : 1 < length s → getD s 0 0 ≡ 48 → 1000 ≡ short-of s
+  zero-led h e = no-number s (leading s (λ z. omega arith) (λ z. omega arith) e)
+
+  pub led-by-zero : 1 < length s → 0 ≡ digit-value (getD s 0 0) → 1000 ≡ short-of s
+  led-by-zero h e = zero-led h (sym (rw (sym e) at (value-byte (getD s 0 0) (omega arith))))
+
+  pub other-length : (length s ≡ 1 → ⊥) → (length s ≡ 2 → ⊥) → (length s ≡ 3 → ⊥) → 1000 ≡ short-of s
+  unfolding short-of
+  other-length f g h = go (leb (length s) 3) refl
+    where
+      go : (t : Bool) → leb (length s) 3 ≡ t → 1000 ≡ cond t (or-1000 (read-decimal s)) 1000
+      go true e = let k = leb-true (length s) 3 e in rw (empty s (omega arith))
+      go false e = refl
+
+-- ---- digits by their bytes
+
+module _ (c : ℕ) where
+  pub below : c < 48 → 10 ≤ digit-value c
+  below h = rw (lt-leb 48 c h, lt-leb 97 c (omega arith)) (omega arith)
+
+  pub above : 57 < c → 10 ≤ digit-value c
+  above h = rw (le-leb 48 c (omega arith), lt-leb c 57 h) (go (leb 97 c) (leb c 102) refl)
+    where
+      go : (t u : Bool) → leb 97 c ≡ t → 10 ≤ cond (t && u) (c - 87) 16
+      go true true e = let g = leb-true 97 c e in omega arith
+      go true false e = omega arith
+      go false u e = omega arith
+
+  within : 48 ≤ c → c ≤ 57 → c - 48 ≡ digit-value c
+  within h k = rw (le-leb 48 c h, le-leb c 57 k)
+
+pub first-below : (s : List ℕ) → 1 < length s → getD s 0 0 < 49 → 1000 ≡ short-of s
+first-below s h e = go (ltb (getD s 0 0) 48) refl
+  where
+    go : (t : Bool) → ltb (getD s 0 0) 48 ≡ t → 1000 ≡ short-of s
+    go true f = no-digit s 0 (omega arith) (below (getD s 0 0) (ltb-true (getD s 0 0) 48 f))
+    go false f = let g = ltb-false (getD s 0 0) 48 f in zero-led s h (omega arith)
+
+-- ---- one, two and three digits
+
+is-short : (s : List ℕ) (n : ℕ) → length s ≤ 3 → read-decimal s ≡ some n → n ≡ short-of s
+unfolding short-of
+is-short s n h e = rw (e, le-leb (length s) 3 h)
+
+not-zero : (a x : ℕ) → x ≡ digit-value a → (x ≡ 0 → ⊥) → a ≡ 48 → ⊥
+not-zero a x e h k = h (rw k at e)
+
+pub one-digit : (s : List ℕ) (x : ℕ) → length s ≡ 1 → x ≡ digit-value (getD s 0 0) → x < 10 → x ≡ short-of s
+unfolding read-from
+one-digit [] x h e f = absurd (omega arith)
+one-digit (a ∷ []) x h e f = is-short (a ∷ []) x (omega arith) (alone (a ∷ []) refl ∙ rw (← e, lt-ltb x 10 f) (ap some (omega arith)))
+one-digit (a ∷ b ∷ s) x h e f = absurd (omega arith)
+
+two-values : (s : List ℕ) (x y : ℕ) → length s ≡ 2 → x ≡ digit-value (getD s 0 0) → y ≡ digit-value (getD s 1 0) → (x ≡ 0 → ⊥) → x < 10 → y < 10 → 10 * x + y ≡ short-of s
+unfolding read-from
+two-values [] x y h ex ey k f g = absurd (omega arith)
+two-values (a ∷ []) x y h ex ey k f g = absurd (omega arith)
+two-values (a ∷ b ∷ []) x y h ex ey k f g =
+    let n : (0 * 10 + x) * 10 + y ≡ 10 * x + y = omega arith in
+    is-short (a ∷ b ∷ []) (10 * x + y) (omega arith) (led (a ∷ b ∷ []) (λ e. omega arith) (λ e. omega arith) (not-zero a x ex k) ∙ rw (← ex, ← ey, lt-ltb x 10 f, lt-ltb y 10 g) (ap some n))
+two-values (a ∷ b ∷ c ∷ s) x y h ex ey k f g = absurd (omega arith)
+
+pub two-digits : (s : List ℕ) → length s ≡ 2 → 49 ≤ getD s 0 0 → getD s 0 0 ≤ 57 → 48 ≤ getD s 1 0 → getD s 1 0 ≤ 57 → 10 * (getD s 0 0 - 48) + (getD s 1 0 - 48) ≡ short-of s
+two-digits s h a b c d = two-values s _ _ h (within (getD s 0 0) (omega arith) b) (within (getD s 1 0) c d) (λ e. omega arith) (omega arith) (omega arith)
+
+pub three-digits : (s : List ℕ) (x y z : ℕ) → length s ≡ 3 → x ≡ digit-value (getD s 0 0) → y ≡ digit-value (getD s 1 0) → z ≡ digit-value (getD s 2 0) → (x ≡ 0 → ⊥) → x < 10 → y < 10 → z < 10 → 100 * x + 10 * y + z ≡ short-of s
+unfolding read-from
+three-digits [] x y z h ex ey ez k f g i = absurd (omega arith)
+three-digits (a ∷ []) x y z h ex ey ez k f g i = absurd (omega arith)
+three-digits (a ∷ b ∷ []) x y z h ex ey ez k f g i = absurd (omega arith)
+three-digits (a ∷ b ∷ c ∷ []) x y z h ex ey ez k f g i =
+    let n : ((0 * 10 + x) * 10 + y) * 10 + z ≡ 100 * x + 10 * y + z = omega arith in
+    is-short (a ∷ b ∷ c ∷ []) (100 * x + 10 * y + z) (omega arith) (led (a ∷ b ∷ c ∷ []) (λ e. omega arith) (λ e. omega arith) (not-zero a x ex k) ∙ rw (← ex, ← ey, ← ez, lt-ltb x 10 f, lt-ltb y 10 g, lt-ltb z 10 i) (ap some n))
+three-digits (a ∷ b ∷ c ∷ d ∷ s) x y z h ex ey ez k f g i = absurd (omega arith)
