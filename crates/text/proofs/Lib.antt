@@ -4,3 +4,5 @@ pub mod Numerals
 pub mod Answers
 pub mod Joined
 pub mod Short
+pub mod Marks
+pub mod Eights

@@ -1,4 +1,5 @@
 pub mod Ascii
+pub mod Bytes
 pub mod Digits
 pub mod Fields
 pub mod Lines

@@ -1,11 +1,12 @@
 // Document 01, "The deck file": numbers, fields and lines as bytes.
 ghost use mathlib.Core.Path.{_≡_};
 ghost use mathlib.Core.List.{_∷_};
-ghost use Prim.Native.Nat.{_+_, _-_, _≤_, _<_};
+ghost use Prim.Native.Nat.{_+_, _-_, _/_, _≤_, _<_};
 ghost use lib.ListN.{length, take, drop};
 ghost use Rattle.text.specs.Digits.{negative as negative-of, digit-value, read-from, read-decimal, read-integer, read-word, numeral, further, short-of, integer as integer-of, word as word-of};
 ghost use Rattle.text.specs.Fields.{same as same-of, fields-from, end-from, next-from, first-decimal};
 ghost use Rattle.text.specs.Lines.{lines-of, first-length};
+ghost use Rattle.text.specs.Bytes.{four-are, tens as tens-of};
 
 // A number of any size.
 pub enum Number {
@@ -249,8 +250,43 @@ pub fn same(s: &[u8], w: &[u8]) -> bool
     true
 }
 
-// Behind the line that starts at a.
-pub fn line_end(file: &[u8], a: usize) -> usize
+// ---- lines, eight bytes at a time
+
+fn wide(b: u8) -> u64
+    ensures { λ r. ⌜ (r ≡ b) × (r < 256) ⌝ }
+{
+    b as u64
+}
+
+// The four bytes from i on as one number, the first lowest.
+fn four(file: &[u8], i: usize) -> u64
+    requires { ⌜ i + 4 ≤ length (now file) ⌝ }
+    ensures { λ r. ⌜ four-are (now (file .entry)) i r × (r < 4294967296) ⌝ }
+{
+    wide(file[i])
+        + wide(file[i + 1]) * 256
+        + wide(file[i + 2]) * 65536
+        + wide(file[i + 3]) * 16777216
+}
+
+fn eight(file: &[u8], i: usize) -> u64
+    requires { ⌜ i + 8 ≤ length (now file) ⌝ }
+    ensures { λ r. ⌜ four-are (now (file .entry)) i r × four-are (now (file .entry)) (i + 4) (r / 4294967296) ⌝ }
+{
+    four(file, i) + four(file, i + 4) * 4294967296
+}
+
+// 128 in each byte of x that is 10, and 0 in the others.
+fn tens(x: u64) -> u64
+    ensures { λ r. ⌜ r ≡ tens-of 8 x ⌝ }
+{
+    let y = x ^ 0x0a0a0a0a0a0a0a0a;
+    let t = (y & 0x7f7f7f7f7f7f7f7f) + 0x7f7f7f7f7f7f7f7f;
+    (t | y | 0x7f7f7f7f7f7f7f7f) ^ 0xffffffffffffffff
+}
+
+// Behind the line, byte by byte.
+fn line_end_bytewise(file: &[u8], a: usize) -> usize
     ensures { λ r. ⌜ (r ≡ a + first-length (lines-of (drop a (now (file .entry)))))
         × (a < length (now (file .entry)) → (a < r) × (r ≤ length (now (file .entry))) × (lines-of (drop a (now (file .entry))) ≡ take (r - a) (drop a (now (file .entry))) ∷ lines-of (drop r (now (file .entry))))) ⌝ }
 {
@@ -262,4 +298,25 @@ pub fn line_end(file: &[u8], a: usize) -> usize
         i += 1;
     }
     i
+}
+
+// Behind the line that starts at a.
+pub fn line_end(file: &[u8], a: usize) -> usize
+    ensures { λ r. ⌜ (r ≡ a + first-length (lines-of (drop a (now (file .entry)))))
+        × (a < length (now (file .entry)) → (a < r) × (r ≤ length (now (file .entry))) × (lines-of (drop a (now (file .entry))) ≡ take (r - a) (drop a (now (file .entry))) ∷ lines-of (drop r (now (file .entry))))) ⌝ }
+{
+    let n = file.len();
+    if a > n {
+        return a;
+    }
+    let mut i = a;
+    while n - i >= 8 {
+        let z = tens(eight(file, i));
+        if z != 0 {
+            let t = u64::trailing_zeros(z);
+            return i + t as usize / 8 + 1;
+        }
+        i += 8;
+    }
+    line_end_bytewise(file, i)
 }

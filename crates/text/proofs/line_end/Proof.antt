@@ -1,35 +1,53 @@
-use native.Mathlib.Omega.{arith}
-use mathlib.Core.Path.{_≡_, refl, _∙_}
-use Prim.Native.Nat.{_+_, _-_, _≤_, _<_}
-use lib.ListN.{length, drop}
+use mathlib.Core.Path.{_≡_, refl}
+use Prim.Native.Nat.{ℕ, _-_, _≤_}
+use lib.Count.{trailing-le}
+use lib.ListN.{length}
 use denote.Ref.{now}
 use borrow.Author.Needs.{needs}
-use Rattle.text.specs.Lines.{lines-of}
-use Rattle.text.proofs.Lined.{ontos, part, line-here, line-later, line-start, first-end, last-end, last-lines}
+use Rattle.text.proofs.Lined.{Ends, ends-behind}
+use Rattle.text.proofs.Eights.{Found, found-eight}
 use Rattle.text.proofs.line_end.Statement.{statement}
 use Rattle.text.proofs.line_end.Tie as tie
 
 abbrev Inv-loop : tie.InvT-loop
-Inv-loop file a i₀ i = (a ≤ i) × (a < length file → i ≤ length file) × (length file ≤ a → i ≡ a) × (lines-of (drop a file) ≡ ontos (part file a i) (lines-of (drop i file)))
+Inv-loop file a n i₀ i = (n ≡ length file) × (i ≤ length file) × ((r : ℕ) → Ends file i r → Ends file a r)
 
 abbrev μ-loop : tie.MeasureT-loop
-μ-loop file a i₀ i = length file - i
+μ-loop file a n i₀ i = length file - i
 
-loop-holds : tie.Need-loop-holds Inv-loop μ-loop
-loop-holds c = (search needs, λ h. omega arith, λ h. refl, line-start (now (c .args .file)) (c .args .a))
-
-shared-slice-read-if1 : tie.Need-shared-slice-read-if1 Inv-loop μ-loop
-shared-slice-read-if1 c = search needs
-
-add-result : tie.Need-add-result Inv-loop μ-loop
-add-result c = search needs
+-- what the marks of the eight bytes tell
+told : (c : tie.After-tens Inv-loop μ-loop) → Found (now (c .before .before .before .before .before .before .args .file)) (c .before .before .before .loop .i) 8 (c .tens .result)
+told c =
+    let l = c .before .before .before in
+    let e = c .before .eight in
+    rw (c .tens .ensures) (found-eight (now (l .before .before .before .args .file)) (l .loop .i) (e .result) (search needs) (e .ensures .0) (e .ensures .1))
 
 returns : tie.Need-returns Inv-loop μ-loop
-returns c =
-    let l = c .before .before .before in
-    let a = l .before .args in
-    let e = l .loop .inv .3 ∙ line-here (now (a .file)) (a .a) (l .loop .i) (l .loop .inv .0) (c .before .before .loop-test .taken) (c .if1 .taken) in
-    (first-end (now (a .file)) (a .a) (l .loop .i + 1) _ (omega arith) (omega arith) e, λ h. (omega arith, omega arith, e))
+returns c = ends-behind _ _ (search needs)
+
+loop-holds : tie.Need-loop-holds Inv-loop μ-loop
+loop-holds c = (refl, search needs, λ r e. e)
+
+sub-loop : tie.Need-sub-loop Inv-loop μ-loop
+sub-loop c = search needs
+
+eight-requires : tie.Need-eight-requires Inv-loop μ-loop
+eight-requires c κs = search needs
+
+tens-requires : tie.Need-tens-requires Inv-loop μ-loop
+tens-requires c κs = search needs
+
+cast-result : tie.Need-cast-result Inv-loop μ-loop
+cast-result c = search (needs, trailing-le 64 (c .before .tens .result))
+
+add-result : tie.Need-add-result Inv-loop μ-loop
+add-result c = search (needs, trailing-le 64 (c .before .tens .result))
+
+add-result-2 : tie.Need-add-result-2 Inv-loop μ-loop
+add-result-2 c = search (needs, trailing-le 64 (c .before .tens .result))
+
+returns-2 : tie.Need-returns-2 Inv-loop μ-loop
+returns-2 c = c .before .before .before .before .loop .inv .2 _ (told (c .before) .1 (c .if2 .taken))
 
 add-i : tie.Need-add-i Inv-loop μ-loop
 add-i c = search needs
@@ -38,17 +56,13 @@ loop-less : tie.Need-loop-less Inv-loop μ-loop
 loop-less c = search needs
 
 loop-again : tie.Need-loop-again Inv-loop μ-loop
-loop-again c =
-    let l = c .before .before .before in
-    let a = l .before .args in
-    (omega arith, λ h. omega arith, λ h. absurd (omega arith), l .loop .inv .3 ∙ line-later (now (a .file)) (a .a) (l .loop .i) (l .loop .inv .0) (c .before .before .loop-test .taken) (c .if1 .left))
+loop-again c = (refl, search needs, λ r e. c .before .before .before .before .loop .inv .2 r (told (c .before) .0 (c .if2 .left) r e))
 
-returns-2 : tie.Need-returns-2 Inv-loop μ-loop
-returns-2 c =
-    let l = c .before in
-    let a = l .before .args in
-    let v = l .loop .inv in
-    (last-end (now (a .file)) (a .a) (l .loop .i) (v .0) (c .loop-test .left) (v .1) (v .2) (v .3), last-lines (now (a .file)) (a .a) (l .loop .i) (v .0) (c .loop-test .left) (v .1) (v .2) (v .3))
+line-end-bytewise-requires : tie.Need-line-end-bytewise-requires Inv-loop μ-loop
+line-end-bytewise-requires c κs = search needs
+
+returns-3 : tie.Need-returns-3 Inv-loop μ-loop
+returns-3 c = c .before .before .loop .inv .2 _ (c .line-end-bytewise .ensures)
 
 pub line-end-spec : {M : Type 1} → statement M
 line-end-spec =
@@ -56,11 +70,17 @@ line-end-spec =
     (tie.spec
     Inv-loop
     μ-loop
-    loop-holds
-    shared-slice-read-if1
-    add-result
     returns
+    loop-holds
+    sub-loop
+    eight-requires
+    tens-requires
+    cast-result
+    add-result
+    add-result-2
+    returns-2
     add-i
     loop-less
     loop-again
-    returns-2)
+    line-end-bytewise-requires
+    returns-3)
