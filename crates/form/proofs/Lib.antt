@@ -1,4 +1,5 @@
 mod Names
+pub mod Numbered
 mod Chosen
 pub mod Inverse
 mod Shapes

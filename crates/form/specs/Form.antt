@@ -1,5 +1,5 @@
 -- A line's form: its kind and fields, each number as 64 bits hold it, or malformed.
-use mathlib.Core.Bool.{Bool, true, false, cond}
+use mathlib.Core.Bool.{Bool, true, false}
 use mathlib.Core.Option.{Option, some, none, Option·map}
 use mathlib.Core.List.{List, [], _∷_}
 use Prim.Native.Nat.{ℕ, zero, suc}
@@ -70,11 +70,6 @@ shaped k fs = shaped′ k (read-values (sorts k) fs)
 abbrev pub named : Option Kind → Named
 named none = Named.Unknown
 named (some k) = Named.Is k
-
--- a kind found before, or this one if the test holds
-abbrev pub or-named : Named → Bool → Kind → Named
-or-named (Named.Is k) b j = Named.Is k
-or-named Named.Unknown b j = named (cond b (some j) none)
 
 -- exactly k numbers
 abbrev pub cons : Option ℕ → Option (List ℕ) → Option (List ℕ)

@@ -1,3 +1,4 @@
 pub mod Line
+pub mod Kinds
 pub mod Read
 pub mod Form

@@ -3,8 +3,9 @@ ghost use mathlib.Core.Path.{_≡_};
 ghost use mathlib.Core.List.{[], _∷_};
 ghost use Rattle.text.specs.Fields.{split, same, fields-from, next-from};
 ghost use Rattle.form.specs.Line.{name, place-name, flag-name, number, place, flag};
+ghost use Rattle.form.specs.Kinds.{numbered, or-number, later-at, kind-at};
 ghost use Rattle.form.specs.Read.{first, names-two, names-three, names-four, names-five, names-six, names-longer, kind-of, all-places, all-flags, read-values, read-fields};
-ghost use Rattle.form.specs.Form.{form-of, formed, shaped, named, or-named, numbers, read-numbers, before, first-of, only, placed, cell, flagged};
+ghost use Rattle.form.specs.Form.{form-of, formed, shaped, named, numbers, read-numbers, before, first-of, only, placed, cell, flagged};
 use order::Binary;
 use order::Frame;
 use order::Fused;
@@ -63,7 +64,7 @@ pub enum Numbers {
     Malformed,
 }
 
-enum Where {
+pub enum Where {
     Is(Place),
     Malformed,
 }
@@ -80,90 +81,88 @@ enum Cell {
     Malformed,
 }
 
-enum Flag {
+pub enum Flag {
     Is(bool),
     Malformed,
 }
 
-// ---- names
+// ---- names: each kind has a number
 
-// A kind found before, or this one if s is its name.
-fn or_named(found: Named, s: &[u8], w: &[u8], k: Kind) -> Named
-    ensures { λ r. ⌜ r ≡ or-named found (same (now (s .entry)) (now (w .entry))) k ⌝ }
+const NO_KIND: u64 = 35;
+
+// A number found before, or this one if s is the name w.
+fn or_number(found: u64, s: &[u8], w: &[u8], k: u64) -> u64
+    ensures { λ r. ⌜ r ≡ or-number found (same (now (s .entry)) (now (w .entry))) k ⌝ }
 {
-    if let Named::Is(_) = found {
+    if found != NO_KIND {
         return found;
     }
-    if text::same(s, w) {
-        Named::Is(k)
-    } else {
-        Named::Unknown
-    }
+    if text::same(s, w) { k } else { NO_KIND }
 }
 
-fn two(s: &[u8]) -> Named
-    ensures { λ r. ⌜ r ≡ named (first name (now (s .entry)) names-two) ⌝ }
+fn two(s: &[u8]) -> u64
+    ensures { λ r. ⌜ r ≡ numbered (first name (now (s .entry)) names-two) ⌝ }
 {
-    let a = or_named(Named::Unknown, s, b"gt", Kind::Binary(Binary::Gt));
-    or_named(a, s, b"or", Kind::Binary(Binary::Or))
+    let a = or_number(NO_KIND, s, b"gt", 10);
+    or_number(a, s, b"or", 14)
 }
 
-fn three(s: &[u8]) -> Named
-    ensures { λ r. ⌜ r ≡ named (first name (now (s .entry)) names-three) ⌝ }
+fn three(s: &[u8]) -> u64
+    ensures { λ r. ⌜ r ≡ numbered (first name (now (s .entry)) names-three) ⌝ }
 {
-    let a = or_named(Named::Unknown, s, b"not", Kind::Unary(Unary::Not));
-    let b = or_named(a, s, b"neq", Kind::Binary(Binary::Neq));
-    let c = or_named(b, s, b"and", Kind::Binary(Binary::And));
-    let d = or_named(c, s, b"xor", Kind::Binary(Binary::Xor));
-    let e = or_named(d, s, b"get", Kind::Load);
-    or_named(e, s, b"put", Kind::Save)
+    let a = or_number(NO_KIND, s, b"not", 4);
+    let b = or_number(a, s, b"neq", 11);
+    let c = or_number(b, s, b"and", 12);
+    let d = or_number(c, s, b"xor", 15);
+    let e = or_number(d, s, b"get", 22);
+    or_number(e, s, b"put", 25)
 }
 
-fn four(s: &[u8]) -> Named
-    ensures { λ r. ⌜ r ≡ named (first name (now (s .entry)) names-four) ⌝ }
+fn four(s: &[u8]) -> u64
+    ensures { λ r. ⌜ r ≡ numbered (first name (now (s .entry)) names-four) ⌝ }
 {
-    let a = or_named(Named::Unknown, s, b"fast", Kind::Head(Frame::Fast));
-    let b = or_named(a, s, b"fmov", Kind::Unary(Unary::Fmov));
-    let c = or_named(b, s, b"sign", Kind::Scratched(Scratched::Sign));
-    let d = or_named(c, s, b"frac", Kind::Scratched(Scratched::Frac));
-    or_named(d, s, b"bits", Kind::Bits)
+    let a = or_number(NO_KIND, s, b"fast", 33);
+    let b = or_number(a, s, b"fmov", 0);
+    let c = or_number(b, s, b"sign", 5);
+    let d = or_number(c, s, b"frac", 6);
+    or_number(d, s, b"bits", 32)
 }
 
-fn five(s: &[u8]) -> Named
-    ensures { λ r. ⌜ r ≡ named (first name (now (s .entry)) names-five) ⌝ }
+fn five(s: &[u8]) -> u64
+    ensures { λ r. ⌜ r ≡ numbered (first name (now (s .entry)) names-five) ⌝ }
 {
-    let a = or_named(Named::Unknown, s, b"recip", Kind::Unary(Unary::Recip));
-    let b = or_named(a, s, b"round", Kind::Unary(Unary::Round));
-    let c = or_named(b, s, b"floor", Kind::Unary(Unary::Floor));
-    let d = or_named(c, s, b"minus", Kind::Binary(Binary::Minus));
-    let e = or_named(d, s, b"times", Kind::Binary(Binary::Times));
-    let f = or_named(e, s, b"label", Kind::SetLabel);
-    or_named(f, s, b"float", Kind::Float)
+    let a = or_number(NO_KIND, s, b"recip", 1);
+    let b = or_number(a, s, b"round", 2);
+    let c = or_number(b, s, b"floor", 3);
+    let d = or_number(c, s, b"minus", 7);
+    let e = or_number(d, s, b"times", 8);
+    let f = or_number(e, s, b"label", 30);
+    or_number(f, s, b"float", 31)
 }
 
-fn six(s: &[u8]) -> Named
-    ensures { λ r. ⌜ r ≡ named (first name (now (s .entry)) names-six) ⌝ }
+fn six(s: &[u8]) -> u64
+    ensures { λ r. ⌜ r ≡ numbered (first name (now (s .entry)) names-six) ⌝ }
 {
-    let a = or_named(Named::Unknown, s, b"divide", Kind::Binary(Binary::Divide));
-    let b = or_named(a, s, b"andnot", Kind::Binary(Binary::Andnot));
-    let c = or_named(b, s, b"ifelse", Kind::Ifelse);
-    or_named(c, s, b"branch", Kind::BranchIf)
+    let a = or_number(NO_KIND, s, b"divide", 9);
+    let b = or_number(a, s, b"andnot", 13);
+    let c = or_number(b, s, b"ifelse", 20);
+    or_number(c, s, b"branch", 28)
 }
 
-fn longer(s: &[u8]) -> Named
-    ensures { λ r. ⌜ r ≡ named (first name (now (s .entry)) names-longer) ⌝ }
+fn longer(s: &[u8]) -> u64
+    ensures { λ r. ⌜ r ≡ numbered (first name (now (s .entry)) names-longer) ⌝ }
 {
-    let a = or_named(Named::Unknown, s, b"indirect", Kind::Head(Frame::Indirect));
-    let b = or_named(a, s, b"fused_mul_add", Kind::Fused(Fused::MulAdd));
-    let c = or_named(b, s, b"fused_mul_sub", Kind::Fused(Fused::MulSub));
-    let d = or_named(c, s, b"fused_neg_mul_add", Kind::Fused(Fused::NegMulAdd));
-    let e = or_named(d, s, b"fused_neg_mul_sub", Kind::Fused(Fused::NegMulSub));
-    or_named(e, s, b"load_const", Kind::LoadConst)
+    let a = or_number(NO_KIND, s, b"indirect", 34);
+    let b = or_number(a, s, b"fused_mul_add", 16);
+    let c = or_number(b, s, b"fused_mul_sub", 17);
+    let d = or_number(c, s, b"fused_neg_mul_add", 18);
+    let e = or_number(d, s, b"fused_neg_mul_sub", 19);
+    or_number(e, s, b"load_const", 21)
 }
 
-// Names are told apart by length first.
-fn kind_named(s: &[u8]) -> Named
-    ensures { λ r. ⌜ r ≡ named (kind-of (now (s .entry))) ⌝ }
+// The number of the kind that s names. Names are told apart by length first.
+pub fn kind_number(s: &[u8]) -> u64
+    ensures { λ r. ⌜ r ≡ numbered (kind-of (now (s .entry))) ⌝ }
 {
     let n = s.len();
     if n == 2 {
@@ -182,6 +181,50 @@ fn kind_named(s: &[u8]) -> Named
         return six(s);
     }
     longer(s)
+}
+
+// The kinds from 20 on.
+fn later_at(k: u64) -> Named
+    ensures { λ r. ⌜ r ≡ named (later-at k) ⌝ }
+{
+    match k {
+        20 => Named::Is(Kind::Ifelse),
+        21 => Named::Is(Kind::LoadConst),
+        22 => Named::Is(Kind::Load),
+        25 => Named::Is(Kind::Save),
+        28 => Named::Is(Kind::BranchIf),
+        30 => Named::Is(Kind::SetLabel),
+        31 => Named::Is(Kind::Float),
+        32 => Named::Is(Kind::Bits),
+        33 => Named::Is(Kind::Head(Frame::Fast)),
+        34 => Named::Is(Kind::Head(Frame::Indirect)),
+        _ => Named::Unknown,
+    }
+}
+
+// The kind of a number.
+fn kind_at(k: u64) -> Named
+    ensures { λ r. ⌜ r ≡ named (kind-at k) ⌝ }
+{
+    if k < 5 {
+        return Named::Is(Kind::Unary(packed::unary_at(k)));
+    }
+    if k < 7 {
+        return Named::Is(Kind::Scratched(packed::scratched_at(k)));
+    }
+    if k < 16 {
+        return Named::Is(Kind::Binary(packed::binary_at(k)));
+    }
+    if k < 20 {
+        return Named::Is(Kind::Fused(packed::fused_at(k)));
+    }
+    later_at(k)
+}
+
+fn kind_named(s: &[u8]) -> Named
+    ensures { λ r. ⌜ r ≡ named (kind-of (now (s .entry))) ⌝ }
+{
+    kind_at(kind_number(s))
 }
 
 // ---- forms: the fields behind the name start at a
@@ -332,7 +375,7 @@ fn form_label(s: &[u8], a: usize) -> Form
     Form::SetLabel(n)
 }
 
-fn read_place(s: &[u8]) -> Where
+pub fn read_place(s: &[u8]) -> Where
     ensures { λ r. ⌜ r ≡ placed (first place-name (now (s .entry)) all-places) ⌝ }
 {
     if text::same(s, b"mem") {
@@ -416,7 +459,7 @@ fn read_flag(s: &[u8]) -> Flag
 }
 
 // 0 or 1, in the line's last field.
-fn last_flag(s: &[u8], a: usize) -> Flag
+pub fn last_flag(s: &[u8], a: usize) -> Flag
     ensures { λ r. ⌜ r ≡ flagged (only flag (fields-from (now (s .entry)) a)) ⌝ }
 {
     let e = text::field_end(s, a);

@@ -4,86 +4,68 @@ use Rattle.form.proofs.Chosen.{tried-first}
 use borrow.Author.Needs.{needs}
 use Rattle.form.proofs.five.Statement.{statement}
 use Rattle.form.proofs.five.Tie as tie
-use Rattle.form.proofs.five.Reads as reads
-use Rattle.form.proofs.five.Lts as lts
-use Rattle.form.proofs.or_named.Reads as or-named-reads
 
--- src/lib.rt:135:41
-slice-aggregate-or-named : tie.Need-slice-aggregate-or-named
-slice-aggregate-or-named c = search needs
+slice-aggregate-or-number : tie.Need-slice-aggregate-or-number
+slice-aggregate-or-number c = search needs
 
--- src/lib.rt:135:9
-or-named-requires : tie.Need-or-named-requires
-or-named-requires c κs = search needs
+or-number-requires : tie.Need-or-number-requires
+or-number-requires c κs = search needs
 
--- src/lib.rt:136:28
-slice-aggregate-or-named-2 : tie.Need-slice-aggregate-or-named-2
-slice-aggregate-or-named-2 c = search needs
+slice-aggregate-or-number-2 : tie.Need-slice-aggregate-or-number-2
+slice-aggregate-or-number-2 c = search needs
 
--- src/lib.rt:136:9
-or-named-requires-2 : tie.Need-or-named-requires-2
-or-named-requires-2 c κs = search needs
+or-number-requires-2 : tie.Need-or-number-requires-2
+or-number-requires-2 c κs = search needs
 
--- src/lib.rt:137:28
-slice-aggregate-or-named-3 : tie.Need-slice-aggregate-or-named-3
-slice-aggregate-or-named-3 c = search needs
+slice-aggregate-or-number-3 : tie.Need-slice-aggregate-or-number-3
+slice-aggregate-or-number-3 c = search needs
 
--- src/lib.rt:137:9
-or-named-requires-3 : tie.Need-or-named-requires-3
-or-named-requires-3 c κs = search needs
+or-number-requires-3 : tie.Need-or-number-requires-3
+or-number-requires-3 c κs = search needs
 
--- src/lib.rt:138:28
-slice-aggregate-or-named-4 : tie.Need-slice-aggregate-or-named-4
-slice-aggregate-or-named-4 c = search needs
+slice-aggregate-or-number-4 : tie.Need-slice-aggregate-or-number-4
+slice-aggregate-or-number-4 c = search needs
 
--- src/lib.rt:138:9
-or-named-requires-4 : tie.Need-or-named-requires-4
-or-named-requires-4 c κs = search needs
+or-number-requires-4 : tie.Need-or-number-requires-4
+or-number-requires-4 c κs = search needs
 
--- src/lib.rt:139:28
-slice-aggregate-or-named-5 : tie.Need-slice-aggregate-or-named-5
-slice-aggregate-or-named-5 c = search needs
+slice-aggregate-or-number-5 : tie.Need-slice-aggregate-or-number-5
+slice-aggregate-or-number-5 c = search needs
 
--- src/lib.rt:139:9
-or-named-requires-5 : tie.Need-or-named-requires-5
-or-named-requires-5 c κs = search needs
+or-number-requires-5 : tie.Need-or-number-requires-5
+or-number-requires-5 c κs = search needs
 
--- src/lib.rt:140:28
-slice-aggregate-or-named-6 : tie.Need-slice-aggregate-or-named-6
-slice-aggregate-or-named-6 c = search needs
+slice-aggregate-or-number-6 : tie.Need-slice-aggregate-or-number-6
+slice-aggregate-or-number-6 c = search needs
 
--- src/lib.rt:140:9
-or-named-requires-6 : tie.Need-or-named-requires-6
-or-named-requires-6 c κs = search needs
+or-number-requires-6 : tie.Need-or-number-requires-6
+or-number-requires-6 c κs = search needs
 
--- src/lib.rt:141:20
-slice-aggregate-or-named-7 : tie.Need-slice-aggregate-or-named-7
-slice-aggregate-or-named-7 c = search needs
+slice-aggregate-or-number-7 : tie.Need-slice-aggregate-or-number-7
+slice-aggregate-or-number-7 c = search needs
 
--- src/lib.rt:141:5
-or-named-requires-7 : tie.Need-or-named-requires-7
-or-named-requires-7 c κs = search needs
+or-number-requires-7 : tie.Need-or-number-requires-7
+or-number-requires-7 c κs = search needs
 
--- src/lib.rt:132:1
 returns : tie.Need-returns
-returns c = (rw (c .before .before .or-named6 .ensures, c .before .before .before .before .or-named5 .ensures, c .before .before .before .before .before .before .or-named4 .ensures, c .before .before .before .before .before .before .before .before .or-named3 .ensures, c .before .before .before .before .before .before .before .before .before .before .or-named2 .ensures, c .before .before .before .before .before .before .before .before .before .before .before .before .or-named .ensures) at (c .or-named7 .ensures)) ∙ tried-first _ names-five
+returns c = (rw (c .before .before .or-number6 .ensures, c .before .before .before .before .or-number5 .ensures, c .before .before .before .before .before .before .or-number4 .ensures, c .before .before .before .before .before .before .before .before .or-number3 .ensures, c .before .before .before .before .before .before .before .before .before .before .or-number2 .ensures, c .before .before .before .before .before .before .before .before .before .before .before .before .or-number .ensures) at (c .or-number7 .ensures)) ∙ tried-first _ names-five
 
 pub five-spec : {M : Type 1} → statement M
 five-spec =
     tie.close
     (tie.spec
-    slice-aggregate-or-named
-    or-named-requires
-    slice-aggregate-or-named-2
-    or-named-requires-2
-    slice-aggregate-or-named-3
-    or-named-requires-3
-    slice-aggregate-or-named-4
-    or-named-requires-4
-    slice-aggregate-or-named-5
-    or-named-requires-5
-    slice-aggregate-or-named-6
-    or-named-requires-6
-    slice-aggregate-or-named-7
-    or-named-requires-7
+    slice-aggregate-or-number
+    or-number-requires
+    slice-aggregate-or-number-2
+    or-number-requires-2
+    slice-aggregate-or-number-3
+    or-number-requires-3
+    slice-aggregate-or-number-4
+    or-number-requires-4
+    slice-aggregate-or-number-5
+    or-number-requires-5
+    slice-aggregate-or-number-6
+    or-number-requires-6
+    slice-aggregate-or-number-7
+    or-number-requires-7
     returns)
