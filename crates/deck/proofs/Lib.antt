@@ -1,2 +1,4 @@
 mod Ranges
 mod Whole
+pub mod Packing
+pub mod Stands

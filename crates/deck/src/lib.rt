@@ -1,10 +1,20 @@
 // Document 01, "The deck file" and "Numbers of refusal": what a line says, or why it is refused.
 ghost use mathlib.Core.Path.{_≡_};
-ghost use Prim.Native.Nat.{_≤_, _^_};
-ghost use Rattle.form.specs.Form.{form-of};
-ghost use Rattle.deck.specs.Judge.{told, judged, heads, line-judged, bounded, saves, counts-hold, frame-holds};
-ghost use Rattle.order.specs.Count.{cell-count, index-holds};
+ghost use mathlib.Core.Bool.{false};
+ghost use Prim.Native.Nat.{_<_, _≤_, _^_};
+ghost use lib.Dec.{eqb};
+ghost use Rattle.refusal.specs.Answer.{accepted};
+ghost use Rattle.order.specs.Count.{cell-count as count-of, index-holds};
+ghost use Rattle.packed.specs.Packed.{place-at, unpacked};
+ghost use Rattle.text.specs.Fields.{split, fields-from};
+ghost use Rattle.form.specs.Read.{read-fields};
+ghost use Rattle.form.specs.Form.{form-of, formed};
+ghost use Rattle.deck.specs.Judge.{order, told, judged, heads, line-judged, bounded, saves, counts-hold, frame-holds};
+ghost use Rattle.deck.specs.Packing.{Joins, Packs, Stands, Says};
+use form::Flag;
 use form::Form;
+use form::Kind;
+use form::Where;
 use order::Binary;
 use order::Constant;
 use order::Frame;
@@ -344,8 +354,8 @@ pub fn read_line(first: bool, line: &[u8]) -> Judged
 
 // ---- cells
 
-fn count_in(head: Head, p: Place) -> u64
-    ensures { λ r. ⌜ r ≡ cell-count head p ⌝ }
+pub fn cell_count(head: Head, p: Place) -> u64
+    ensures { λ r. ⌜ r ≡ count-of head p ⌝ }
 {
     match p {
         Place::Mem => head.states as u64 + head.obs as u64,
@@ -365,9 +375,9 @@ pub fn cell_within(o: Order, head: Head) -> bool
     ensures { λ r. ⌜ r ≡ index-holds head o ⌝ }
 {
     match o {
-        Order::Ifelse(_, _, _, i) => (i as u64) < count_in(head, Place::Stack),
-        Order::Load(_, p, i) => (i as u64) < count_in(head, p),
-        Order::Save(_, p, i) => (i as u64) < count_in(head, p),
+        Order::Ifelse(_, _, _, i) => (i as u64) < cell_count(head, Place::Stack),
+        Order::Load(_, p, i) => (i as u64) < cell_count(head, p),
+        Order::Save(_, p, i) => (i as u64) < cell_count(head, p),
         Order::Unary(_, _, _) => true,
         Order::Scratched(_, _, _, _) => true,
         Order::Binary(_, _, _, _) => true,
@@ -376,4 +386,186 @@ pub fn cell_within(o: Order, head: Head) -> bool
         Order::BranchIf(_, _, _) => true,
         Order::SetLabel(_) => true,
     }
+}
+
+// ---- orders as one number
+
+// No order: such an answer says nothing, and `read_line` judges the line.
+const NONE: u64 = 0x100000000;
+
+// The last field, a number below the bound.
+fn last_below(s: &[u8], a: usize, bound: u64) -> u64
+    ensures { λ r. ⌜ (r < 4294967296 → Packs 0 bound (fields-from (now (s .entry)) a) r) ⌝ }
+{
+    if s.len() < a {
+        return NONE;
+    }
+    let x = text::short_number(&s[a..]);
+    if x >= 1000 {
+        return NONE;
+    }
+    if x < bound { x } else { NONE }
+}
+
+// A register, or a kind, below what is packed behind it.
+fn packed(x: u64, rest: u64) -> u64
+    ensures { λ r. ⌜ Joins x rest r ⌝ }
+{
+    if x >= 32 {
+        return NONE;
+    }
+    if rest >= NONE {
+        return NONE;
+    }
+    x + 32 * rest
+}
+
+// One register, two or three, and the last field.
+fn two_below(s: &[u8], a: usize, bound: u64) -> u64
+    ensures { λ r. ⌜ (r < 4294967296 → Packs 1 bound (fields-from (now (s .entry)) a) r) ⌝ }
+{
+    let e = text::field_end(s, a);
+    if e >= s.len() {
+        return NONE;
+    }
+    let x = text::short_number(&s[a..e]);
+    packed(x, last_below(s, e + 1, bound))
+}
+
+fn three_below(s: &[u8], a: usize, bound: u64) -> u64
+    ensures { λ r. ⌜ (r < 4294967296 → Packs 2 bound (fields-from (now (s .entry)) a) r) ⌝ }
+{
+    let e = text::field_end(s, a);
+    if e >= s.len() {
+        return NONE;
+    }
+    let x = text::short_number(&s[a..e]);
+    packed(x, two_below(s, e + 1, bound))
+}
+
+fn four_below(s: &[u8], a: usize, bound: u64) -> u64
+    ensures { λ r. ⌜ (r < 4294967296 → Packs 3 bound (fields-from (now (s .entry)) a) r) ⌝ }
+{
+    let e = text::field_end(s, a);
+    if e >= s.len() {
+        return NONE;
+    }
+    let x = text::short_number(&s[a..e]);
+    packed(x, three_below(s, e + 1, bound))
+}
+
+fn place_number(p: Place) -> u64
+    ensures { λ r. ⌜ (place-at r ≡ p) × (r < 3) ⌝ }
+{
+    match p {
+        Place::Mem => 0,
+        Place::Stack => 1,
+        Place::Param => 2,
+    }
+}
+
+// `get` (22) or `put` (25): a register, a place and an index.
+fn cell_packed(k: u64, s: &[u8], a: usize) -> u64
+    requires { ⌜ (22 ≤ k) × (k < 28) ⌝ }
+    ensures { λ r. ⌜ (r < 4294967296 → Says k (fields-from (now (s .entry)) a) r) ⌝ }
+{
+    let e = text::field_end(s, a);
+    if e >= s.len() {
+        return NONE;
+    }
+    let x = text::short_number(&s[a..e]);
+    let b = e + 1;
+    let f = text::field_end(s, b);
+    if f >= s.len() {
+        return NONE;
+    }
+    let Where::Is(p) = form::read_place(&s[b..f]) else {
+        return NONE;
+    };
+    let y = last_below(s, f + 1, 4096);
+    packed(k + place_number(p), packed(x, y))
+}
+
+fn branch_number(other: bool) -> u64
+    ensures { λ r. ⌜ (eqb r 29 ≡ other) × (28 ≤ r) × (r < 30) ⌝ }
+{
+    if other { 29 } else { 28 }
+}
+
+// `branch`: a register, a label and 0 or 1.
+fn branch_packed(s: &[u8], a: usize) -> u64
+    ensures { λ r. ⌜ (r < 4294967296 → Stands Kind.BranchIf (fields-from (now (s .entry)) a) r) ⌝ }
+{
+    let e = text::field_end(s, a);
+    if e >= s.len() {
+        return NONE;
+    }
+    let x = text::short_number(&s[a..e]);
+    let b = e + 1;
+    let f = text::field_end(s, b);
+    if f >= s.len() {
+        return NONE;
+    }
+    let y = text::short_number(&s[b..f]);
+    if y >= 1000 {
+        return NONE;
+    }
+    let Flag::Is(other) = form::last_flag(s, f + 1) else {
+        return NONE;
+    };
+    packed(branch_number(other), packed(x, y))
+}
+
+// An order of kind k; its fields start at a.
+fn packed_kind(k: u64, s: &[u8], a: usize) -> u64
+    ensures { λ r. ⌜ (r < 4294967296 → Says k (fields-from (now (s .entry)) a) r) ⌝ }
+{
+    if k < 5 {
+        return packed(k, two_below(s, a, 32));
+    }
+    if k < 16 {
+        return packed(k, three_below(s, a, 32));
+    }
+    if k < 20 {
+        return packed(k, four_below(s, a, 32));
+    }
+    if k == 20 {
+        return packed(k, four_below(s, a, 4096));
+    }
+    if k == 21 {
+        return packed(k, two_below(s, a, 1008));
+    }
+    if k < 28 {
+        return cell_packed(k, s, a);
+    }
+    if k == 28 {
+        return branch_packed(s, a);
+    }
+    if k == 30 {
+        return packed(k, last_below(s, a, 1024));
+    }
+    NONE
+}
+
+// A line without its byte 10.
+fn quick_body(s: &[u8]) -> u64
+    ensures { λ r. ⌜ (r < 4294967296 → line-judged false (formed (read-fields (split (now (s .entry))))) ≡ accepted (order (unpacked r))) ⌝ }
+{
+    let e = text::field_end(s, 0);
+    packed_kind(form::kind_number(&s[..e]), s, e + 1)
+}
+
+// The order that a line says, as one number. An answer from NONE on says nothing: `read_line` judges such a line.
+pub fn quick(line: &[u8]) -> u64
+    ensures { λ r. ⌜ (r < 4294967296 → line-judged false (form-of (now (line .entry))) ≡ accepted (order (unpacked r))) ⌝ }
+{
+    let n = line.len();
+    if n == 0 {
+        return NONE;
+    }
+    let e = n - 1;
+    if line[e] != 10 {
+        return NONE;
+    }
+    quick_body(&line[..e])
 }

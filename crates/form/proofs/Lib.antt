@@ -2,4 +2,4 @@ mod Names
 pub mod Numbered
 mod Chosen
 pub mod Inverse
-mod Shapes
+pub mod Shapes

@@ -8,8 +8,8 @@ enum-known-o c = search needs
 cast-result : tie.Need-cast-result
 cast-result c = search needs
 
-count-in-requires : tie.Need-count-in-requires
-count-in-requires c κs = search needs
+cell-count-requires : tie.Need-cell-count-requires
+cell-count-requires c κs = search needs
 
 enum-known-o-2 : tie.Need-enum-known-o-2
 enum-known-o-2 c = search needs
@@ -17,8 +17,8 @@ enum-known-o-2 c = search needs
 cast-result-2 : tie.Need-cast-result-2
 cast-result-2 c = search needs
 
-count-in-requires-2 : tie.Need-count-in-requires-2
-count-in-requires-2 c κs = search needs
+cell-count-requires-2 : tie.Need-cell-count-requires-2
+cell-count-requires-2 c κs = search needs
 
 enum-known-o-3 : tie.Need-enum-known-o-3
 enum-known-o-3 c = search needs
@@ -26,8 +26,8 @@ enum-known-o-3 c = search needs
 cast-result-3 : tie.Need-cast-result-3
 cast-result-3 c = search needs
 
-count-in-requires-3 : tie.Need-count-in-requires-3
-count-in-requires-3 c κs = search needs
+cell-count-requires-3 : tie.Need-cell-count-requires-3
+cell-count-requires-3 c κs = search needs
 
 enum-told : tie.Need-enum-told
 enum-told c = search needs
@@ -51,13 +51,13 @@ enum-told-7 : tie.Need-enum-told-7
 enum-told-7 c = search needs
 
 returns : tie.Need-returns
-returns c = rw (c .before .before .o .given .1, c .count-in .ensures)
+returns c = rw (c .before .before .o .given .1, c .cell-count .ensures)
 
 returns-2 : tie.Need-returns-2
-returns-2 c = rw (c .before .before .o2 .given .1, c .count-in2 .ensures)
+returns-2 c = rw (c .before .before .o2 .given .1, c .cell-count2 .ensures)
 
 returns-3 : tie.Need-returns-3
-returns-3 c = rw (c .before .before .o3 .given .1, c .count-in3 .ensures)
+returns-3 c = rw (c .before .before .o3 .given .1, c .cell-count3 .ensures)
 
 returns-4 : tie.Need-returns-4
 returns-4 c = search needs
@@ -86,13 +86,13 @@ cell-within-spec =
     (tie.spec
     enum-known-o
     cast-result
-    count-in-requires
+    cell-count-requires
     enum-known-o-2
     cast-result-2
-    count-in-requires-2
+    cell-count-requires-2
     enum-known-o-3
     cast-result-3
-    count-in-requires-3
+    cell-count-requires-3
     enum-told
     enum-told-2
     enum-told-3

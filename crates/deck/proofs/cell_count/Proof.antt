@@ -1,6 +1,6 @@
 use borrow.Author.Needs.{needs}
-use Rattle.deck.proofs.count_in.Statement.{statement}
-use Rattle.deck.proofs.count_in.Tie as tie
+use Rattle.deck.proofs.cell_count.Statement.{statement}
+use Rattle.deck.proofs.cell_count.Tie as tie
 
 enum-told : tie.Need-enum-told
 enum-told c = search needs
@@ -44,8 +44,8 @@ returns-3 c = search needs
 returns-4 : tie.Need-returns-4
 returns-4 c = search needs
 
-pub count-in-spec : {M : Type 1} → statement M
-count-in-spec =
+pub cell-count-spec : {M : Type 1} → statement M
+cell-count-spec =
     tie.close
     (tie.spec
     enum-told

@@ -1,0 +1,72 @@
+-- Operands packed into one number, field by field. Assumes nothing.
+use mathlib.Core.Path.{_≡_, ap, _∙_}
+use mathlib.Core.Bool.{Bool}
+use mathlib.Core.Option.{Option, some, none, Option·map}
+use mathlib.Core.List.{List, [], _∷_}
+use Prim.Native.Nat.{ℕ, suc, _+_, _-_, _<_, _≤_}
+use native.Mathlib.Omega.{arith}
+use borrow.Author.Tests.{le-ltb}
+use lib.ListN.{length, take, drop, length-drop}
+use lib.Seq.{take-all}
+use Rattle.text.specs.Digits.{read-decimal, short-of}
+use Rattle.text.specs.Fields.{fields-from, end-from}
+use Rattle.text.proofs.Answers.{field-is, next-is}
+use Rattle.text.proofs.Short.{one-field, short-read}
+use Rattle.order.specs.declared.Place.{Place}
+use Rattle.form.specs.Line.{number, place, flag, Values, place-name}
+use Rattle.form.specs.Read.{first, all-places, read-values}
+use Rattle.form.specs.Form.{only, placed, flagged}
+use Rattle.form.specs.declared.Where.the-variants as Where
+use Rattle.form.specs.declared.Flag.the-variants as Flag
+use Rattle.deck.specs.Packing.{Joins, Packs}
+
+module _ (s : List ℕ) (a : ℕ) where
+  -- a field that ends at a comma, and the fields behind it
+  pub comma : (e : ℕ) → e ≡ end-from s a → a ≤ e → e < length s → fields-from s a ≡ take (e - a) (drop a s) ∷ fields-from s (e + 1)
+  comma e he hs hl = field-is s a (omega arith) ∙ rw (next-is s a (omega arith), ← he)
+
+  -- a number to the line's end
+  pub alone : (v : ℕ) → a ≤ length s → read-decimal (drop a s) ≡ some v → fields-from s a ≡ drop a s ∷ []
+  unfolding fields-from
+  alone v h e = rw (le-ltb (length s) a h) (one-field (drop a s) v e)
+
+  pub last-is : (bound x : ℕ) → a ≤ length s → x ≡ short-of (take (length s - a) (drop a s)) → x < 1000 → x < bound → Packs 0 bound (fields-from s a) x
+  unfolding read-values
+  last-is bound x h e g b =
+      let t : take (length s - a) (drop a s) ≡ drop a s = take-all (length s - a) (drop a s) (omega (arith, length-drop a s)) in
+      let d : read-decimal (drop a s) ≡ some x = rw (e, t) (short-read (drop a s) (rw (e, t) at g)) in
+      (rw (alone x h d, d), b)
+
+  pub register-before : (k bound e x y r : ℕ) → e ≡ end-from s a → a ≤ e → e < length s → x ≡ short-of (take (e - a) (drop a s)) → Joins x y r → (y < 4294967296 → Packs k bound (fields-from s (e + 1)) y) → r < 4294967296 → Packs (suc k) bound (fields-from s a) r
+  unfolding read-values
+  register-before k bound e x y r he hs hl ex f g h =
+      let q = f h in
+      let p = g (q .2) in
+      let d : read-decimal (take (e - a) (drop a s)) ≡ some x = rw ex (short-read (take (e - a) (drop a s)) (omega arith)) in
+      (rw (comma e he hs hl, d, q .0, q .1, p .0), rw (q .1) (p .1))
+
+-- ---- a cell, a branch
+
+place-of : (o : Option Place) (p : Place) → placed o ≡ Where.Is p → o ≡ some p
+place-of none p e = absurd (let z : _≡_ {A = ℕ} 0 1 = cc in omega arith)
+place-of (some w) p e = cc
+
+flag-of : (q : Option (Values (flag ∷ []))) (b : Bool) → flagged (Option·map (λ vs. vs .0) q) ≡ Flag.Is b → q ≡ some (b, tt)
+flag-of none b e = absurd (let z : _≡_ {A = ℕ} 0 1 = cc in omega arith)
+flag-of (some vs) b e = let z : vs .0 ≡ b = cc in ap (λ (c : Bool). some (c, tt)) z
+
+-- two fields that end at commas
+module _ (s : List ℕ) (a e f x : ℕ) (he : e ≡ end-from s a) (hs : a ≤ e) (hl : e < length s) (hf : f ≡ end-from s (e + 1)) (hb : e + 1 ≤ f) (hm : f < length s) (ex : x ≡ short-of (take (e - a) (drop a s))) (h : x < 32) where
+  first-is : read-decimal (take (e - a) (drop a s)) ≡ some x
+  first-is = rw ex (short-read (take (e - a) (drop a s)) (omega arith))
+
+  pub cell-is : (p : Place) (y : ℕ) → placed (first place-name (take (f - (e + 1)) (drop (e + 1) s)) all-places) ≡ Where.Is p → Packs 0 4096 (fields-from s (f + 1)) y → read-values (number ∷ place ∷ number ∷ []) (fields-from s a) ≡ some (x, (p, (y, tt)))
+  unfolding read-values
+  cell-is p y ep q = rw (comma s a e he hs hl, first-is, comma s (e + 1) f hf hb hm, place-of (first place-name (take (f - (e + 1)) (drop (e + 1) s)) all-places) p ep, q .0)
+
+  pub branch-is : (y : ℕ) (o : Bool) → y ≡ short-of (take (f - (e + 1)) (drop (e + 1) s)) → y < 1000 → flagged (only flag (fields-from s (f + 1))) ≡ Flag.Is o → read-values (number ∷ number ∷ flag ∷ []) (fields-from s a) ≡ some (x, (y, (o, tt)))
+  unfolding read-values
+  branch-is y o ey g eo =
+      let t = take (f - (e + 1)) (drop (e + 1) s) in
+      let d : read-decimal t ≡ some y = rw ey (short-read t (omega arith)) in
+      rw (comma s a e he hs hl, first-is, comma s (e + 1) f hf hb hm, d, flag-of (read-values (flag ∷ []) (fields-from s (f + 1))) o eo)

@@ -1,0 +1,46 @@
+use denote.Ref.{now}
+use native.Mathlib.Omega.{arith}
+use Rattle.deck.proofs.Packing.{last-is}
+use borrow.Author.Needs.{needs}
+use Rattle.deck.proofs.last_below.Statement.{statement}
+use Rattle.deck.proofs.last_below.Tie as tie
+
+returns : tie.Need-returns
+returns c = λ h. absurd (omega arith)
+
+sub-short-number : tie.Need-sub-short-number
+sub-short-number c = search needs
+
+part-short-number-start : tie.Need-part-short-number-start
+part-short-number-start c = search needs
+
+part-short-number-end : tie.Need-part-short-number-end
+part-short-number-end c = search needs
+
+short-number-requires : tie.Need-short-number-requires
+short-number-requires c κs = search needs
+
+returns-2 : tie.Need-returns-2
+returns-2 c = λ h. absurd (omega arith)
+
+returns-3 : tie.Need-returns-3
+returns-3 c =
+    let n = c .before .before in
+    let a = n .before .before .before .before .args in
+    λ h. last-is (now (a .s)) (a .a) (a .bound) (n .short-number .result) (n .before .before .if1 .left) (n .short-number .ensures) (c .before .if2 .left) (c .if3 .taken)
+
+returns-4 : tie.Need-returns-4
+returns-4 c = λ h. absurd (omega arith)
+
+pub last-below-spec : {M : Type 1} → statement M
+last-below-spec =
+    tie.close
+    (tie.spec
+    returns
+    sub-short-number
+    part-short-number-start
+    part-short-number-end
+    short-number-requires
+    returns-2
+    returns-3
+    returns-4)

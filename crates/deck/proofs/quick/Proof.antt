@@ -1,0 +1,43 @@
+use mathlib.Core.Path.{refl, sym}
+use lib.Seq.{length-take-le}
+use denote.Ref.{now}
+use native.Mathlib.Omega.{arith}
+use Rattle.form.proofs.Shapes.{newline}
+use borrow.Author.Needs.{needs}
+use Rattle.deck.proofs.quick.Statement.{statement}
+use Rattle.deck.proofs.quick.Tie as tie
+
+returns : tie.Need-returns
+returns c = λ h. absurd (omega arith)
+
+sub-e : tie.Need-sub-e
+sub-e c = search needs
+
+shared-slice-read-if2 : tie.Need-shared-slice-read-if2
+shared-slice-read-if2 c = search needs
+
+returns-2 : tie.Need-returns-2
+returns-2 c = λ h. absurd (omega arith)
+
+slice-aggregate-quick-body : tie.Need-slice-aggregate-quick-body
+slice-aggregate-quick-body c = sym (length-take-le _ _ (omega arith))
+
+quick-body-requires : tie.Need-quick-body-requires
+quick-body-requires c κs = search needs
+
+returns-3 : tie.Need-returns-3
+returns-3 c =
+    let a = c .before .before .before .before .before .before .args in
+    λ h. rw (← newline (now (a .line)) _ refl (c .before .before .if2 .left)) (c .quick-body .ensures h)
+
+pub quick-spec : {M : Type 1} → statement M
+quick-spec =
+    tie.close
+    (tie.spec
+    returns
+    sub-e
+    shared-slice-read-if2
+    returns-2
+    slice-aggregate-quick-body
+    quick-body-requires
+    returns-3)

@@ -1,0 +1,42 @@
+use mathlib.Core.Path.{sym}
+use lib.Seq.{length-take-le}
+use denote.Ref.{now}
+use native.Mathlib.Omega.{arith}
+use Rattle.deck.proofs.Stands.{line-says}
+use borrow.Author.Needs.{needs}
+use Rattle.deck.proofs.quick_body.Statement.{statement}
+use Rattle.deck.proofs.quick_body.Tie as tie
+
+field-end-requires : tie.Need-field-end-requires
+field-end-requires c κs = search needs
+
+slice-aggregate-kind-number : tie.Need-slice-aggregate-kind-number
+slice-aggregate-kind-number c = sym (length-take-le _ _ (c .before .field-end .ensures .2 (omega arith)))
+
+kind-number-requires : tie.Need-kind-number-requires
+kind-number-requires c κs = search needs
+
+add-packed-kind : tie.Need-add-packed-kind
+add-packed-kind c =
+    let h = c .before .before .field-end .ensures .2 (omega arith) in
+    record { fits = omega arith }
+
+packed-kind-requires : tie.Need-packed-kind-requires
+packed-kind-requires c κs = search needs
+
+returns : tie.Need-returns
+returns c =
+    let f = c .before .before .before in
+    let a = f .before .before .args in
+    line-says (now (a .s)) (f .field-end .result) (c .before .kind-number .result) (c .packed-kind .result) (f .field-end .ensures .0) (c .before .kind-number .ensures) (c .packed-kind .ensures)
+
+pub quick-body-spec : {M : Type 1} → statement M
+quick-body-spec =
+    tie.close
+    (tie.spec
+    field-end-requires
+    slice-aggregate-kind-number
+    kind-number-requires
+    add-packed-kind
+    packed-kind-requires
+    returns)
