@@ -89,7 +89,7 @@ answered e i t = by (registers-hold (operands i)) (valid i) refl refl
     by true false p q = by-told e (encode i) true false (t ∙ sym (bad-value i p q))
     by false c p q = by-told e (encode i) false c (t ∙ sym (bad-register i p))
 
-word : (i : Instr) → Valid i → answer-of i ≡ Word (encode i)
+pub word : (i : Instr) → Valid i → answer-of i ≡ Word (encode i)
 word i v = rw (Valid-registers i v, Valid-valid i v)
 
 -- a plan that holds the words ws, the first of its twelve

@@ -40,7 +40,7 @@ fn is_word(e: Encoded) -> bool
 }
 
 // The word, 0 where there is none.
-fn word(e: Encoded) -> u32
+pub fn word(e: Encoded) -> u32
     ensures { λ r. ⌜ r ≡ word-of e ⌝ }
 {
     match e {

@@ -1,6 +1,6 @@
 -- An order refused, an order done; and the numbers of those that a function places. Assumes nothing.
 use mathlib.Core.Path.{_≡_, refl, sym, ap, _∙_}
-use mathlib.Core.Bool.{Bool, false, or-false}
+use mathlib.Core.Bool.{Bool, true, false, or-false}
 use mathlib.Core.List.{List, [], _∷_, map}
 use Prim.Native.Nat.{ℕ, zero, suc, _+_, _*_, _/_, _%_, _^_, _<_, _≤_, min}
 use native.Mathlib.Nat.{zero-add}
@@ -12,8 +12,8 @@ use Rattle.order.specs.declared.Constant.{Constant}
 use Rattle.refusal.specs.Answer.{accepted, refused}
 use Rattle.assembler.specs.Item.{Item, raw, label}
 use Rattle.assembler.specs.Label.{is-set, with-place}
-use Rattle.assembler.specs.Bytes.{written}
-use Rattle.assembler.specs.State.{State, Outcome, state, told, outcome}
+use Rattle.assembler.specs.Bytes.{room, written}
+use Rattle.assembler.specs.State.{State, Outcome, state, told, outcome, sound, fits}
 use Rattle.assembler.specs.Put.{words, jumps, labels, among, twice, with-label, place, placed, verdict, put-number, settled, put}
 use Rattle.assembler.specs.Constant.{constant-bits, constant-items, constant-fault}
 use Rattle.assembler.specs.Plan.{label-fault, tail-items, plan-words, plan-items}
@@ -21,7 +21,8 @@ use Rattle.assembler.specs.declared.Asm.{Asm}
 use Rattle.assembler.specs.declared.Done.{Done}
 use Rattle.assembler.specs.declared.Plan.{Plan}
 use Rattle.assembler.specs.declared.Tail.{Tail}
-use Rattle.assembler.proofs.Items.{placed-append, placed-raw, words-append, jumps-append, labels-append, words-raw, jumps-raw, labels-raw, words-tail, jumps-tail, labels-tail}
+use Rattle.assembler.proofs.Checks.{fits-last, v-good}
+use Rattle.assembler.proofs.Items.{with-words, placed-append, placed-raw, words-append, jumps-append, labels-append, words-raw, jumps-raw, labels-raw, words-tail, jumps-tail, labels-tail}
 
 pub settled-no : (k : ℕ) (s t : State) → (k ≡ 0 → ⊥) → settled k s t ≡ record { answer = refused k 0; state = s }
 unfolding settled
@@ -70,6 +71,15 @@ module _ (k : ℕ) (c : Constant) (s : State) where
       → state (record { len = s .asm .len + 8; jumps = s .asm .jumps; closed = s .asm .closed }) ls (s .jumps) b ≡ placed 0 (constant-items k c) s
   unfolding placed place with-label
   constant-placed ls b e g = rw (e, g) (sym (placed-raw 0 (constant-bits c % 2 ^ 32 ∷ constant-bits c / 2 ^ 32 ∷ []) (place 0 (label (1024 + k)) s)))
+
+-- words alone, where the record is open and sound and they have room
+pub put-raw : (tag : ℕ) (ws : List ℕ) (s : State) → s .asm .closed ≡ false → sound (length (s .buf)) (s .asm) ≡ true → s .asm .jumps ≤ 4096 → s .asm .len + 4 * length ws ≤ room (length (s .buf))
+    → put tag 0 (map raw ws) s ≡ record { answer = accepted tt; state = with-words ws s }
+unfolding twice
+put-raw tag ws s e g j h =
+    let f : fits (length (s .buf)) (s .asm) (length ws) 0 ≡ true = sym (fits-last (length (s .buf)) (s .asm) (length ws) 0 (room (length (s .buf))) refl h) ∙ le-leb (s .asm .jumps + 0) 4096 (omega arith) in
+    let n : put-number 0 (map raw ws) s ≡ 0 = rw (words-raw, jumps-raw, labels-raw) (sym (v-good 0 false (length ws) 0 (length (s .buf)) (s .asm) e (λ z. omega arith) (λ z. omega arith) g refl refl f)) in
+    sym (put-done tag 0 (map raw ws) s (with-words ws s) n (sym (placed-raw tag ws s)))
 
 pub plan-number : (f : ℕ) (p : Plan) (t : Tail) (s : State) → length (p .w) ≡ 12
     → put-number f (plan-items p t) s ≡ verdict f false (min (p .n) 12 + length (tail-items t)) (length (tail-items t)) (length (s .buf)) (s .asm)

@@ -1,5 +1,5 @@
 -- Words written into a buffer. Assumes nothing.
-use mathlib.Core.Path.{_≡_, refl, ap, _∙_}
+use mathlib.Core.Path.{_≡_, refl, sym, ap, _∙_}
 use mathlib.Core.List.{List, [], _∷_, _++_, append-assoc, flatMap}
 use Prim.Native.Nat.{ℕ, suc, _+_, _*_, _<_, _≤_}
 use native.Mathlib.Nat.{add-zero}
@@ -39,6 +39,11 @@ written-append b at xs ys =
 
 pub written-cons : (b : List ℕ) (at w : ℕ) (ws : List ℕ) → written b at (w ∷ ws) ≡ written (written b at (w ∷ [])) (at + 4) ws
 written-cons b at w ws = written-append b at (w ∷ []) ws
+
+-- words, and words behind them
+pub written-then : (b : List ℕ) (at : ℕ) (xs ys : List ℕ) {c d : List ℕ} → c ≡ written b at xs → d ≡ written c (at + 4 * length xs) ys → d ≡ written b at (xs ++ ys)
+written-then b at xs ys p q =
+    q ∙ ap (λ (l : List ℕ). written l (at + 4 * length xs) ys) p ∙ sym (written-append b at xs ys)
 
 pub written-none : (b : List ℕ) (at : ℕ) → written b at [] ≡ b
 unfolding written bytes flatMap

@@ -196,6 +196,30 @@ pub fn write_word(buf: &mut [u8], at: usize, w: u32)
     put_word(buf, at, w);
 }
 
+fn put_four(buf: &mut [u8], at: usize, a: u32, b: u32, c: u32, d: u32)
+    requires { ⌜ at + 16 ≤ length (now buf) ⌝ }
+    ensures { λ _. ⌜ now (buf .exit) ≡ written (now (buf .entry)) at (a ∷ b ∷ c ∷ d ∷ []) ⌝ }
+{
+    put_word(buf, at, a);
+    put_word(buf, at + 4, b);
+    put_word(buf, at + 8, c);
+    put_word(buf, at + 12, d);
+}
+
+// Four words from `at` on, if the buffer goes so far.
+pub fn write_four(buf: &mut [u8], at: usize, a: u32, b: u32, c: u32, d: u32)
+    ensures { λ _. ⌜ now (buf .exit) ≡ cond (leb (at + 16) (length (now (buf .entry)))) (written (now (buf .entry)) at (a ∷ b ∷ c ∷ d ∷ [])) (now (buf .entry)) ⌝ }
+{
+    let n = buf.len();
+    if n < 16 {
+        return;
+    }
+    if n - 16 < at {
+        return;
+    }
+    put_four(buf, at, a, b, c, d);
+}
+
 // The low word first.
 fn put_quad(buf: &mut [u8], at: usize, q: u64)
     requires { ⌜ at + 8 ≤ length (now buf) ⌝ }

@@ -9,3 +9,4 @@ pub mod Laws
 pub mod Whole
 pub mod Shorts
 pub mod Examples
+pub mod Wrote

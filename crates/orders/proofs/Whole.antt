@@ -180,8 +180,11 @@ straight-code (Save s p i) h = refl
 straight-code (BranchIf c l e) h = absurd h
 straight-code (SetLabel l) h = absurd h
 
+pub alone : (o p : Order) → o ≡ p → Straight p → code o ≡ map instr (instrs-of (code o))
+alone o p e h = rw e (straight-code p h ∙ ap (map instr) (instrs-right p))
+
 pub no-tail : (o p : Order) → o ≡ p → Straight p → code o ≡ map instr (instrs-of (code o)) ++ []
-no-tail o p e h = rw (e, append-nil) (straight-code p h ∙ ap (map instr) (instrs-right p))
+no-tail o p e h = rw append-nil (alone o p e h)
 
 module _ (places : ℕ → ℕ) where
   instrs-valid : (here : ℕ) (is : List Item) → Valids (resolve places here is) → AllValid (instrs-of is)
@@ -212,11 +215,18 @@ light (Save s p i) = omega arith
 light (BranchIf c l e) = omega arith
 light (SetLabel l) = omega arith
 
-order-built : (o : Order) → fault o ≡ 0 → Built (plan-of (instrs-of (code o))) (instrs-of (code o))
-order-built o h =
+pub order-short : (o : Order) → length (instrs-of (code o)) ≤ 11
+order-short o =
     let p : ℕ → ℕ = λ l. 0 in
-    let n : length (instrs-of (code o)) ≤ 12 = omega (arith, instrs-length p 0 (code o), code-length p 0 o, light o) in
-    built (instrs-of (code o)) n (instrs-valid p 0 (code o) (code-valid p 0 o h))
+    omega (arith, instrs-length p 0 (code o), code-length p 0 o, light o)
+
+pub order-valid : (o : Order) → fault o ≡ 0 → AllValid (instrs-of (code o))
+order-valid o h =
+    let p : ℕ → ℕ = λ l. 0 in
+    instrs-valid p 0 (code o) (code-valid p 0 o h)
+
+order-built : (o : Order) → fault o ≡ 0 → Built (plan-of (instrs-of (code o))) (instrs-of (code o))
+order-built o h = built (instrs-of (code o)) (omega (arith, order-short o)) (order-valid o h)
 
 -- ---- an order that is not refused
 

@@ -3,3 +3,4 @@ pub mod Fault
 pub mod Does
 pub mod Parts
 pub mod Emitted
+pub mod Wrote

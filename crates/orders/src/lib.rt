@@ -1,19 +1,25 @@
 // mod.rs, orders: the words of each order, all or nothing. Registers are physical; t0, t1, t2 are x5, x6, x7.
 ghost use mathlib.Core.Path.{_≡_};
-ghost use mathlib.Core.Bool.{cond};
-ghost use mathlib.Core.List.{[], _∷_, _++_};
-ghost use Prim.Native.Nat.{_*_, _≤_};
+ghost use mathlib.Core.Bool.{true, false, cond};
+ghost use mathlib.Core.List.{List, [], _∷_, _++_};
+ghost use Prim.Native.Nat.{ℕ, _+_, _*_, _≤_, _<_};
 ghost use lib.Dec.{leb};
 ghost use lib.IntN.{pos};
-ghost use Rattle.isa.specs.Instr.{M, R4, B, FMV-X-D};
-ghost use Rattle.assembler.specs.State.{state, outcome};
+ghost use lib.ListN.{length};
+ghost use Rattle.isa.specs.Immediate.{hi, lo};
+ghost use Rattle.isa.specs.Instr.{R, M, R4, I, B, U, ADD, FMV-X-D, FMV-D-X, ADDI, LUI};
+ghost use Rattle.refusal.specs.Answer.{accepted};
+ghost use Rattle.packed.specs.Packed.{unpacked};
+ghost use Rattle.assembler.specs.Bytes.{written};
+ghost use Rattle.assembler.specs.State.{state, outcome, sound};
 ghost use Rattle.assembler.specs.Plan.{plan-fault};
-ghost use Rattle.accesses.specs.Code.{load-int-code};
+ghost use Rattle.accesses.specs.Code.{load-float-code, save-float-code, load-int-code};
 ghost use Rattle.accesses.specs.Plans.{answer-of, plan-of};
 ghost use Rattle.orders.specs.Code.{code, base, unary-code, scratched-code, binary-code, fused-op, choose-code, skip};
 ghost use Rattle.orders.specs.Fault.{fault as fault-of, registers-fit};
 ghost use Rattle.orders.specs.Emitted.{emitted};
 ghost use Rattle.orders.specs.Parts.{instrs-of, joined, rest-fault, short-of};
+ghost use Rattle.orders.specs.Wrote.{word, Wrote, Wrote-order};
 use assembler::Asm;
 use assembler::Done;
 use assembler::Kind;
@@ -396,6 +402,337 @@ pub fn emit(
         Rest::Jumps(t) => assembler::place(p, t, tag, buf, labels, jumps, asm),
         Rest::Label(l) => assembler::set_label(l, buf, labels, jumps, asm),
     }
+}
+
+// ---- packed orders: the words written at once, from numbers alone
+
+fn put_one(buf: &mut [u8], len: usize, a: u32) -> usize
+    requires { ⌜ len + 4 ≤ length (now buf) ⌝ }
+    ensures { λ r. ⌜ (now (buf .exit) ≡ written (now (buf .entry)) len (a ∷ [])) × (r ≡ len + 4) ⌝ }
+{
+    assembler::write_word(buf, len, a);
+    len + 4
+}
+
+fn put_two(buf: &mut [u8], len: usize, a: u32, b: u32) -> usize
+    requires { ⌜ len + 8 ≤ length (now buf) ⌝ }
+    ensures { λ r. ⌜ (now (buf .exit) ≡ written (now (buf .entry)) len (a ∷ b ∷ [])) × (r ≡ len + 8) ⌝ }
+{
+    let next = put_one(buf, len, a);
+    put_one(buf, next, b)
+}
+
+fn put_three(buf: &mut [u8], len: usize, a: u32, b: u32, c: u32) -> usize
+    requires { ⌜ len + 12 ≤ length (now buf) ⌝ }
+    ensures { λ r. ⌜ (now (buf .exit) ≡ written (now (buf .entry)) len (a ∷ b ∷ c ∷ [])) × (r ≡ len + 12) ⌝ }
+{
+    let next = put_two(buf, len, a, b);
+    put_one(buf, next, c)
+}
+
+fn put_four(buf: &mut [u8], len: usize, a: u32, b: u32, c: u32, d: u32) -> usize
+    requires { ⌜ len + 16 ≤ length (now buf) ⌝ }
+    ensures { λ r. ⌜ (now (buf .exit) ≡ written (now (buf .entry)) len (a ∷ b ∷ c ∷ d ∷ [])) × (r ≡ len + 16) ⌝ }
+{
+    assembler::write_four(buf, len, a, b, c, d);
+    len + 16
+}
+
+fn put_five(buf: &mut [u8], len: usize, a: u32, b: u32, c: u32, d: u32, e: u32) -> usize
+    requires { ⌜ len + 20 ≤ length (now buf) ⌝ }
+    ensures { λ r. ⌜ (now (buf .exit) ≡ written (now (buf .entry)) len (a ∷ b ∷ c ∷ d ∷ e ∷ [])) × (r ≡ len + 20) ⌝ }
+{
+    let next = put_four(buf, len, a, b, c, d);
+    put_one(buf, next, e)
+}
+
+fn write_unary(k: Unary, d: u32, s: u32, buf: &mut [u8], len: usize) -> usize
+    requires { ⌜ len + 44 ≤ length (now buf) ⌝ }
+    ensures { λ r. ⌜ Wrote (unary-code k d s) (now (buf .entry)) len (now (buf .exit)) r ⌝ }
+{
+    match k {
+        Unary::Fmov => {
+            if d == s {
+                return len;
+            }
+            put_one(buf, len, accesses::word(encoder::fmv_d(d, s)))
+        }
+        Unary::Recip => put_three(
+            buf,
+            len,
+            accesses::word(encoder::addi(T0, 0, 1)),
+            accesses::word(encoder::fcvt_d_w(FA0, T0)),
+            accesses::word(encoder::fdiv_d(d, FA0, s)),
+        ),
+        Unary::Round => put_two(
+            buf,
+            len,
+            accesses::word(encoder::fcvt_l_d(T0, s, 0)),
+            accesses::word(encoder::fcvt_d_l(d, T0)),
+        ),
+        Unary::Floor => put_two(
+            buf,
+            len,
+            accesses::word(encoder::fcvt_l_d(T0, s, 2)),
+            accesses::word(encoder::fcvt_d_l(d, T0)),
+        ),
+        Unary::Not => put_three(
+            buf,
+            len,
+            accesses::word(encoder::fmv_x_d(T0, s)),
+            accesses::word(encoder::not(T0, T0)),
+            accesses::word(encoder::fmv_d_x(d, T0)),
+        ),
+    }
+}
+
+fn write_scratched(k: Scratched, d: u32, s: u32, t: u32, buf: &mut [u8], len: usize) -> usize
+    requires { ⌜ len + 44 ≤ length (now buf) ⌝ }
+    ensures { λ r. ⌜ Wrote (scratched-code k d s t) (now (buf .entry)) len (now (buf .exit)) r ⌝ }
+{
+    match k {
+        Scratched::Sign => put_five(
+            buf,
+            len,
+            accesses::word(encoder::fmv_d_x(t, 0)),
+            accesses::word(encoder::flt_d(T0, t, s)),
+            accesses::word(encoder::flt_d(T1, s, t)),
+            accesses::word(encoder::sub(T0, T0, T1)),
+            accesses::word(encoder::fcvt_d_w(d, T0)),
+        ),
+        Scratched::Frac => put_three(
+            buf,
+            len,
+            accesses::word(encoder::fcvt_l_d(T0, s, 2)),
+            accesses::word(encoder::fcvt_d_l(t, T0)),
+            accesses::word(encoder::fsub_d(d, s, t)),
+        ),
+    }
+}
+
+// The bits of a and b through t0 and t1, and `op` on them.
+fn write_bits(op: u32, d: u32, a: u32, b: u32, buf: &mut [u8], len: usize) -> usize
+    requires { ⌜ len + 44 ≤ length (now buf) ⌝ }
+    ensures { λ r. ⌜ (now (buf .exit) ≡ written (now (buf .entry)) len (word (M FMV-X-D 5 a) ∷ word (M FMV-X-D 6 b) ∷ op ∷ word (M FMV-D-X d 5) ∷ [])) × (r ≡ len + 16) ⌝ }
+{
+    put_four(
+        buf,
+        len,
+        accesses::word(encoder::fmv_x_d(T0, a)),
+        accesses::word(encoder::fmv_x_d(T1, b)),
+        op,
+        accesses::word(encoder::fmv_d_x(d, T0)),
+    )
+}
+
+fn write_xor(d: u32, a: u32, b: u32, buf: &mut [u8], len: usize) -> usize
+    requires { ⌜ len + 44 ≤ length (now buf) ⌝ }
+    ensures { λ r. ⌜ Wrote (binary-code Binary.Xor d a b) (now (buf .entry)) len (now (buf .exit)) r ⌝ }
+{
+    if a == b {
+        return put_one(buf, len, accesses::word(encoder::fmv_d_x(d, 0)));
+    }
+    write_bits(accesses::word(encoder::xor(T0, T0, T1)), d, a, b, buf, len)
+}
+
+fn write_binary(k: Binary, d: u32, a: u32, b: u32, buf: &mut [u8], len: usize) -> usize
+    requires { ⌜ len + 44 ≤ length (now buf) ⌝ }
+    ensures { λ r. ⌜ Wrote (binary-code k d a b) (now (buf .entry)) len (now (buf .exit)) r ⌝ }
+{
+    match k {
+        Binary::Minus => put_one(buf, len, accesses::word(encoder::fsub_d(d, a, b))),
+        Binary::Times => put_one(buf, len, accesses::word(encoder::fmul_d(d, a, b))),
+        Binary::Divide => put_one(buf, len, accesses::word(encoder::fdiv_d(d, a, b))),
+        Binary::Gt => put_three(
+            buf,
+            len,
+            accesses::word(encoder::fgt_d(T0, a, b)),
+            accesses::word(encoder::neg(T0, T0)),
+            accesses::word(encoder::fmv_d_x(d, T0)),
+        ),
+        Binary::Neq => put_four(
+            buf,
+            len,
+            accesses::word(encoder::feq_d(T0, a, b)),
+            accesses::word(encoder::neg(T0, T0)),
+            accesses::word(encoder::not(T0, T0)),
+            accesses::word(encoder::fmv_d_x(d, T0)),
+        ),
+        Binary::And => write_bits(accesses::word(encoder::and(T0, T0, T1)), d, a, b, buf, len),
+        Binary::Andnot => put_five(
+            buf,
+            len,
+            accesses::word(encoder::fmv_x_d(T0, a)),
+            accesses::word(encoder::not(T0, T0)),
+            accesses::word(encoder::fmv_x_d(T1, b)),
+            accesses::word(encoder::and(T0, T0, T1)),
+            accesses::word(encoder::fmv_d_x(d, T0)),
+        ),
+        Binary::Or => write_bits(accesses::word(encoder::or(T0, T0, T1)), d, a, b, buf, len),
+        Binary::Xor => write_xor(d, a, b, buf, len),
+    }
+}
+
+fn write_fused(k: Fused, d: u32, a: u32, b: u32, c: u32, buf: &mut [u8], len: usize) -> usize
+    requires { ⌜ len + 44 ≤ length (now buf) ⌝ }
+    ensures { λ r. ⌜ Wrote (R4 (fused-op k) d a b c 7 ∷ []) (now (buf .entry)) len (now (buf .exit)) r ⌝ }
+{
+    put_one(buf, len, accesses::word(fused(k, d, a, b, c)))
+}
+
+// The access `last` through t0 = base + n.
+fn write_far(last: u32, base: u32, n: u32, buf: &mut [u8], len: usize) -> usize
+    requires { ⌜ len + 44 ≤ length (now buf) ⌝ }
+    ensures { λ r. ⌜ (now (buf .exit) ≡ written (now (buf .entry)) len (word (U LUI 5 (pos (hi n))) ∷ word (I ADDI 5 5 (lo n)) ∷ word (R ADD 5 5 base) ∷ last ∷ [])) × (r ≡ len + 16) ⌝ }
+{
+    put_four(
+        buf,
+        len,
+        accesses::word(encoder::lui(T0, encoder::hi(n))),
+        accesses::word(encoder::addi(T0, T0, encoder::lo(n))),
+        accesses::word(encoder::add(T0, T0, base)),
+        last,
+    )
+}
+
+fn write_load(d: u32, base: u32, n: u32, buf: &mut [u8], len: usize) -> usize
+    requires { ⌜ len + 44 ≤ length (now buf) ⌝ }
+    ensures { λ r. ⌜ Wrote (load-float-code d base n) (now (buf .entry)) len (now (buf .exit)) r ⌝ }
+{
+    if n < 2048 {
+        return put_one(buf, len, accesses::word(encoder::fld(d, base, n as i32)));
+    }
+    write_far(accesses::word(encoder::fld(d, T0, 0)), base, n, buf, len)
+}
+
+fn write_save(s: u32, base: u32, n: u32, buf: &mut [u8], len: usize) -> usize
+    requires { ⌜ len + 44 ≤ length (now buf) ⌝ }
+    ensures { λ r. ⌜ Wrote (save-float-code s base n) (now (buf .entry)) len (now (buf .exit)) r ⌝ }
+{
+    if n < 2048 {
+        return put_one(buf, len, accesses::word(encoder::fsd(s, base, n as i32)));
+    }
+    write_far(accesses::word(encoder::fsd(s, T0, 0)), base, n, buf, len)
+}
+
+// t0 = the stack's cell at n
+fn write_cell(n: u32, buf: &mut [u8], len: usize) -> usize
+    requires { ⌜ len + 44 ≤ length (now buf) ⌝ }
+    ensures { λ r. ⌜ Wrote (load-int-code 5 21 n) (now (buf .entry)) len (now (buf .exit)) r ⌝ }
+{
+    if n < 2048 {
+        return put_one(buf, len, accesses::word(encoder::ld(T0, STACK, n as i32)));
+    }
+    write_far(accesses::word(encoder::ld(T0, T0, 0)), STACK, n, buf, len)
+}
+
+// t0 holds the cell's bits.
+fn write_choose(d: u32, a: u32, b: u32, buf: &mut [u8], len: usize) -> usize
+    requires { ⌜ len + 28 ≤ length (now buf) ⌝ }
+    ensures { λ r. ⌜ Wrote (choose-code d a b) (now (buf .entry)) len (now (buf .exit)) r ⌝ }
+{
+    let next = put_four(
+        buf,
+        len,
+        accesses::word(encoder::fmv_x_d(T1, a)),
+        accesses::word(encoder::fmv_x_d(T2, b)),
+        accesses::word(encoder::and(T1, T1, T0)),
+        accesses::word(encoder::not(T0, T0)),
+    );
+    put_three(
+        buf,
+        next,
+        accesses::word(encoder::and(T2, T2, T0)),
+        accesses::word(encoder::or(T0, T1, T2)),
+        accesses::word(encoder::fmv_d_x(d, T0)),
+    )
+}
+
+fn write_ifelse(d: u32, a: u32, b: u32, n: u32, buf: &mut [u8], len: usize) -> usize
+    requires { ⌜ len + 44 ≤ length (now buf) ⌝ }
+    ensures { λ r. ⌜ Wrote (load-int-code 5 21 n ++ choose-code d a b) (now (buf .entry)) len (now (buf .exit)) r ⌝ }
+{
+    let next = write_cell(n, buf, len);
+    write_choose(d, a, b, buf, next)
+}
+
+// No length: the order goes the general way.
+const OTHER: usize = 0x100000000;
+
+// Orders of instructions alone; for the others OTHER, and nothing is written.
+fn write_order(q: u64, buf: &mut [u8], len: usize) -> usize
+    requires { ⌜ (len + 44 ≤ length (now buf)) × (len ≤ 65492) ⌝ }
+    ensures { λ r. ⌜ (r ≤ 65536 → Wrote-order (unpacked q) (now (buf .entry)) len (now (buf .exit)) r) × (65536 < r → now (buf .exit) ≡ now (buf .entry)) ⌝ }
+{
+    let k = q % 32;
+    let x = q / 32;
+    let y = x / 32;
+    let z = y / 32;
+    let d = packed::register(x);
+    let a = packed::register(y);
+    let b = packed::register(z);
+    if k < 5 {
+        return write_unary(packed::unary_at(k), d, a, buf, len);
+    }
+    if k < 7 {
+        return write_scratched(packed::scratched_at(k), d, a, b, buf, len);
+    }
+    if k < 16 {
+        return write_binary(packed::binary_at(k), d, a, b, buf, len);
+    }
+    if k < 20 {
+        return write_fused(
+            packed::fused_at(k),
+            d,
+            a,
+            b,
+            packed::register(z / 32),
+            buf,
+            len,
+        );
+    }
+    if k == 20 {
+        return write_ifelse(d, a, b, 8 * packed::index(z / 32), buf, len);
+    }
+    if k == 21 {
+        return OTHER;
+    }
+    let n = 8 * packed::index(y);
+    if k < 25 {
+        return write_load(d, base_of(packed::place_at(k - 22)), n, buf, len);
+    }
+    if k < 28 {
+        return write_save(d, base_of(packed::place_at(k - 25)), n, buf, len);
+    }
+    OTHER
+}
+
+// Whether the longest order, of eleven words, has room.
+fn has_room(n: usize, asm: Asm) -> bool
+    ensures { λ r. ⌜ (r ≡ true → (asm .closed ≡ false) × (sound n asm ≡ true) × (asm .jumps ≤ 4096) × (asm .len + 44 ≤ n) × (asm .len ≤ 65492)) ⌝ }
+{
+    if asm.closed {
+        return false;
+    }
+    if assembler::is_sound(n, asm) {
+        let len = asm.len;
+        if n - len < 44 {
+            return false;
+        }
+        return len <= 65492;
+    }
+    false
+}
+
+// The order that q stands for, placed, where it is one of instructions alone and surely has room: the new length.
+// Above 65,536 nothing is said of the order, and nothing changes.
+pub fn write_packed(q: u64, buf: &mut [u8], asm: Asm) -> usize
+    ensures { λ r. ⌜ (r ≤ 65536 → (tag : ℕ) (ls js : List ℕ) → emitted tag (unpacked q) (state asm ls js (now (buf .entry))) ≡ record { answer = accepted tt; state = state (record { len = r; jumps = asm .jumps; closed = asm .closed }) ls js (now (buf .exit)) }) × (65536 < r → now (buf .exit) ≡ now (buf .entry)) ⌝ }
+{
+    if has_room(buf.len(), asm) {
+        return write_order(q, buf, asm.len);
+    }
+    OTHER
 }
 
 // ---- each order by its name; those that leave jumps take a tag

@@ -1,0 +1,55 @@
+use mathlib.Core.List.{[], _∷_}
+use denote.Ref.{now}
+use Rattle.orders.proofs.Wrote.{word-is}
+use mathlib.Core.Path.{_≡_}
+use Rattle.isa.specs.Instr.{M, FMV-X-D, FMV-D-X}
+use Rattle.orders.specs.Wrote.{word}
+use borrow.Author.Needs.{needs}
+use Rattle.orders.proofs.write_bits.Statement.{statement}
+use Rattle.orders.proofs.write_bits.Tie as tie
+
+fmv-x-d-requires : tie.Need-fmv-x-d-requires
+fmv-x-d-requires c κs = search needs
+
+word-requires : tie.Need-word-requires
+word-requires c κs = search needs
+
+fmv-x-d-requires-2 : tie.Need-fmv-x-d-requires-2
+fmv-x-d-requires-2 c κs = search needs
+
+word-requires-2 : tie.Need-word-requires-2
+word-requires-2 c κs = search needs
+
+fmv-d-x-requires : tie.Need-fmv-d-x-requires
+fmv-d-x-requires c κs = search needs
+
+word-requires-3 : tie.Need-word-requires-3
+word-requires-3 c κs = search needs
+
+put-four-requires : tie.Need-put-four-requires
+put-four-requires c κs = search needs
+
+same-length : tie.Need-same-length
+same-length c = search needs
+
+returns : tie.Need-returns
+returns c =
+    let a = c .before .before .before .before .before .before .before .before .before .before .before .args in
+    let e1 : c .before .before .before .before .before .before .before .word .result ≡ word (M FMV-X-D 5 (a .a)) = word-is (c .before .before .before .before .before .before .before .before .fmv-x-d .result) _ (c .before .before .before .before .before .before .before .word .ensures) (c .before .before .before .before .before .before .before .before .fmv-x-d .ensures) in
+    let e2 : c .before .before .before .before .before .word2 .result ≡ word (M FMV-X-D 6 (a .b)) = word-is (c .before .before .before .before .before .before .fmv-x-d2 .result) _ (c .before .before .before .before .before .word2 .ensures) (c .before .before .before .before .before .before .fmv-x-d2 .ensures) in
+    let e3 : c .before .before .before .word3 .result ≡ word (M FMV-D-X (a .d) 5) = word-is (c .before .before .before .before .fmv-d-x .result) _ (c .before .before .before .word3 .ensures) (c .before .before .before .before .fmv-d-x .ensures) in
+    rw (e1, e2, e3) at (c .before .before .put-four .ensures)
+
+pub write-bits-spec : {M : Type 1} → statement M
+write-bits-spec =
+    tie.close
+    (tie.spec
+    fmv-x-d-requires
+    word-requires
+    fmv-x-d-requires-2
+    word-requires-2
+    fmv-d-x-requires
+    word-requires-3
+    put-four-requires
+    same-length
+    returns)
