@@ -10,16 +10,14 @@ use order::Order;
 use order::Place;
 use order::Scratched;
 use order::Unary;
+use rows::Hex;
+use rows::Outcome;
+use text::Word;
 
 // Bytes in front of a row's line, and room for the line.
 const FRONT: usize = 48;
 
 const ROOM: usize = 80;
-
-// Only the first mismatches are printed.
-const SHOWN: u64 = 10;
-
-const STDOUT: i32 = 1;
 
 // An answer as a row's numbers.
 struct Answer {
@@ -30,32 +28,6 @@ struct Answer {
     d: u32,
     e: u32,
     last: u64,
-}
-
-// Rows so far.
-pub struct Tally {
-    pub rows: u64,
-    pub accepted: u64,
-    pub refused: u64,
-    pub cells: u64,
-    pub mismatches: u64,
-    pub ended: bool,
-}
-
-pub fn start() -> Tally {
-    Tally {
-        rows: 0,
-        accepted: 0,
-        refused: 0,
-        cells: 0,
-        mismatches: 0,
-        ended: false,
-    }
-}
-
-// One more, up to the greatest number.
-fn more(n: u64) -> u64 {
-    if n < u64::MAX { n + 1 } else { n }
 }
 
 fn answer_of(tag: u32, a: u32, b: u32, c: u32, d: u32, e: u32, last: u64) -> Answer {
@@ -145,13 +117,17 @@ fn head(h: Head) -> Answer {
 }
 
 // A NaN, which differs from itself, has no bits of its own; no line gives one.
+fn bits(x: f64) -> u64 {
+    if x == x {
+        f64::to_bits(x)
+    } else {
+        0x7ff8000000000000
+    }
+}
+
 fn constant(c: Constant) -> Answer {
     match c {
-        Constant::Float(x) => if x == x {
-            answer_of(12, 0, 0, 0, 0, 0, f64::to_bits(x))
-        } else {
-            answer_of(12, 0, 0, 0, 0, 0, 0x7ff8000000000000)
-        },
+        Constant::Float(x) => answer_of(12, 0, 0, 0, 0, 0, bits(x)),
         Constant::Bits(n) => answer_of(13, 0, 0, 0, 0, 0, n),
     }
 }
@@ -171,7 +147,7 @@ fn cell(s: &[u8]) -> Answer {
     if e > s.len() {
         return answer_of(0, 0, 0, 0, 0, 0, 0);
     }
-    let Judged::Head(h) = deck::read_line(true, &s[..e]) else {
+    let Judged::Head(h) = deck::read_line(true, &s[0..e]) else {
         return answer_of(0, 0, 0, 0, 0, 0, 0);
     };
     let Judged::Order(o) = deck::read_line(false, &s[e..]) else {
@@ -186,43 +162,30 @@ fn cell(s: &[u8]) -> Answer {
 
 // ---- rows
 
-// The value of a hexadecimal digit; 16 for any other byte.
-fn digit(b: u8) -> u32 {
-    match b {
-        48..=57 => b as u32 - 48,
-        97..=102 => b as u32 - 87,
-        _ => 16,
+// The number in a column; where none can be read, the greatest, which no row has.
+fn number(s: &[u8], a: usize, e: usize) -> u32 {
+    match rows::column(s, a, e, b' ') {
+        Hex::Is(n) => n,
+        Hex::Malformed => 0xffffffff,
     }
 }
 
-// The number that s spells in hexadecimal digits.
-fn number(s: &[u8]) -> u64 {
-    let mut v: u64 = 0;
-    let mut i = 0;
-    while i < s.len() {
-        v = (v % 0x1000000000000000) * 16 + (digit(s[i]) % 16) as u64;
-        i += 1;
-    }
-    v
-}
-
-// One of at most four digits.
-fn small(s: &[u8]) -> u32 {
-    (number(s) % 0x10000) as u32
-}
-
+// What the row expects. Where its last number cannot be read, its tag is one that no answer has.
 fn expected(s: &[u8]) -> Answer {
     if s.len() < FRONT {
         return answer_of(255, 0, 0, 0, 0, 0, 0);
     }
+    let Word::Is(last) = text::read_word(&s[28..44]) else {
+        return answer_of(255, 0, 0, 0, 0, 0, 0);
+    };
     answer_of(
-        small(&s[0..2]),
-        small(&s[3..7]),
-        small(&s[8..12]),
-        small(&s[13..17]),
-        small(&s[18..22]),
-        small(&s[23..27]),
-        number(&s[28..44]),
+        number(s, 0, 2),
+        number(s, 3, 7),
+        number(s, 8, 12),
+        number(s, 13, 17),
+        number(s, 18, 22),
+        number(s, 23, 27),
+        last,
     )
 }
 
@@ -237,9 +200,10 @@ fn byte_at(s: &[u8], i: usize) -> u8 {
     if s.len() - i < 3 {
         return 0;
     }
-    let hi = digit(s[i + 1]) % 16;
-    let lo = digit(s[i + 2]) % 16;
-    (hi * 16 + lo) as u8
+    match rows::number(&s[i + 1..i + 3]) {
+        Hex::Is(n) => (n % 256) as u8,
+        Hex::Malformed => 0,
+    }
 }
 
 // How many bytes of the row it takes.
@@ -249,22 +213,20 @@ fn width(b: u8) -> usize
     if b == b'\\' { 3 } else { 1 }
 }
 
-// The bytes of a row's line, as far as it has `count` of them.
-fn unescape(s: &[u8], count: usize, out: &mut [u8]) -> usize {
+// The bytes of a row's line, as far as it has `count` of them; how many there are.
+fn unescape(s: &[u8], count: usize, out: &mut [u8; ROOM]) -> usize {
     let mut i = 0;
-    let mut n = 0;
-    while i < s.len() {
-        if n >= count {
+    for n in 0..ROOM {
+        if n == count {
             return n;
         }
-        if n >= out.len() {
+        if i >= s.len() {
             return n;
         }
         out[n] = byte_at(s, i);
         i += width(s[i]);
-        n += 1;
     }
-    n
+    ROOM
 }
 
 fn same(x: Answer, y: Answer) -> bool {
@@ -277,55 +239,42 @@ fn same(x: Answer, y: Answer) -> bool {
         && x.last == y.last
 }
 
+// What the reader answers for a row's line, the first n bytes of `buf`.
+fn read(tag: u32, buf: &[u8; ROOM], n: usize) -> Answer {
+    if n > ROOM {
+        return answer_of(254, 0, 0, 0, 0, 0, 0);
+    }
+    let b = &buf[..];
+    if tag == 14 {
+        cell(&b[0..n])
+    } else {
+        line(&b[0..n])
+    }
+}
+
 // What the reader answers for a row.
-fn came(s: &[u8], want: Answer) -> Answer {
+fn came(s: &[u8], tag: u32) -> Answer {
     if s.len() < FRONT {
         return answer_of(254, 0, 0, 0, 0, 0, 0);
     }
     let mut buf = [0u8; ROOM];
-    let count = number(&s[45..47]) as usize;
-    let n = unescape(&s[48..], count, &mut buf);
-    if n != count {
+    let count = number(s, 45, 47) as usize;
+    if unescape(&s[48..], count, &mut buf) != count {
         return answer_of(254, 0, 0, 0, 0, 0, 0);
     }
-    if n > ROOM {
-        return answer_of(254, 0, 0, 0, 0, 0, 0);
-    }
-    if want.tag == 14 {
-        cell(&buf[..n])
-    } else {
-        line(&buf[..n])
-    }
+    read(tag, &buf, count)
 }
 
-fn mismatch(t: Tally, s: &[u8]) -> Tally {
-    if t.mismatches < SHOWN {
-        io::write_all(STDOUT, b"row ");
-        io::print_decimal(STDOUT, t.rows);
-        io::write_all(STDOUT, b": ");
-        io::write_all(STDOUT, s);
-    }
-    let mut u = t;
-    u.mismatches = more(t.mismatches);
-    u
-}
-
-pub fn judged(before: Tally, s: &[u8]) -> Tally {
-    let mut t = before;
-    t.rows = more(before.rows);
+// Rows of cells count as others.
+pub fn outcome(s: &[u8]) -> Outcome {
     let want = expected(s);
-    let got = came(s, want);
-    if !same(want, got) {
-        return mismatch(t, s);
+    if !same(want, came(s, want.tag)) {
+        return Outcome::Mismatch;
     }
-    if want.tag == 0 {
-        t.refused = more(t.refused);
-        return t;
+    let k = want.tag;
+    match k {
+        0 => Outcome::Refused,
+        14 => Outcome::Other,
+        _ => Outcome::Accepted,
     }
-    if want.tag == 14 {
-        t.cells = more(t.cells);
-        return t;
-    }
-    t.accepted = more(t.accepted);
-    t
 }

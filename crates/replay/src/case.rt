@@ -1,7 +1,4 @@
 // A case: calls on one assembler, from fresh memory on, and how far its code is compared.
-ghost use mathlib.Core.Path.{_≡_};
-ghost use Prim.Native.Nat.{_≤_};
-ghost use Rattle.replay.specs.Code.{word-of, all-zero-of};
 use assembler::Answer;
 use assembler::Asm;
 use assembler::Done;
@@ -109,66 +106,21 @@ pub fn valued(c: Case, n: u32) -> Case {
 
 // ---- the code
 
-pub fn blank_code(buf: &mut [u8; 65536]) {
-    for i in 0..65536 {
-        buf[i] = 0;
-    }
-}
-
-pub fn blank_labels(labels: &mut [u64; 2039]) {
-    for i in 0..2039 {
-        labels[i] = 0;
-    }
-}
-
-fn wide(b: u8) -> u32
-    ensures { λ r. ⌜ (r ≡ b) × (r ≤ 255) ⌝ }
-{
-    b as u32
-}
-
-// The word at a place, little-endian; 0 where there is none.
-fn word_at(buf: &[u8; 65536], at: usize) -> u32
-    ensures { λ r. ⌜ r ≡ word-of (now (buf .entry)) at ⌝ }
-{
-    if at > 65532 {
-        return 0;
-    }
-    let a = wide(buf[at]);
-    let b = wide(buf[at + 1]);
-    let c = wide(buf[at + 2]);
-    let d = wide(buf[at + 3]);
-    a + b * 256 + c * 65536 + d * 16777216
-}
-
 // The first n of four words stand at a place.
 pub fn stand(buf: &[u8; 65536], at: usize, a: u32, b: u32, c: u32, d: u32, n: u32) -> bool {
     if at > 65536 {
         return false;
     }
-    if n >= 1 && word_at(buf, at) != a {
+    if n >= 1 && rows::word_at(buf, at) != a {
         return false;
     }
-    if n >= 2 && word_at(buf, at + 4) != b {
+    if n >= 2 && rows::word_at(buf, at + 4) != b {
         return false;
     }
-    if n >= 3 && word_at(buf, at + 8) != c {
+    if n >= 3 && rows::word_at(buf, at + 8) != c {
         return false;
     }
-    n < 4 || word_at(buf, at + 12) == d
-}
-
-fn all_zero(s: &[u8]) -> bool
-    ensures { λ r. ⌜ r ≡ all-zero-of (now (s .entry)) ⌝ }
-{
-    let mut i = 0;
-    while i < s.len() {
-        if s[i] != 0 {
-            return false;
-        }
-        i += 1;
-    }
-    true
+    n < 4 || rows::word_at(buf, at + 12) == d
 }
 
 // The bytes from a up to e are zero.
@@ -180,5 +132,5 @@ pub fn blank(buf: &[u8; 65536], a: usize, e: usize) -> bool {
         return false;
     }
     let t = &buf[..];
-    all_zero(&t[a..e])
+    rows::all(&t[a..e], 0)
 }

@@ -2,58 +2,36 @@
 use crate::case::Case;
 use crate::row::Read;
 use crate::row::Row;
-
-// Only the first mismatches are printed.
-const SHOWN: u64 = 10;
+use rows::Outcome;
+use rows::Tally;
 
 const STDOUT: i32 = 1;
 
-// Rows and mismatches so far, the row of the family, how many of its answers agreed, and the case at hand.
-pub struct Tally {
-    pub rows: u64,
-    pub mismatches: u64,
+// Rows and mismatches so far, the row of the family, how many of its answers agreed (the rows accepted), and the case at hand.
+pub struct State {
+    pub tally: Tally,
     pub family: Row,
-    pub agreed: u64,
     pub case: Case,
-    pub ended: bool,
 }
 
-pub fn start() -> Tally {
+pub fn start() -> State {
+    let tally = rows::start();
+    let family = Row {
+        kind: 0,
+        a: 0,
+        b: 0,
+        c: 0,
+        d: 0,
+    };
     let case = crate::case::closed(crate::case::fresh());
-    Tally {
-        rows: 0,
-        mismatches: 0,
-        family: Row {
-            kind: 0,
-            a: 0,
-            b: 0,
-            c: 0,
-            d: 0,
-        },
-        agreed: 0,
+    State {
+        tally,
+        family,
         case,
-        ended: false,
     }
 }
 
-// One more, up to the greatest number.
-fn more(n: u64) -> u64 {
-    if n < u64::MAX { n + 1 } else { n }
-}
-
-// ---- what is counted and printed
-
-fn say(what: &[u8], n: u64) {
-    io::write_all(STDOUT, what);
-    io::print_decimal(STDOUT, n);
-}
-
-// A row's number, and the row.
-fn show(n: u64, s: &[u8]) {
-    say(b"row ", n);
-    io::write_all(STDOUT, b": ");
-    io::write_all(STDOUT, s);
-}
+// ---- what is printed
 
 fn byte(w: u32, scale: u32) -> u8 {
     if scale == 0 {
@@ -77,8 +55,8 @@ pub fn print_family(f: Row, agreed: u64) {
     print_name(f.b);
     print_name(f.c);
     print_name(f.d);
-    say(b": ", agreed);
-    io::write_all(STDOUT, b"\n");
+    io::write_all(STDOUT, b": ");
+    rows::say(agreed, b"\n");
 }
 
 // ---- what a row makes of the case
@@ -133,8 +111,8 @@ fn called(
     if c.open {
         return crate::call::by_kind(r, buf, labels, jumps, c);
     }
-    crate::case::blank_code(buf);
-    crate::case::blank_labels(labels);
+    *buf = [0u8; 65536];
+    *labels = [0u64; 2039];
     crate::call::by_kind(r, buf, labels, jumps, crate::case::fresh())
 }
 
@@ -163,78 +141,54 @@ fn ends(k: u32) -> bool {
 
 // ---- what is counted
 
-// The first row of a case that disagrees is a mismatch.
-fn mismatched(t: Tally, s: &[u8], d: Case) -> Tally {
-    let mut u = t;
-    let c = t.case;
+// The first row of a case that disagrees is a mismatch. The row that ends an answer counts for its family where no row disagreed.
+fn outcome(c: Case, d: Case, over: bool) -> Outcome {
     if c.good && !d.good {
-        if t.mismatches < SHOWN {
-            show(t.rows, s);
-        }
-        u.mismatches = more(t.mismatches);
+        return Outcome::Mismatch;
     }
-    u
-}
-
-// The case after a row. An answer counts for its family where no row disagreed.
-fn settled(t: Tally, d: Case, over: bool) -> Tally {
-    let mut u = t;
-    u.case = d;
-    if over {
-        if d.good {
-            u.agreed = more(t.agreed);
-        }
-        let e = crate::case::closed(d);
-        u.case = e;
+    if over && d.good {
+        return Outcome::Accepted;
     }
-    u
+    Outcome::Other
 }
 
-fn family(t: Tally, r: Row) -> Tally {
-    let f = t.family;
-    print_family(f, t.agreed);
-    let mut u = t;
-    u.family = r;
-    u.agreed = 0;
-    u
+// The case after a row.
+fn settled(before: State, s: &[u8], d: Case, over: bool) -> State {
+    let tally = rows::counted(before.tally, outcome(before.case, d, over), s);
+    let family = before.family;
+    let case = if over { crate::case::closed(d) } else { d };
+    State {
+        tally,
+        family,
+        case,
+    }
 }
 
-fn counted(t: Tally) -> Tally {
-    let mut u = t;
-    u.rows = more(t.rows);
-    u
-}
-
-fn malformed(t: Tally, s: &[u8]) -> Tally {
-    let d = crate::case::bad(t.case);
-    settled(mismatched(t, s, d), d, false)
-}
-
-fn judged(
-    t: Tally,
-    s: &[u8],
-    r: Row,
-    buf: &mut [u8; 65536],
-    labels: &mut [u64; 2039],
-    jumps: &mut [u32; 20480],
-) -> Tally {
-    let d = next(t.case, r, buf, labels, jumps);
-    settled(mismatched(t, s, d), d, ends(r.kind))
+fn family(before: State, s: &[u8], r: Row) -> State {
+    let mut tally = rows::counted(before.tally, Outcome::Other, s);
+    print_family(before.family, tally.accepted);
+    tally.accepted = 0;
+    let case = before.case;
+    State {
+        tally,
+        family: r,
+        case,
+    }
 }
 
 pub fn row(
-    before: Tally,
+    before: State,
     s: &[u8],
     buf: &mut [u8; 65536],
     labels: &mut [u64; 2039],
     jumps: &mut [u32; 20480],
-) -> Tally {
-    let t = counted(before);
+) -> State {
     let Read::Is(r) = crate::row::of(s) else {
-        return malformed(t, s);
+        return settled(before, s, crate::case::bad(before.case), false);
     };
     if r.kind == 0x00 {
-        return family(t, r);
+        return family(before, s, r);
     }
-    judged(t, s, r, buf, labels, jumps)
+    let d = next(before.case, r, buf, labels, jumps);
+    settled(before, s, d, ends(r.kind))
 }

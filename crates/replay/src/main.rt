@@ -6,70 +6,31 @@ mod judge;
 mod named;
 mod row;
 
-use judge::Tally;
+use judge::State;
 
-// Bytes of a row, and of as many rows as are read at once.
+// Bytes of a row.
 const ROW: usize = 39;
 
-const BLOCK: usize = 64974;
-
-const STDOUT: i32 = 1;
-
-// All rows of s. What is left behind the last whole row is a row cut short.
-fn rows(
-    t: Tally,
-    s: &[u8],
-    buf: &mut [u8; 65536],
-    labels: &mut [u64; 2039],
-    jumps: &mut [u32; 20480],
-) -> Tally {
-    let mut sum = t;
-    let mut i = 0;
-    while s.len() - i >= ROW {
-        let e = i + ROW;
-        sum = judge::row(sum, &s[i..e], buf, labels, jumps);
-        i = e;
-    }
-    if i < s.len() {
-        return judge::row(sum, &s[i..], buf, labels, jumps);
-    }
-    sum
-}
-
-fn block(
-    t: Tally,
-    buf: &mut [u8; 65536],
-    labels: &mut [u64; 2039],
-    jumps: &mut [u32; 20480],
-) -> Tally {
-    let mut text = [0u8; BLOCK];
-    let n = io::read_full(0, &mut text);
-    let mut u = rows(t, &text[..n], buf, labels, jumps);
-    u.ended = n < BLOCK;
-    u
-}
-
-// The whole of standard input. Nothing says that it ends, so the loop counts its turns down.
-fn replay() -> Tally {
+// The whole of standard input, row by row. Nothing says that it ends, so the loop counts its turns.
+fn replay() -> State {
     let mut buf = [0u8; 65536];
     let mut labels = [0u64; 2039];
     let mut jumps = [0u32; 20480];
     let mut t = judge::start();
-    let mut turns = u64::MAX;
-    while turns > 0 {
-        t = block(t, &mut buf, &mut labels, &mut jumps);
-        if t.ended {
+    for _ in 0..u64::MAX {
+        let mut row = [0u8; ROW];
+        let n = io::read_full(0, &mut row);
+        if n == 0 {
             return t;
         }
-        turns -= 1;
+        t = judge::row(t, &row[..n], &mut buf, &mut labels, &mut jumps);
     }
     t
 }
 
 fn main() {
     let t = replay();
-    let f = t.family;
-    judge::print_family(f, t.agreed);
-    io::print_decimal(STDOUT, t.mismatches);
-    io::write_all(STDOUT, b" mismatches\n");
+    let sum = t.tally;
+    judge::print_family(t.family, sum.accepted);
+    rows::say(sum.mismatches, b" mismatches\n");
 }

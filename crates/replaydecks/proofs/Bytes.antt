@@ -1,13 +1,11 @@
--- Bytes from place i of a list on: their hash, and whether each is b.
+-- The hash of the bytes from place i of a list on.
 use mathlib.Core.Path.{_≡_}
-use mathlib.Core.Bool.{true, false}
 use mathlib.Core.List.{List}
 use Prim.Native.Nat.{ℕ, _+_, _*_, _%_, _<_, _≤_}
 use native.Mathlib.Numerals.{add-one}
-use borrow.Author.Tests.{eq-eqb, ne-eqb}
 use lib.ListN.{length, getD, drop, drop-of-length-le}
 use lib.Seq.{drop-cons}
-use Rattle.replaydecks.specs.Bytes.{hash-of, all-of}
+use Rattle.replaydecks.specs.Bytes.{hash-of}
 
 module _ (s : List ℕ) (i : ℕ) where
   pub hash-ends : (h : ℕ) → length s ≤ i → hash-of h (drop i s) ≡ h
@@ -17,15 +15,3 @@ module _ (s : List ℕ) (i : ℕ) where
   pub hash-goes : (h w : ℕ) → i < length s → w ≡ getD s i 0 → hash-of h (drop i s) ≡ hash-of ((h * 257 + w + 1) % 18014398509481951) (drop (i + 1) s)
   unfolding hash-of
   hash-goes h w e v = rw (drop-cons s i 0 e, add-one i, v)
-
-  pub all-ends : (b : ℕ) → length s ≤ i → all-of b (drop i s) ≡ true
-  unfolding all-of
-  all-ends b e = rw (drop-of-length-le s e)
-
-  pub all-fails : (b : ℕ) → i < length s → (getD s i 0 ≡ b → ⊥) → all-of b (drop i s) ≡ false
-  unfolding all-of
-  all-fails b e n = rw (drop-cons s i 0 e, ne-eqb (getD s i 0) b n)
-
-  pub all-goes : (b : ℕ) → i < length s → getD s i 0 ≡ b → all-of b (drop i s) ≡ all-of b (drop (i + 1) s)
-  unfolding all-of
-  all-goes b e n = rw (drop-cons s i 0 e, eq-eqb (getD s i 0) b n, add-one i)

@@ -1,43 +1,19 @@
 // Rows, one by one: a deck is put together, handed to the routine, and its answer and buffer compared.
 ghost use mathlib.Core.Path.{_≡_};
-ghost use Prim.Native.Nat.{_≤_, _<_};
-ghost use Rattle.replaydecks.specs.Bytes.{hash-of, all-of};
+ghost use Prim.Native.Nat.{_≤_};
+ghost use Rattle.replaydecks.specs.Bytes.{hash-of};
 use crate::piece::ROOM;
 use order::Frame;
 use routine::Answer;
-
-// Only the first mismatches are printed.
-const SHOWN: u64 = 10;
-
-const STDOUT: i32 = 1;
+use rows::Outcome;
 
 // What stands in a buffer before the routine has it.
 const MARK: u8 = 165;
 
-// Rows and answers so far, and the bytes of the deck at hand.
-pub struct Tally {
-    pub rows: u64,
-    pub accepted: u64,
-    pub refused: u64,
-    pub mismatches: u64,
+// What a row comes to, and the bytes of the deck at hand.
+pub struct Came {
+    pub outcome: Outcome,
     pub size: usize,
-    pub ended: bool,
-}
-
-pub fn start() -> Tally {
-    Tally {
-        rows: 0,
-        accepted: 0,
-        refused: 0,
-        mismatches: 0,
-        size: 0,
-        ended: false,
-    }
-}
-
-// One more, up to the greatest number.
-fn more(n: u64) -> u64 {
-    if n < u64::MAX { n + 1 } else { n }
 }
 
 // ---- answers as numbers
@@ -106,26 +82,6 @@ fn wide(b: u8) -> u64
     b as u64
 }
 
-// Every byte is b.
-fn all(s: &[u8], b: u8) -> bool
-    ensures { λ r. ⌜ r ≡ all-of b (now (s .entry)) ⌝ }
-{
-    let mut i = 0;
-    while i < s.len() {
-        if s[i] != b {
-            return false;
-        }
-        i += 1;
-    }
-    true
-}
-
-fn fill(buf: &mut [u8; ROOM]) {
-    for i in 0..ROOM {
-        buf[i] = MARK;
-    }
-}
-
 // How many bytes of a buffer count.
 fn room(size: usize) -> usize
     ensures { λ r. ⌜ r ≤ size ⌝ }
@@ -146,8 +102,8 @@ fn stands(buf: &[u8; ROOM], end: usize, size: usize, s: &[u8]) -> bool {
     let h = hash(&b[0..end]);
     h / 0x100000000 == crate::row::column(s, 6) as u64
         && h % 0x100000000 == crate::row::column(s, 7) as u64
-        && all(&b[end..e], 0)
-        && all(&b[e..], MARK)
+        && rows::all(&b[end..e], 0)
+        && rows::all(&b[e..], MARK)
 }
 
 // ---- rows
@@ -165,94 +121,62 @@ fn handed(file: &[u8], buf: &mut [u8], n: usize, size: usize) -> Numbers {
 // The deck's answer and its buffer are the row's.
 fn answered(s: &[u8], n: usize, file: &[u8; ROOM], buf: &mut [u8; ROOM]) -> bool {
     let size = crate::row::column(s, 0) as usize;
-    fill(buf);
+    *buf = [MARK; ROOM];
     let t = handed(file, buf, n, size);
     let end = if t.kind == 0 { 0 } else { t.a as usize };
     agrees(t, s) && stands(buf, end, size, s)
 }
 
-// The word at a place, little-endian; 0 where there is none.
-fn word_at(buf: &[u8; ROOM], at: usize) -> u64 {
-    if at > ROOM - 4 {
-        return 0;
+// Word i of the row stands in the buffer.
+fn word_stands(s: &[u8], buf: &[u8; ROOM], i: u32) -> bool {
+    let at = crate::row::column(s, 0);
+    if at > 65536 {
+        return false;
     }
-    let a = wide(buf[at]);
-    let b = wide(buf[at + 1]);
-    let c = wide(buf[at + 2]);
-    let d = wide(buf[at + 3]);
-    a + b * 256 + c * 65536 + d * 16777216
+    if i >= 12 {
+        return false;
+    }
+    rows::word_at(buf, (at + 4 * i) as usize) == crate::row::column(s, 2 + i as usize)
 }
 
 // The row's words stand in the buffer.
 fn spelled(s: &[u8], buf: &[u8; ROOM]) -> bool {
-    let at = crate::row::column(s, 0);
     let count = crate::row::column(s, 1);
-    if at > 65536 {
-        return false;
-    }
-    if count > 12 {
-        return false;
-    }
-    let mut i: usize = 0;
-    while i < count as usize {
-        if word_at(buf, at as usize + 4 * i) != crate::row::column(s, 2 + i) as u64 {
+    for i in 0..count {
+        if !word_stands(s, buf, i) {
             return false;
         }
-        i += 1;
     }
     true
 }
 
-fn mismatch(t: Tally, s: &[u8]) -> Tally {
-    if t.mismatches < SHOWN {
-        io::write_all(STDOUT, b"row ");
-        io::print_decimal(STDOUT, t.rows);
-        io::write_all(STDOUT, b": ");
-        io::write_all(STDOUT, s);
-    }
-    let mut u = t;
-    u.mismatches = more(t.mismatches);
-    u
-}
-
-// An answer's row, judged; the next deck starts empty.
-fn counted(t: Tally, s: &[u8], good: bool) -> Tally {
-    let mut u = t;
-    u.size = 0;
+// An answer's row, judged.
+fn judged(s: &[u8], good: bool) -> Outcome {
     if !good {
-        return mismatch(u, s);
+        return Outcome::Mismatch;
     }
     if crate::row::column(s, 1) == 0 {
-        u.refused = more(t.refused);
-        return u;
+        return Outcome::Refused;
     }
-    u.accepted = more(t.accepted);
-    u
+    Outcome::Accepted
 }
 
-pub fn row(before: Tally, s: &[u8], file: &mut [u8; ROOM], buf: &mut [u8; ROOM]) -> Tally {
-    let mut t = before;
-    t.rows = more(before.rows);
-    let n = t.size;
+fn came_to(outcome: Outcome, size: usize) -> Came {
+    Came { outcome, size }
+}
+
+// A row, with n bytes of a deck at hand. Behind an answer the next deck starts empty.
+pub fn row(s: &[u8], n: usize, file: &mut [u8; ROOM], buf: &mut [u8; ROOM]) -> Came {
     match crate::row::letter(s) {
-        b'd' => {
-            t.size = crate::piece::text(s, n, file);
-            t
-        }
-        b'b' => {
-            t.size = crate::piece::byte(s, n, file);
-            t
-        }
-        b'r' => {
-            let good = answered(s, n, file, buf);
-            counted(t, s, good)
-        }
+        b'd' => came_to(Outcome::Other, crate::piece::text(s, n, file)),
+        b'b' => came_to(Outcome::Other, crate::piece::byte(s, n, file)),
+        b'r' => came_to(judged(s, answered(s, n, file, buf)), 0),
         b'w' => {
             if spelled(s, buf) {
-                return t;
+                return came_to(Outcome::Other, n);
             }
-            mismatch(t, s)
+            came_to(Outcome::Mismatch, n)
         }
-        _ => mismatch(t, s),
+        _ => came_to(Outcome::Mismatch, n),
     }
 }

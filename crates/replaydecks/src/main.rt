@@ -4,61 +4,36 @@ mod judge;
 mod piece;
 mod row;
 
-use judge::Tally;
 use piece::ROOM;
+use rows::Tally;
 
-// Bytes of a row, and of as many rows as are read at once.
+// Bytes of a row.
 const ROW: usize = 128;
 
-const BLOCK: usize = 65536;
-
-const STDOUT: i32 = 1;
-
-// All rows of s. What is left behind the last whole row is a row cut short.
-fn rows(t: Tally, s: &[u8], file: &mut [u8; ROOM], buf: &mut [u8; ROOM]) -> Tally {
-    let mut sum = t;
-    let mut i = 0;
-    while s.len() - i >= ROW {
-        let e = i + ROW;
-        sum = judge::row(sum, &s[i..e], file, buf);
-        i = e;
-    }
-    if i < s.len() {
-        return judge::row(sum, &s[i..], file, buf);
-    }
-    sum
-}
-
-fn block(t: Tally, file: &mut [u8; ROOM], buf: &mut [u8; ROOM]) -> Tally {
-    let mut text = [0u8; BLOCK];
-    let n = io::read_full(0, &mut text);
-    let mut u = rows(t, &text[..n], file, buf);
-    u.ended = n < BLOCK;
-    u
-}
-
-// The whole of standard input. Nothing says that it ends, so the loop counts its turns down.
+// The whole of standard input, row by row. Nothing says that it ends, so the loop counts its turns.
 fn all() -> Tally {
     let mut file = [0u8; ROOM];
     let mut buf = [0u8; ROOM];
-    let mut t = judge::start();
-    let mut turns = u64::MAX;
-    while turns > 0 {
-        t = block(t, &mut file, &mut buf);
-        if t.ended {
+    let mut size = 0;
+    let mut t = rows::start();
+    for _ in 0..u64::MAX {
+        let mut row = [0u8; ROW];
+        let n = io::read_full(0, &mut row);
+        if n == 0 {
             return t;
         }
-        turns -= 1;
+        let s = &row[..n];
+        let came = judge::row(s, size, &mut file, &mut buf);
+        size = came.size;
+        let outcome = came.outcome;
+        t = rows::counted(t, outcome, s);
     }
     t
 }
 
 fn main() {
     let t = all();
-    io::print_decimal(STDOUT, t.accepted);
-    io::write_all(STDOUT, b" accepted, ");
-    io::print_decimal(STDOUT, t.refused);
-    io::write_all(STDOUT, b" refused, ");
-    io::print_decimal(STDOUT, t.mismatches);
-    io::write_all(STDOUT, b" mismatches\n");
+    rows::say(t.accepted, b" accepted, ");
+    rows::say(t.refused, b" refused, ");
+    rows::say(t.mismatches, b" mismatches\n");
 }

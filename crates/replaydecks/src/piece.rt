@@ -9,40 +9,38 @@ const TIMES: u32 = 70016;
 // Where a row's text starts.
 const TEXT: usize = 20;
 
-// The byte that a character of a text stands for: a tilde is a line's end.
-fn plain(b: u8) -> u8 {
-    if b == b'~' { 10 } else { b }
+// The byte that a character stands for: the character `end` is a line's end.
+fn plain(b: u8, end: u8) -> u8 {
+    if b == end { 10 } else { b }
 }
 
 // The text of s behind the first n bytes, as far as there is room; how many bytes there are then.
-fn put(s: &[u8], n: usize, file: &mut [u8; ROOM]) -> usize {
+fn put(s: &[u8], end: u8, n: usize, file: &mut [u8; ROOM]) -> usize {
     let mut at = n;
     let mut i = 0;
     while i < s.len() {
         if at >= ROOM {
             return at;
         }
-        file[at] = plain(s[i]);
+        file[at] = plain(s[i], end);
         at += 1;
         i += 1;
     }
     at
 }
 
-fn repeat(s: &[u8], times: u32, n: usize, file: &mut [u8; ROOM]) -> usize {
+fn repeat(s: &[u8], end: u8, times: u32, n: usize, file: &mut [u8; ROOM]) -> usize {
     if times > TIMES {
         return n;
     }
     let mut at = n;
-    let mut k = 0;
-    while k < times {
-        at = put(s, at, file);
-        k += 1;
+    for _ in 0..times {
+        at = put(s, end, at, file);
     }
     at
 }
 
-// A row of text.
+// A row of text. A tilde is a line's end.
 pub fn text(s: &[u8], n: usize, file: &mut [u8; ROOM]) -> usize {
     let times = crate::row::column(s, 0);
     let count = crate::row::column(s, 1);
@@ -53,28 +51,15 @@ pub fn text(s: &[u8], n: usize, file: &mut [u8; ROOM]) -> usize {
     if s.len() < e {
         return n;
     }
-    repeat(&s[TEXT..e], times, n, file)
+    repeat(&s[TEXT..e], b'~', times, n, file)
 }
 
 // A row of one byte, whichever it is.
 pub fn byte(s: &[u8], n: usize, file: &mut [u8; ROOM]) -> usize {
     let times = crate::row::column(s, 0);
     let value = crate::row::column(s, 1);
-    if times > TIMES {
-        return n;
-    }
     if value > 255 {
         return n;
     }
-    let mut at = n;
-    let mut k = 0;
-    while k < times {
-        if at >= ROOM {
-            return at;
-        }
-        file[at] = value as u8;
-        at += 1;
-        k += 1;
-    }
-    at
+    repeat(&[value as u8], b'\n', times, n, file)
 }

@@ -1,19 +1,18 @@
 // A row's columns: a letter, then numbers of eight hexadecimal digits, each behind a space.
 use rows::Hex;
 
+// The last column ends the row.
+fn end(i: usize) -> u8 {
+    if i == 13 { b'\n' } else { b' ' }
+}
+
 // The number in a column; where none can be read, the greatest, which no row has.
 pub fn column(s: &[u8], i: usize) -> u32 {
     if i > 13 {
         return 0xffffffff;
     }
-    let a = 2 + 9 * i;
-    let e = a + 8;
-    if s.len() < e {
-        return 0xffffffff;
-    }
-    let n = rows::number(&s[a..e]);
-    match n {
-        Hex::Is(v) => v,
+    match rows::column(s, 2 + 9 * i, 10 + 9 * i, end(i)) {
+        Hex::Is(n) => n,
         Hex::Malformed => 0xffffffff,
     }
 }

@@ -1,2 +1,3 @@
+mod Bytes
 mod Digits
 mod Signs

@@ -2,7 +2,8 @@
 use mathlib.Core.Bool.{cond, _&&_}
 use mathlib.Core.List.{List, [], _∷_}
 use Prim.Native.Nat.{ℕ, _+_, _*_, _-_, _^_}
-use lib.Dec.{ltb, leb}
+use lib.Dec.{ltb, leb, eqb}
+use lib.ListN.{length, getD, take, drop}
 use Rattle.rows.specs.declared.Hex.{Hex}
 use Rattle.rows.specs.declared.Hex.the-variants.{Is, Malformed}
 
@@ -15,3 +16,10 @@ unfoldable pub number-from : ℕ → List ℕ → Hex
 number-from v [] = Is v
 number-from v (b ∷ bs) =
     cond (ltb (digit-of b) 16 && ltb v (2 ^ 28)) (number-from (v * 16 + digit-of b) bs) Malformed
+
+-- the number in the column from place a up to e, where the byte b stands behind it
+abbrev pub column-of : List ℕ → (a e b : ℕ) → Hex
+column-of s a e b =
+    cond (leb a e && ltb e (length s) && eqb (getD s e 0) b)
+    (number-from 0 (take (e - a) (drop a s)))
+    Malformed

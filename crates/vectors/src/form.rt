@@ -1,19 +1,6 @@
 // The forms of `rvv!` by their number in the list, in the Rust's order.
-ghost use mathlib.Core.Path.{_≡_};
-ghost use Rattle.isa.specs.Immediate.{signed as signed-of};
 use encoder::Encoded;
 use refusal::Refusal;
-
-// The signed number whose two's complement in 32 bits is n.
-fn signed(n: u32) -> i32
-    ensures { λ r. ⌜ r ≡ signed-of 32 n ⌝ }
-{
-    if n < 0x80000000 {
-        n as i32
-    } else {
-        -1 - (0xffffffff - n) as i32
-    }
-}
 
 // What no row expects: a refusal at a place that is not 0.
 pub fn unknown() -> Encoded {
@@ -54,7 +41,7 @@ fn arithmetic(form: u32, a: u32, b: u32, c: u32) -> Encoded {
 
 // Whole-number arithmetic with an immediate, `ld` and `sd`.
 fn immediate(form: u32, a: u32, b: u32, c: u32) -> Encoded {
-    let z = signed(c);
+    let z = rows::signed(c);
     match form {
         0x0a => encoder::addi(a, b, z),
         0x0b => encoder::nop(),
@@ -73,7 +60,7 @@ fn immediate(form: u32, a: u32, b: u32, c: u32) -> Encoded {
 
 // Branches.
 fn branch(form: u32, a: u32, b: u32, c: u32) -> Encoded {
-    let z = signed(c);
+    let z = rows::signed(c);
     match form {
         0x15 => encoder::beq(a, b, z),
         0x16 => encoder::bne(a, b, z),
@@ -90,13 +77,13 @@ fn branch(form: u32, a: u32, b: u32, c: u32) -> Encoded {
 // Jumps and upper immediates.
 fn jump(form: u32, a: u32, b: u32, c: u32) -> Encoded {
     match form {
-        0x1d => encoder::jal(a, signed(b)),
-        0x1e => encoder::j(signed(a)),
-        0x1f => encoder::jalr(a, b, signed(c)),
+        0x1d => encoder::jal(a, rows::signed(b)),
+        0x1e => encoder::j(rows::signed(a)),
+        0x1f => encoder::jalr(a, b, rows::signed(c)),
         0x20 => encoder::jr(a),
         0x21 => encoder::ret(),
-        0x22 => encoder::lui(a, signed(b)),
-        0x23 => encoder::auipc(a, signed(b)),
+        0x22 => encoder::lui(a, rows::signed(b)),
+        0x23 => encoder::auipc(a, rows::signed(b)),
         _ => unknown(),
     }
 }
@@ -127,8 +114,8 @@ fn compare(form: u32, a: u32, b: u32, c: u32) -> Encoded {
         0x31 => encoder::fle_d(a, b, c),
         0x32 => encoder::fgt_d(a, b, c),
         0x33 => encoder::fge_d(a, b, c),
-        0x34 => encoder::fld(a, b, signed(c)),
-        0x35 => encoder::fsd(a, b, signed(c)),
+        0x34 => encoder::fld(a, b, rows::signed(c)),
+        0x35 => encoder::fsd(a, b, rows::signed(c)),
         0x36 => encoder::fabs_d(a, b),
         0x37 => encoder::fmv_d(a, b),
         0x38 => encoder::fneg_d(a, b),

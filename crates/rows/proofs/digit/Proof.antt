@@ -4,37 +4,14 @@ use borrow.Author.Needs.{needs}
 use Rattle.rows.proofs.digit.Statement.{statement}
 use Rattle.rows.proofs.digit.Tie as tie
 
-returns : tie.Need-returns
-returns c =
-    let b = c .before .args .b in
-    simp (lt-leb 48 b (c .if1 .taken), lt-leb 97 b (omega arith))
-
-sub-result : tie.Need-sub-result
-sub-result c = search needs
-
-returns-2 : tie.Need-returns-2
-returns-2 c =
-    let b = c .before .before .args .b in
-    simp (le-leb 48 b (omega arith), le-leb b 57 (c .if2 .taken))
-
-returns-3 : tie.Need-returns-3
-returns-3 c =
-    let b = c .before .before .before .args .b in
-    simp (le-leb 48 b (omega arith), lt-leb b 57 (omega arith), lt-leb 97 b (c .if3 .taken))
-
-sub-result-2 : tie.Need-sub-result-2
-sub-result-2 c = search needs
-
-returns-4 : tie.Need-returns-4
-returns-4 c =
-    let b = c .before .before .before .before .args .b in
-    simp (le-leb 48 b (omega arith), lt-leb b 57 (omega arith), le-leb 97 b (omega arith), le-leb b 102 (c .if4 .taken))
-
-returns-5 : tie.Need-returns-5
-returns-5 c =
-    let b = c .before .before .before .before .args .b in
-    simp (le-leb 48 b (omega arith), lt-leb b 57 (omega arith), le-leb 97 b (omega arith), lt-leb b 102 (c .if4 .left))
-
 pub digit-spec : {M : Type 1} → statement M
 digit-spec =
-    tie.close (tie.spec returns sub-result returns-2 returns-3 sub-result-2 returns-4 returns-5)
+    tie.close
+    (tie.spec
+    (λ c. simp (lt-leb 48 _ (c .if1 .taken), lt-leb 97 (c .before .args .b) (omega arith)))
+    (λ c. search needs)
+    (λ c. simp (le-leb 48 _ (c .before .if1 .left), le-leb _ 57 (c .if2 .taken)))
+    (λ c. simp (le-leb 48 _ (c .before .before .if1 .left), lt-leb _ 57 (c .before .if2 .left), lt-leb 97 _ (c .if3 .taken)))
+    (λ c. search needs)
+    (λ c. simp (le-leb 48 _ (c .before .before .before .if1 .left), lt-leb _ 57 (c .before .before .if2 .left), le-leb 97 _ (c .before .if3 .left), le-leb _ 102 (c .if4 .taken)))
+    (λ c. simp (le-leb 48 _ (c .before .before .before .if1 .left), lt-leb _ 57 (c .before .before .if2 .left), le-leb 97 _ (c .before .if3 .left), lt-leb _ 102 (c .if4 .left))))

@@ -13,30 +13,6 @@ Inv-loop s h₀ i₀ h i = (i ≤ length s) × (h < 18014398509481951) × (hash-
 abbrev μ-loop : tie.MeasureT-loop
 μ-loop s h₀ i₀ h i = length s - i
 
-loop-holds : tie.Need-loop-holds Inv-loop μ-loop
-loop-holds c = search needs
-
-mul-h : tie.Need-mul-h Inv-loop μ-loop
-mul-h c = search needs
-
-shared-slice-read-wide : tie.Need-shared-slice-read-wide Inv-loop μ-loop
-shared-slice-read-wide c = search needs
-
-wide-requires : tie.Need-wide-requires Inv-loop μ-loop
-wide-requires c κs = search needs
-
-add-h : tie.Need-add-h Inv-loop μ-loop
-add-h c = search needs
-
-add-h-2 : tie.Need-add-h-2 Inv-loop μ-loop
-add-h-2 c = search needs
-
-add-i : tie.Need-add-i Inv-loop μ-loop
-add-i c = search needs
-
-loop-less : tie.Need-loop-less Inv-loop μ-loop
-loop-less c = search needs
-
 loop-again : tie.Need-loop-again Inv-loop μ-loop
 loop-again c =
     (search needs, search needs, c .before .before .before .loop .inv .2 ∙ hash-goes _ _ _ _ (c .before .before .loop-test .taken) (c .wide .ensures .0))
@@ -50,13 +26,13 @@ hash-spec =
     (tie.spec
     Inv-loop
     μ-loop
-    loop-holds
-    mul-h
-    shared-slice-read-wide
-    wide-requires
-    add-h
-    add-h-2
-    add-i
-    loop-less
+    (λ c. search needs)
+    (λ c. search needs)
+    (λ c. search needs)
+    (λ c κs. search needs)
+    (λ c. search needs)
+    (λ c. search needs)
+    (λ c. search needs)
+    (λ c. search needs)
     loop-again
     returns)

@@ -1,2 +1,0 @@
-mod Digits
-mod Signs
