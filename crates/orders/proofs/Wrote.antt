@@ -2,7 +2,7 @@
 use mathlib.Core.Path.{_≡_, refl, sym, ap, ap₂, subst, _∙_}
 use mathlib.Core.Bool.{true, false, cond}
 use mathlib.Core.List.{List, [], _∷_, _++_, map, map-append, append-nil}
-use Prim.Native.Nat.{ℕ, _+_, _*_, _%_, _^_, _≤_, _<_}
+use Prim.Native.Nat.{ℕ, _+_, _*_, _^_, _≤_, _<_}
 use native.Mathlib.Nat.{mod-eq-of-lt}
 use native.Mathlib.Omega.{arith}
 use borrow.Author.Tests.{lt-ltb, le-ltb, le-leb}
@@ -25,7 +25,7 @@ use Rattle.order.specs.declared.Order.{Order}
 use Rattle.order.specs.declared.Order.the-variants.{Unary, Scratched, Binary, Fused, Ifelse, Load, Save}
 use Rattle.assembler.specs.Item.{Item, instr, raw}
 use Rattle.assembler.specs.Bytes.{written}
-use Rattle.assembler.specs.State.{State, Outcome, state, sound}
+use Rattle.assembler.specs.State.{State, state, sound}
 use Rattle.assembler.specs.Put.{put}
 use Rattle.assembler.proofs.Writes.{written-then}
 use Rattle.assembler.proofs.Steps.{put-raw}

@@ -9,7 +9,7 @@ ghost use lib.ListN.{length};
 ghost use Rattle.isa.specs.Immediate.{hi, lo};
 ghost use Rattle.isa.specs.Instr.{R, M, R4, I, B, U, ADD, FMV-X-D, FMV-D-X, ADDI, LUI};
 ghost use Rattle.refusal.specs.Answer.{accepted};
-ghost use Rattle.packed.specs.Packed.{unpacked};
+ghost use Rattle.packed.specs.Packed.{order-at, unpacked};
 ghost use Rattle.assembler.specs.Bytes.{written};
 ghost use Rattle.assembler.specs.State.{state, outcome, sound};
 ghost use Rattle.assembler.specs.Plan.{plan-fault};
@@ -659,13 +659,11 @@ fn write_ifelse(d: u32, a: u32, b: u32, n: u32, buf: &mut [u8], len: usize) -> u
 // No length: the order goes the general way.
 const OTHER: usize = 0x100000000;
 
-// Orders of instructions alone; for the others OTHER, and nothing is written.
-fn write_order(q: u64, buf: &mut [u8], len: usize) -> usize
-    requires { ⌜ (len + 44 ≤ length (now buf)) × (len ≤ 65492) ⌝ }
-    ensures { λ r. ⌜ (r ≤ 65536 → Wrote-order (unpacked q) (now (buf .entry)) len (now (buf .exit)) r) × (65536 < r → now (buf .exit) ≡ now (buf .entry)) ⌝ }
+// Kind k with operands x, registers alone.
+fn write_registers(k: u64, x: u64, buf: &mut [u8], len: usize) -> usize
+    requires { ⌜ (k < 20) × (len + 44 ≤ length (now buf)) × (len ≤ 65492) ⌝ }
+    ensures { λ r. ⌜ (r ≤ 65536 → Wrote-order (order-at k x) (now (buf .entry)) len (now (buf .exit)) r) × (65536 < r → now (buf .exit) ≡ now (buf .entry)) ⌝ }
 {
-    let k = q % 32;
-    let x = q / 32;
     let y = x / 32;
     let z = y / 32;
     let d = packed::register(x);
@@ -680,18 +678,26 @@ fn write_order(q: u64, buf: &mut [u8], len: usize) -> usize
     if k < 16 {
         return write_binary(packed::binary_at(k), d, a, b, buf, len);
     }
+    let c = packed::register(z / 32);
+    write_fused(packed::fused_at(k), d, a, b, c, buf, len)
+}
+
+// Orders of instructions alone; for the others OTHER, and nothing is written.
+fn write_order(q: u64, buf: &mut [u8], len: usize) -> usize
+    requires { ⌜ (len + 44 ≤ length (now buf)) × (len ≤ 65492) ⌝ }
+    ensures { λ r. ⌜ (r ≤ 65536 → Wrote-order (unpacked q) (now (buf .entry)) len (now (buf .exit)) r) × (65536 < r → now (buf .exit) ≡ now (buf .entry)) ⌝ }
+{
+    let k = q % 32;
+    let x = q / 32;
     if k < 20 {
-        return write_fused(
-            packed::fused_at(k),
-            d,
-            a,
-            b,
-            packed::register(z / 32),
-            buf,
-            len,
-        );
+        return write_registers(k, x, buf, len);
     }
+    let y = x / 32;
+    let d = packed::register(x);
     if k == 20 {
+        let z = y / 32;
+        let a = packed::register(y);
+        let b = packed::register(z);
         return write_ifelse(d, a, b, 8 * packed::index(z / 32), buf, len);
     }
     if k == 21 {
@@ -714,14 +720,17 @@ fn has_room(n: usize, asm: Asm) -> bool
     if asm.closed {
         return false;
     }
-    if assembler::is_sound(n, asm) {
-        let len = asm.len;
-        if n - len < 44 {
-            return false;
-        }
-        return len <= 65492;
+    if n < 44 {
+        return false;
     }
-    false
+    let len = asm.len;
+    if n - 44 < len {
+        return false;
+    }
+    if 65492 < len {
+        return false;
+    }
+    assembler::is_sound(n, asm)
 }
 
 // The order that q stands for, placed, where it is one of instructions alone and surely has room: the new length.

@@ -5,7 +5,7 @@ use mathlib.Core.Path.{refl}
 use Rattle.isa.specs.Instr.{M, FMV-X-D, FMV-D-X}
 use Rattle.orders.specs.Code.{binary-code}
 use Rattle.orders.specs.Wrote.{word}
-use Rattle.order.specs.declared.Binary.the-variants.{Minus, Times, Divide, Gt, Neq, And, Andnot, Or, Xor}
+use Rattle.order.specs.declared.Binary.the-variants.{Minus, Times, Divide, Gt, Neq, And, Andnot, Or}
 use borrow.Author.Needs.{needs}
 use Rattle.orders.proofs.write_binary.Statement.{statement}
 use Rattle.orders.proofs.write_binary.Tie as tie

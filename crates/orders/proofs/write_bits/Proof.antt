@@ -1,5 +1,3 @@
-use mathlib.Core.List.{[], _∷_}
-use denote.Ref.{now}
 use Rattle.orders.proofs.Wrote.{word-is}
 use mathlib.Core.Path.{_≡_}
 use Rattle.isa.specs.Instr.{M, FMV-X-D, FMV-D-X}

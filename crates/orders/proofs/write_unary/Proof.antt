@@ -4,7 +4,7 @@ use Rattle.orders.proofs.Wrote.{word-is, wrote}
 use mathlib.Core.Path.{sym}
 use native.Mathlib.Omega.{arith}
 use borrow.Author.Tests.{eq-eqb, ne-eqb}
-use Rattle.order.specs.declared.Unary.the-variants.{Fmov, Recip, Round, Floor, Not}
+use Rattle.order.specs.declared.Unary.the-variants.{Recip, Round, Floor, Not}
 use Rattle.isa.specs.Instr.{R, FSGNJ-D}
 use Rattle.assembler.proofs.Writes.{written-none}
 use Rattle.orders.specs.Code.{unary-code}
