@@ -5,7 +5,7 @@ use mathlib.Core.Option.{Option, some, none, Option·some-injective, Option·non
 use mathlib.Core.List.{List, [], _∷_}
 use Prim.Native.Nat.{ℕ, _+_, _-_, _/_, _%_, _<_, _≤_}
 use native.Mathlib.Omega.{arith}
-use borrow.Author.Tests.{lt-ltb, ne-eqb, eqb-true, ltb-true, ltb-false}
+use borrow.Author.Tests.{lt-ltb, le-ltb, ne-eqb, eqb-true, eqb-false, ltb-true, ltb-false}
 use lib.Dec.{eqb, ltb}
 use lib.ListN.{length, take, drop}
 use Rattle.refusal.specs.Answer.{accepted}
@@ -26,7 +26,7 @@ use Rattle.form.specs.declared.Flag.the-variants as Flag
 use Rattle.form.proofs.Numbered.{kind-is, unary-kind, scratched-kind, binary-kind, fused-kind, later-kind}
 use Rattle.form.proofs.Shapes.{line-is}
 use Rattle.deck.specs.Judge.{order, judged, line-judged}
-use Rattle.deck.specs.Packing.{Joins, Packs, Stands, Says}
+use Rattle.deck.specs.Packing.{Joins, Packs, registers-of, bound-of, Stands, Says}
 use Rattle.deck.proofs.Packing.{cell-is, branch-is}
 
 small : (n : ℕ) → n < 4096 → sized n ≡ Value n
@@ -81,18 +81,18 @@ module _ (fs : List (List ℕ)) (r k x : ℕ) (ek : r % 32 ≡ k) (ex : r / 32 �
   fused g h p =
       rw (p .0, small a (omega arith), small b (omega arith), small c (omega arith), small w (omega arith), lt-ltb a 32 (low x), lt-ltb b 32 (low y), lt-ltb c 32 (low z), lt-ltb w 32 (p .1), ek, ex, at.fused k x g h, same w (p .1))
 
-  ifelse : k ≡ 20 → Packs 3 4096 fs x → Stands Kind.Ifelse fs r
+  ifelse : k ≡ 20 → Packs 3 1000 fs x → Stands Kind.Ifelse fs r
   unfolding shaped line-judged judged
   ifelse e p =
-      rw (p .0, small a (omega arith), small b (omega arith), small c (omega arith), small w (p .1), lt-ltb a 32 (low x), lt-ltb b 32 (low y), lt-ltb c 32 (low z), lt-ltb w 4096 (p .1), ek, ex, at.ifelse k x e, same-index w (p .1))
+      rw (p .0, small a (omega arith), small b (omega arith), small c (omega arith), small w (omega arith), lt-ltb a 32 (low x), lt-ltb b 32 (low y), lt-ltb c 32 (low z), lt-ltb w 4096 (omega arith), ek, ex, at.ifelse k x e, same-index w (omega arith))
 
-  load-const : k ≡ 21 → Packs 1 1008 fs x → Stands Kind.LoadConst fs r
+  load-const : k ≡ 21 → Packs 1 1000 fs x → Stands Kind.LoadConst fs r
   unfolding shaped line-judged judged
-  load-const e p = rw (p .0, small a (omega arith), small y (omega arith), lt-ltb a 32 (low x), lt-ltb y 1008 (p .1), ek, ex, at.load-const k x e, same-index y (omega arith))
+  load-const e p = rw (p .0, small a (omega arith), small y (omega arith), lt-ltb a 32 (low x), lt-ltb y 1008 (omega arith), ek, ex, at.load-const k x e, same-index y (omega arith))
 
-  label : k ≡ 30 → Packs 0 1024 fs x → Stands Kind.SetLabel fs r
+  label : k ≡ 30 → Packs 0 1000 fs x → Stands Kind.SetLabel fs r
   unfolding shaped line-judged judged
-  label e p = rw (p .0, small x (omega arith), lt-ltb x 1024 (p .1), ek, ex, at.label k x (omega arith), same-index x (omega arith))
+  label e p = rw (p .0, small x (omega arith), lt-ltb x 1024 (omega arith), ek, ex, at.label k x (omega arith), same-index x (omega arith))
 
   module _ (p : Place) (v : read-values (number ∷ place ∷ number ∷ []) fs ≡ some (a, (p, (y, tt)))) (l : y < 4096) where
     load : 22 ≤ k → k < 25 → place-at (k - 22) ≡ p → Stands Kind.Load fs r
@@ -129,34 +129,44 @@ module _ (k : ℕ) (fs : List (List ℕ)) (r : ℕ) where
 -- ---- the ways through `packed_kind`: kind k before the operands x
 
 module _ (fs : List (List ℕ)) (r k x : ℕ) (f : Joins k x r) where
-  pub one-operand : k < 5 → (x < 4294967296 → Packs 1 32 fs x) → r < 4294967296 → Says k fs r
-  one-operand h p n = let q = f n in says k fs r (Kind.Unary (unary-at k)) (omega arith) (unary-kind k h) (unary fs r k x (q .0) (q .1) h (p (q .2)))
-
-  pub two-operands : 5 ≤ k → k < 16 → (x < 4294967296 → Packs 2 32 fs x) → r < 4294967296 → Says k fs r
-  two-operands g h p n = go (ltb k 7) refl
+  pub of-numbers : (i l : ℕ) → k < 22 → i ≡ registers-of k → l ≡ bound-of k → (x < 4294967296 → Packs i l fs x) → r < 4294967296 → Says k fs r
+  of-numbers i l h ei el p n = by (ltb k 5) (ltb k 7) (ltb k 16) (ltb k 20) (eqb k 20) refl refl refl refl refl
     where
-      go : (t : Bool) → ltb k 7 ≡ t → Says k fs r
-      go true e =
-          let q = f n in
-          let l = ltb-true k 7 e in
-          says k fs r (Kind.Scratched (scratched-at k)) (omega arith) (scratched-kind k g l) (scratched fs r k x (q .0) (q .1) g l (p (q .2)))
-      go false e =
-          let q = f n in
-          let l = ltb-false k 7 e in
-          says k fs r (Kind.Binary (binary-at k)) (omega arith) (binary-kind k l h) (binary fs r k x (q .0) (q .1) l h (p (q .2)))
+      ek : r % 32 ≡ k
+      ek = f n .0
 
-  pub three-operands : 16 ≤ k → k < 20 → (x < 4294967296 → Packs 3 32 fs x) → r < 4294967296 → Says k fs r
-  three-operands g h p n =
-      let q = f n in
-      says k fs r (Kind.Fused (fused-at k)) (omega arith) (fused-kind k g h) (fused fs r k x (q .0) (q .1) g h (p (q .2)))
+      ex : r / 32 ≡ x
+      ex = f n .1
 
-  pub of-ifelse : k ≡ 20 → (x < 4294967296 → Packs 3 4096 fs x) → r < 4294967296 → Says k fs r
-  of-ifelse e p n = let q = f n in says k fs r Kind.Ifelse (omega arith) (later-kind k (omega arith) ∙ rw e) (ifelse fs r k x (q .0) (q .1) e (p (q .2)))
+      packs : (m b : ℕ) → registers-of k ≡ m → bound-of k ≡ b → Packs m b fs x
+      packs m b em eb = subst (λ (j : ℕ). Packs j b fs x) (ei ∙ em) (subst (λ (j : ℕ). Packs i j fs x) (el ∙ eb) (p (f n .2)))
 
-  pub of-load-const : k ≡ 21 → (x < 4294967296 → Packs 1 1008 fs x) → r < 4294967296 → Says k fs r
-  of-load-const e p n = let q = f n in says k fs r Kind.LoadConst (omega arith) (later-kind k (omega arith) ∙ rw e) (load-const fs r k x (q .0) (q .1) e (p (q .2)))
+      by : (t u v w z : Bool) → ltb k 5 ≡ t → ltb k 7 ≡ u → ltb k 16 ≡ v → ltb k 20 ≡ w → eqb k 20 ≡ z → Says k fs r
+      by true u v w z et eu ev ew ez =
+          let l = ltb-true k 5 et in
+          says k fs r (Kind.Unary (unary-at k)) (omega arith) (unary-kind k l) (unary fs r k x ek ex l (packs 1 32 (rw et) (rw (lt-ltb k 20 (omega arith)))))
+      by false true v w z et eu ev ew ez =
+          let g = ltb-false k 5 et in
+          let l = ltb-true k 7 eu in
+          says k fs r (Kind.Scratched (scratched-at k)) (omega arith) (scratched-kind k g l) (scratched fs r k x ek ex g l (packs 2 32 (rw (et, lt-ltb k 16 (omega arith))) (rw (lt-ltb k 20 (omega arith)))))
+      by false false true w z et eu ev ew ez =
+          let g = ltb-false k 7 eu in
+          let l = ltb-true k 16 ev in
+          says k fs r (Kind.Binary (binary-at k)) (omega arith) (binary-kind k g l) (binary fs r k x ek ex g l (packs 2 32 (rw (et, ev)) (rw (lt-ltb k 20 (omega arith)))))
+      by false false false true z et eu ev ew ez =
+          let g = ltb-false k 16 ev in
+          let l = ltb-true k 20 ew in
+          says k fs r (Kind.Fused (fused-at k)) (omega arith) (fused-kind k g l) (fused fs r k x ek ex g l (packs 3 32 (rw (et, ev, lt-ltb k 21 (omega arith))) (rw ew)))
+      by false false false false true et eu ev ew ez =
+          let e = eqb-true k 20 ez in
+          says k fs r Kind.Ifelse (omega arith) (later-kind k (omega arith) ∙ rw e) (ifelse fs r k x ek ex e (packs 3 1000 (rw (et, ev, lt-ltb k 21 (omega arith))) (rw ew)))
+      by false false false false false et eu ev ew ez =
+          let g = eqb-false k 20 ez in
+          let l = ltb-false k 20 ew in
+          let e : k ≡ 21 = omega (arith, g) in
+          says k fs r Kind.LoadConst (omega arith) (later-kind k (omega arith) ∙ rw e) (load-const fs r k x ek ex e (packs 1 1000 (rw (et, ev, le-ltb k 21 (omega arith))) (rw ew)))
 
-  pub of-label : k ≡ 30 → (x < 4294967296 → Packs 0 1024 fs x) → r < 4294967296 → Says k fs r
+  pub of-label : k ≡ 30 → (x < 4294967296 → Packs 0 1000 fs x) → r < 4294967296 → Says k fs r
   of-label e p n = let q = f n in says k fs r Kind.SetLabel (omega arith) (later-kind k (omega arith) ∙ rw e) (label fs r k x (q .0) (q .1) e (p (q .2)))
 
 pub of-branch : (k : ℕ) (fs : List (List ℕ)) (r : ℕ) → k ≡ 28 → (r < 4294967296 → Stands Kind.BranchIf fs r) → r < 4294967296 → Says k fs r
@@ -165,14 +175,14 @@ of-branch k fs r e p n = says k fs r Kind.BranchIf (omega arith) (later-kind k (
 -- ---- a cell and a branch: two fields that end at commas, and the last
 
 module _ (s : List ℕ) (a e f x y q r : ℕ) (he : e ≡ end-from s a) (hs : a ≤ e) (hl : e < length s) (hf : f ≡ end-from s (e + 1)) (hb : e + 1 ≤ f) (hm : f < length s) (ex : x ≡ short-of (take (e - a) (drop a s))) (inner : Joins x y q) where
-  pub of-cell : (k n : ℕ) (p : Place) → 22 ≤ k → k < 28 → placed (first place-name (take (f - (e + 1)) (drop (e + 1) s)) all-places) ≡ Where.Is p → place-at n ≡ p → n < 3 → (y < 4294967296 → Packs 0 4096 (fields-from s (f + 1)) y) → Joins (k + n) q r → r < 4294967296 → Says k (fields-from s a) r
+  pub of-cell : (k n : ℕ) (p : Place) → 22 ≤ k → k < 28 → placed (first place-name (take (f - (e + 1)) (drop (e + 1) s)) all-places) ≡ Where.Is p → place-at n ≡ p → n < 3 → (y < 4294967296 → Packs 0 1000 (fields-from s (f + 1)) y) → Joins (k + n) q r → r < 4294967296 → Says k (fields-from s a) r
   of-cell k n p g h ep en l last outer lt =
       let o = outer lt in
       let i = inner (o .2) in
       let t = last (i .2) in
       let fs = fields-from s a in
       let v : read-values (number ∷ place ∷ number ∷ []) fs ≡ some (q % 32, (p, (q / 32, tt))) = rw (i .0, i .1) (cell-is s a e f x he hs hl hf hb hm ex (omega arith) p y ep t) in
-      let m : q / 32 < 4096 = rw (i .1) (t .1) in
+      let m : q / 32 < 4096 = omega (arith, i .1, t .1) in
       cells k fs r g h (λ z. load fs r (k + n) q (o .0) (o .1) p v m (omega arith) (omega arith) (let w : k + n - 22 ≡ n = omega arith in rw w en)) (λ z. save fs r (k + n) q (o .0) (o .1) p v m (omega arith) (omega arith) (let w : k + n - 25 ≡ n = omega arith in rw w en))
 
   pub a-branch : (k : ℕ) (other : Bool) → y ≡ short-of (take (f - (e + 1)) (drop (e + 1) s)) → y < 1000 → flagged (only flag (fields-from s (f + 1))) ≡ Flag.Is other → eqb k 29 ≡ other → 28 ≤ k → k < 30 → Joins k q r → r < 4294967296 → Stands Kind.BranchIf (fields-from s a) r

@@ -1,9 +1,10 @@
 -- The operands of a line as one number: registers in base 32, the first one lowest, and a last number above them.
 use mathlib.Core.Path.{_≡_}
-use mathlib.Core.Bool.{false}
+use mathlib.Core.Bool.{false, cond}
 use mathlib.Core.Option.{some}
 use mathlib.Core.List.{List}
 use Prim.Native.Nat.{ℕ, zero, suc, _/_, _%_, _<_}
+use lib.Dec.{ltb}
 use lib.ListN.{replicate}
 use Rattle.refusal.specs.Answer.{accepted}
 use Rattle.packed.specs.Packed.{unpacked}
@@ -30,6 +31,13 @@ last (suc k) x = last k (x / 32)
 -- the fields are k registers and a last number below the bound
 abbrev pub Packs : (k bound : ℕ) → List (List ℕ) → (x : ℕ) → Type 0
 Packs k bound fs x = (read-values (replicate (suc k) number) fs ≡ some (operands k x)) × (last k x < bound)
+
+-- In an order of numbers alone (0 to 21): the registers before the last operand, and that one's bound. Only numbers below 1000 are packed, and no other bound is less than that.
+abbrev pub registers-of : ℕ → ℕ
+registers-of k = cond (ltb k 5) 1 (cond (ltb k 16) 2 (cond (ltb k 21) 3 1))
+
+abbrev pub bound-of : ℕ → ℕ
+bound-of k = cond (ltb k 20) 32 1000
 
 -- a line of kind q with these fields says the order that x stands for
 abbrev pub Stands : Kind → List (List ℕ) → (x : ℕ) → Type 0

@@ -10,7 +10,7 @@ ghost use Rattle.text.specs.Fields.{split, fields-from};
 ghost use Rattle.form.specs.Read.{read-fields};
 ghost use Rattle.form.specs.Form.{form-of, formed};
 ghost use Rattle.deck.specs.Judge.{order, told, judged, heads, line-judged, bounded, saves, counts-hold, frame-holds};
-ghost use Rattle.deck.specs.Packing.{Joins, Packs, Stands, Says};
+ghost use Rattle.deck.specs.Packing.{registers-of, bound-of, Joins, Packs, Stands, Says};
 use form::Flag;
 use form::Form;
 use form::Kind;
@@ -395,16 +395,44 @@ const NONE: u64 = 0x100000000;
 
 // The last field, a number below the bound.
 fn last_below(s: &[u8], a: usize, bound: u64) -> u64
+    requires { ⌜ bound ≤ 1000 ⌝ }
     ensures { λ r. ⌜ (r < 4294967296 → Packs 0 bound (fields-from (now (s .entry)) a) r) ⌝ }
 {
     if s.len() < a {
         return NONE;
     }
     let x = text::short_number(&s[a..]);
-    if x >= 1000 {
+    if x < bound { x } else { NONE }
+}
+
+// Some registers, and the last field.
+fn numbers(s: &[u8], a: usize, registers: u64, bound: u64) -> u64
+    requires { ⌜ (registers ≤ 3) × (bound ≤ 1000) ⌝ }
+    ensures { λ r. ⌜ (r < 4294967296 → Packs registers bound (fields-from (now (s .entry)) a) r) ⌝ }
+{
+    let mut at = a;
+    let mut left = registers;
+    let mut scale = 1;
+    let mut sum = 0;
+    while left > 0 {
+        let e = text::field_end(s, at);
+        if e >= s.len() {
+            return NONE;
+        }
+        let x = text::short_number(&s[at..e]);
+        if x >= 32 {
+            return NONE;
+        }
+        sum += scale * x;
+        scale *= 32;
+        at = e + 1;
+        left -= 1;
+    }
+    let y = last_below(s, at, bound);
+    if y >= NONE {
         return NONE;
     }
-    if x < bound { x } else { NONE }
+    sum + scale * y
 }
 
 // A register, or a kind, below what is packed behind it.
@@ -418,40 +446,6 @@ fn packed(x: u64, rest: u64) -> u64
         return NONE;
     }
     x + 32 * rest
-}
-
-// One register, two or three, and the last field.
-fn two_below(s: &[u8], a: usize, bound: u64) -> u64
-    ensures { λ r. ⌜ (r < 4294967296 → Packs 1 bound (fields-from (now (s .entry)) a) r) ⌝ }
-{
-    let e = text::field_end(s, a);
-    if e >= s.len() {
-        return NONE;
-    }
-    let x = text::short_number(&s[a..e]);
-    packed(x, last_below(s, e + 1, bound))
-}
-
-fn three_below(s: &[u8], a: usize, bound: u64) -> u64
-    ensures { λ r. ⌜ (r < 4294967296 → Packs 2 bound (fields-from (now (s .entry)) a) r) ⌝ }
-{
-    let e = text::field_end(s, a);
-    if e >= s.len() {
-        return NONE;
-    }
-    let x = text::short_number(&s[a..e]);
-    packed(x, two_below(s, e + 1, bound))
-}
-
-fn four_below(s: &[u8], a: usize, bound: u64) -> u64
-    ensures { λ r. ⌜ (r < 4294967296 → Packs 3 bound (fields-from (now (s .entry)) a) r) ⌝ }
-{
-    let e = text::field_end(s, a);
-    if e >= s.len() {
-        return NONE;
-    }
-    let x = text::short_number(&s[a..e]);
-    packed(x, three_below(s, e + 1, bound))
 }
 
 fn place_number(p: Place) -> u64
@@ -482,7 +476,7 @@ fn cell_packed(k: u64, s: &[u8], a: usize) -> u64
     let Where::Is(p) = form::read_place(&s[b..f]) else {
         return NONE;
     };
-    let y = last_below(s, f + 1, 4096);
+    let y = last_below(s, f + 1, 1000);
     packed(k + place_number(p), packed(x, y))
 }
 
@@ -516,24 +510,31 @@ fn branch_packed(s: &[u8], a: usize) -> u64
     packed(branch_number(other), packed(x, y))
 }
 
+// In an order of numbers alone (0 to 21): the registers before the last operand, and that one's bound, where 1000 stands for any above.
+fn registers(k: u64) -> u64
+    ensures { λ r. ⌜ (r ≡ registers-of k) × (r ≤ 3) ⌝ }
+{
+    if k < 5 {
+        return 1;
+    }
+    if k < 16 {
+        return 2;
+    }
+    if k < 21 { 3 } else { 1 }
+}
+
+fn last_bound(k: u64) -> u64
+    ensures { λ r. ⌜ (r ≡ bound-of k) × (r ≤ 1000) ⌝ }
+{
+    if k < 20 { 32 } else { 1000 }
+}
+
 // An order of kind k; its fields start at a.
 fn packed_kind(k: u64, s: &[u8], a: usize) -> u64
     ensures { λ r. ⌜ (r < 4294967296 → Says k (fields-from (now (s .entry)) a) r) ⌝ }
 {
-    if k < 5 {
-        return packed(k, two_below(s, a, 32));
-    }
-    if k < 16 {
-        return packed(k, three_below(s, a, 32));
-    }
-    if k < 20 {
-        return packed(k, four_below(s, a, 32));
-    }
-    if k == 20 {
-        return packed(k, four_below(s, a, 4096));
-    }
-    if k == 21 {
-        return packed(k, two_below(s, a, 1008));
+    if k < 22 {
+        return packed(k, numbers(s, a, registers(k), last_bound(k)));
     }
     if k < 28 {
         return cell_packed(k, s, a);
@@ -542,7 +543,7 @@ fn packed_kind(k: u64, s: &[u8], a: usize) -> u64
         return branch_packed(s, a);
     }
     if k == 30 {
-        return packed(k, last_below(s, a, 1024));
+        return packed(k, last_below(s, a, 1000));
     }
     NONE
 }

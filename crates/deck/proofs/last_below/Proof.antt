@@ -21,16 +21,14 @@ short-number-requires : tie.Need-short-number-requires
 short-number-requires c κs = search needs
 
 returns-2 : tie.Need-returns-2
-returns-2 c = λ h. absurd (omega arith)
+returns-2 c =
+    let n = c .before in
+    let b = n .before .before .before .before in
+    let a = b .args in
+    λ h. last-is (now (a .s)) (a .a) (a .bound) (n .short-number .result) (n .before .before .if1 .left) (n .short-number .ensures) (b .pre) (c .if2 .taken)
 
 returns-3 : tie.Need-returns-3
-returns-3 c =
-    let n = c .before .before in
-    let a = n .before .before .before .before .args in
-    λ h. last-is (now (a .s)) (a .a) (a .bound) (n .short-number .result) (n .before .before .if1 .left) (n .short-number .ensures) (c .before .if2 .left) (c .if3 .taken)
-
-returns-4 : tie.Need-returns-4
-returns-4 c = λ h. absurd (omega arith)
+returns-3 c = λ h. absurd (omega arith)
 
 pub last-below-spec : {M : Type 1} → statement M
 last-below-spec =
@@ -42,5 +40,4 @@ last-below-spec =
     part-short-number-end
     short-number-requires
     returns-2
-    returns-3
-    returns-4)
+    returns-3)
