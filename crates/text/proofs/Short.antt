@@ -11,7 +11,7 @@ use lib.ListN.{length, getD}
 use Rattle.text.specs.Digits.{digit-value, read-from, read-decimal, or-1000, short-of}
 use Rattle.text.specs.Fields.{commas, split}
 use Rattle.text.proofs.Answers.{empty, alone, leading, led}
-use Rattle.text.proofs.Numerals.{value-byte, decimal-read}
+use Rattle.text.proofs.Numerals.{decimal-read}
 use Rattle.text.proofs.Joined.{free, split-join, free-decimal}
 
 -- ---- what is read
@@ -72,9 +72,6 @@ module _ (s : List ℕ) where
   zero-led : 1 < length s → getD s 0 0 ≡ 48 → 1000 ≡ short-of s
   zero-led h e = no-number s (leading s (λ z. omega arith) (λ z. omega arith) e)
 
-  pub led-by-zero : 1 < length s → 0 ≡ digit-value (getD s 0 0) → 1000 ≡ short-of s
-  led-by-zero h e = zero-led h (sym (rw (sym e) at (value-byte (getD s 0 0) (omega arith))))
-
   pub other-length : (length s ≡ 1 → ⊥) → (length s ≡ 2 → ⊥) → (length s ≡ 3 → ⊥) → 1000 ≡ short-of s
   unfolding short-of
   other-length f g h = go (leb (length s) 3) refl
@@ -97,7 +94,7 @@ module _ (c : ℕ) where
       go true false e = omega arith
       go false u e = omega arith
 
-  within : 48 ≤ c → c ≤ 57 → c - 48 ≡ digit-value c
+  pub within : 48 ≤ c → c ≤ 57 → c - 48 ≡ digit-value c
   within h k = rw (le-leb 48 c h, le-leb c 57 k)
 
 pub first-below : (s : List ℕ) → 1 < length s → getD s 0 0 < 49 → 1000 ≡ short-of s

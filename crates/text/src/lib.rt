@@ -104,28 +104,40 @@ fn odd_number(s: &[u8]) -> u64
     ensures { λ r. ⌜ r ≡ short-of (now (s .entry)) ⌝ }
 {
     if s.len() == 1 {
-        let d = digit(s[0]);
-        return if d < 10 { d } else { 1000 };
+        let x = s[0];
+        if x < 48 {
+            return 1000;
+        }
+        if x > 57 {
+            return 1000;
+        }
+        return (x - 48) as u64;
     }
     if s.len() != 3 {
         return 1000;
     }
-    let a = digit(s[0]);
-    let b = digit(s[1]);
-    let c = digit(s[2]);
-    if a == 0 {
+    let a = s[0];
+    let b = s[1];
+    let c = s[2];
+    if a < 49 {
         return 1000;
     }
-    if a >= 10 {
+    if a > 57 {
         return 1000;
     }
-    if b >= 10 {
+    if b < 48 {
         return 1000;
     }
-    if c >= 10 {
+    if b > 57 {
         return 1000;
     }
-    100 * a + 10 * b + c
+    if c < 48 {
+        return 1000;
+    }
+    if c > 57 {
+        return 1000;
+    }
+    100 * (a - 48) as u64 + 10 * (b - 48) as u64 + (c - 48) as u64
 }
 
 // A decimal number of one, two or three digits, else 1000. Most fields have two.

@@ -1,73 +1,67 @@
 use native.Mathlib.Omega.{arith}
-use mathlib.Core.Path.{sym, _∙_}
-use Rattle.text.proofs.Short.{no-digit, led-by-zero, other-length, one-digit, three-digits}
+use Rattle.text.proofs.Short.{no-digit, below, above, within, first-below, other-length, one-digit, three-digits}
 use borrow.Author.Needs.{needs}
 use Rattle.text.proofs.odd_number.Statement.{statement}
 use Rattle.text.proofs.odd_number.Tie as tie
 
-shared-slice-read-digit : tie.Need-shared-slice-read-digit
-shared-slice-read-digit c = search needs
-
-digit-requires : tie.Need-digit-requires
-digit-requires c κs = search needs
+shared-slice-read-x : tie.Need-shared-slice-read-x
+shared-slice-read-x c = search needs
 
 returns : tie.Need-returns
-returns c = one-digit _ _ (c .before .before .before .if1 .taken) (c .before .digit .ensures) (c .if2 .taken)
+returns c = no-digit _ 0 (omega (arith, c .before .before .if1 .taken)) (below _ (c .if2 .taken))
 
 returns-2 : tie.Need-returns-2
-returns-2 c =
-    let l = c .before .before .before in
-    no-digit _ 0 (omega (arith, l .if1 .taken)) (rw (c .before .digit .ensures) at (c .if2 .left))
+returns-2 c = no-digit _ 0 (omega (arith, c .before .before .before .if1 .taken)) (above _ (c .if3 .taken))
+
+cast-result : tie.Need-cast-result
+cast-result c = search needs
 
 returns-3 : tie.Need-returns-3
 returns-3 c =
-    let l = c .before in
-    other-length _ (l .if1 .left) (l .before .before .pre) (c .if3 .taken)
-
-shared-slice-read-digit-2 : tie.Need-shared-slice-read-digit-2
-shared-slice-read-digit-2 c = search needs
-
-digit-requires-2 : tie.Need-digit-requires-2
-digit-requires-2 c κs = search needs
-
-shared-slice-read-digit-3 : tie.Need-shared-slice-read-digit-3
-shared-slice-read-digit-3 c = search needs
-
-digit-requires-3 : tie.Need-digit-requires-3
-digit-requires-3 c κs = search needs
-
-shared-slice-read-digit-4 : tie.Need-shared-slice-read-digit-4
-shared-slice-read-digit-4 c = search needs
-
-digit-requires-4 : tie.Need-digit-requires-4
-digit-requires-4 c κs = search needs
+    let h = c .before .if2 .left in
+    one-digit _ _ (c .before .before .before .if1 .taken) (within _ h (c .if3 .left)) (omega (arith, h, c .if3 .left))
 
 returns-4 : tie.Need-returns-4
-returns-4 c =
-    let b = c .before .before .before .before .before in
-    let h = b .before .before .if3 .left in
-    led-by-zero _ (omega (arith, h)) (sym (c .if4 .taken) ∙ b .digit2 .ensures)
+returns-4 c = other-length _ (c .before .if1 .left) (c .before .before .pre) (c .if4 .taken)
+
+shared-slice-read-a : tie.Need-shared-slice-read-a
+shared-slice-read-a c = search needs
+
+shared-slice-read-b : tie.Need-shared-slice-read-b
+shared-slice-read-b c = search needs
+
+shared-slice-read-c : tie.Need-shared-slice-read-c
+shared-slice-read-c c = search needs
 
 returns-5 : tie.Need-returns-5
-returns-5 c =
-    let b = c .before .before .before .before .before .before in
-    let h = b .before .before .if3 .left in
-    no-digit _ 0 (omega (arith, h)) (rw (b .digit2 .ensures) at (c .if5 .taken))
+returns-5 c = first-below _ (omega (arith, c .before .before .before .before .if4 .left)) (c .if5 .taken)
 
 returns-6 : tie.Need-returns-6
-returns-6 c =
-    let b = c .before .before .before .before .before in
-    let h = b .before .before .before .before .if3 .left in
-    no-digit _ 1 (omega (arith, h)) (rw (b .digit3 .ensures) at (c .if6 .taken))
+returns-6 c = no-digit _ 0 (omega (arith, c .before .before .before .before .before .if4 .left)) (above _ (c .if6 .taken))
 
 returns-7 : tie.Need-returns-7
-returns-7 c =
-    let b = c .before .before .before .before in
-    let h = b .before .before .before .before .before .before .if3 .left in
-    no-digit _ 2 (omega (arith, h)) (rw (b .digit4 .ensures) at (c .if7 .taken))
+returns-7 c = no-digit _ 1 (omega (arith, c .before .before .before .before .before .before .if4 .left)) (below _ (c .if7 .taken))
+
+returns-8 : tie.Need-returns-8
+returns-8 c = no-digit _ 1 (omega (arith, c .before .before .before .before .before .before .before .if4 .left)) (above _ (c .if8 .taken))
+
+returns-9 : tie.Need-returns-9
+returns-9 c = no-digit _ 2 (omega (arith, c .before .before .before .before .before .before .before .before .if4 .left)) (below _ (c .if9 .taken))
+
+returns-10 : tie.Need-returns-10
+returns-10 c = no-digit _ 2 (omega (arith, c .before .before .before .before .before .before .before .before .before .if4 .left)) (above _ (c .if10 .taken))
+
+sub-result : tie.Need-sub-result
+sub-result c = search needs
+
+cast-result-2 : tie.Need-cast-result-2
+cast-result-2 c = search needs
 
 mul-result : tie.Need-mul-result
 mul-result c = search needs
+
+cast-result-3 : tie.Need-cast-result-3
+cast-result-3 c = search needs
 
 mul-result-2 : tie.Need-mul-result-2
 mul-result-2 c = search needs
@@ -75,37 +69,47 @@ mul-result-2 c = search needs
 add-result : tie.Need-add-result
 add-result c = search needs
 
+cast-result-4 : tie.Need-cast-result-4
+cast-result-4 c = search needs
+
 add-result-2 : tie.Need-add-result-2
 add-result-2 c = search needs
 
-returns-8 : tie.Need-returns-8
-returns-8 c =
-    let z = c .before .before .before .before in
-    let y = z .before .before in
-    let x = y .before .before in
-    three-digits _ _ _ _ (x .before .before .if3 .left) (x .digit2 .ensures) (y .digit3 .ensures) (z .digit4 .ensures) (c .before .before .before .if4 .left) (c .before .before .if5 .left) (c .before .if6 .left) (c .if7 .left)
+returns-11 : tie.Need-returns-11
+returns-11 c =
+    let a = c .before .before .before .before .before .if5 .left in
+    let b = c .before .before .before .if7 .left in
+    let d = c .before .if9 .left in
+    let e = c .before .before .before .before .if6 .left in
+    let f = c .before .before .if8 .left in
+    let g = c .if10 .left in
+    three-digits _ _ _ _ (c .before .before .before .before .before .before .before .before .before .if4 .left) (within _ (omega (arith, a)) e) (within _ b f) (within _ d g) (λ z. omega (arith, a, z)) (omega (arith, e)) (omega (arith, f)) (omega (arith, g))
 
 pub odd-number-spec : {M : Type 1} → statement M
 odd-number-spec =
     tie.close
     (tie.spec
-    shared-slice-read-digit
-    digit-requires
+    shared-slice-read-x
     returns
     returns-2
+    cast-result
     returns-3
-    shared-slice-read-digit-2
-    digit-requires-2
-    shared-slice-read-digit-3
-    digit-requires-3
-    shared-slice-read-digit-4
-    digit-requires-4
     returns-4
+    shared-slice-read-a
+    shared-slice-read-b
+    shared-slice-read-c
     returns-5
     returns-6
     returns-7
+    returns-8
+    returns-9
+    returns-10
+    sub-result
+    cast-result-2
     mul-result
+    cast-result-3
     mul-result-2
     add-result
+    cast-result-4
     add-result-2
-    returns-8)
+    returns-11)
