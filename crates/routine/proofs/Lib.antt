@@ -10,5 +10,6 @@ pub mod LawParts
 pub mod LawRoom
 pub mod Lined
 pub mod Onward
+pub mod Packed
 pub mod Placed
 pub mod Unsaved

@@ -1,13 +1,20 @@
 // Document 01, "Added: the routine".
 ghost use mathlib.Core.Path.{_≡_};
+ghost use mathlib.Core.Bool.{false};
 ghost use mathlib.Core.List.{List, [], _++_};
 ghost use Prim.Native.Nat.{ℕ, _≤_, _<_};
 ghost use lib.ListN.{length, take, drop, replicate};
+ghost use Rattle.refusal.specs.Answer.{accepted};
 ghost use Rattle.text.specs.Lines.{lines-of};
+ghost use Rattle.form.specs.Form.{form-of};
+ghost use Rattle.deck.specs.Judge.{line-judged};
+ghost use Rattle.deck.specs.Judge as Deck;
 ghost use Rattle.assembler.specs.Bytes.{room};
 ghost use Rattle.assembler.specs.State.{State, state, outcome};
 ghost use Rattle.assembler.specs.declared.Answer.the-variants.{Accepted as Taken};
 ghost use Rattle.order.specs.Mask.{in-mask};
+ghost use Rattle.order.specs.Count.{index-holds};
+ghost use Rattle.packed.specs.Packed.{unpacked};
 ghost use Rattle.order.specs.declared.Constant.{Constant};
 ghost use Rattle.call.specs.Good.{free, open-cell, saves-hold, all-hold, unary-writes};
 ghost use Rattle.routine.specs.Run.{Made, next, cleared, order-run, enter-run, constants-then, finish-run, leave-run, lines-run, file-run, run};
@@ -171,6 +178,58 @@ fn keeps_saved(mask: u32, o: Order) -> bool
     }
 }
 
+// ---- 9 and 11 of an order as one number
+
+// The cell that it names is below its count.
+fn packed_within(head: Head, q: u64) -> bool
+    ensures { λ b. ⌜ b ≡ index-holds head (unpacked q) ⌝ }
+{
+    let k = q % 32;
+    if k < 20 {
+        return true;
+    }
+    let y = q / 32 / 32;
+    if k == 20 {
+        return packed::index(y / 32 / 32) < head.cap;
+    }
+    if k < 22 {
+        return true;
+    }
+    if k < 25 {
+        return (packed::index(y) as u64) < deck::cell_count(head, packed::place_at(k - 22));
+    }
+    if k < 28 {
+        return (packed::index(y) as u64) < deck::cell_count(head, packed::place_at(k - 25));
+    }
+    true
+}
+
+// It writes no preserved register outside the mask, and no saved register's cell.
+fn packed_keeps(mask: u32, q: u64) -> bool
+    ensures { λ b. ⌜ b ≡ saves-hold mask (unpacked q) ⌝ }
+{
+    let k = q % 32;
+    let x = q / 32;
+    let y = x / 32;
+    let d = packed::register(x);
+    if k < 5 {
+        return unary_free(mask, packed::unary_at(k), d, packed::register(y));
+    }
+    if k < 7 {
+        if is_free(mask, packed::register(y / 32)) {
+            return is_free(mask, d);
+        }
+        return false;
+    }
+    if k < 25 {
+        return is_free(mask, d);
+    }
+    if k < 28 {
+        return is_open(mask, packed::place_at(k - 25), packed::index(y));
+    }
+    true
+}
+
 // ---- line 1
 
 // Prologue and saves.
@@ -322,30 +381,59 @@ fn emit(
     }
 }
 
-// The lines from byte `from` on, behind line 1.
+// The same at once for a plain order as one number: its words are written, and their end is the answer. Above 65,536 nothing is done: `emit` decides.
+fn write_order(head: Head, q: u64, buf: &mut [u8], asm: Asm) -> usize
+    ensures { λ r. ⌜ (r ≤ 65536 → (q < 4294967296) × ((line : ℕ) (ls js : List ℕ) → order-run head line (unpacked q) (state asm ls js (now (buf .entry))) ≡ record { answer = accepted tt; state = state (record { len = r; jumps = asm .jumps; closed = asm .closed }) ls js (now (buf .exit)) })) × (65536 < r → now (buf .exit) ≡ now (buf .entry)) ⌝ }
+{
+    if q < 0x100000000 {
+        if packed_within(head, q) {
+            if packed_keeps(head.mask, q) {
+                return orders::write_packed(q, buf, asm);
+            }
+        }
+    }
+    0x100000000
+}
+
+// What a line says; q is what `quick` made of it.
+fn line_says(line: &[u8], q: u64) -> Judged
+    requires { ⌜ (q < 4294967296 → line-judged false (form-of (now line)) ≡ accepted (Deck.order (unpacked q))) ⌝ }
+    ensures { λ r. ⌜ Deck.told r ≡ line-judged false (form-of (now (line .entry))) ⌝ }
+{
+    if q < 0x100000000 {
+        return Judged::Order(packed::unpack(q));
+    }
+    deck::read_line(false, line)
+}
+
+// The lines from byte `at` on, behind line 1.
 fn lines(
     file: &[u8],
-    from: usize,
+    mut at: usize,
     head: Head,
     buf: &mut [u8],
     labels: &mut [u64; 2039],
     jumps: &mut [u32; 20480],
-    start: Asm,
+    mut asm: Asm,
 ) -> Ended
-    requires { ⌜ (length (now file) ≤ 65536) × (from ≤ length (now file)) ⌝ }
-    ensures { λ r. ⌜ made r (now (labels .exit)) (now (jumps .exit)) (now (buf .exit)) ≡ lines-run head 1 [] (lines-of (drop from (now (file .entry)))) (state start (now (labels .entry)) (now (jumps .entry)) (now (buf .entry))) ⌝ }
+    requires { ⌜ (length (now file) ≤ 65536) × (at ≤ length (now file)) ⌝ }
+    ensures { λ r. ⌜ made r (now (labels .exit)) (now (jumps .exit)) (now (buf .exit)) ≡ lines-run head 1 [] (lines-of (drop at (now (file .entry)))) (state asm (now (labels .entry)) (now (jumps .entry)) (now (buf .entry))) ⌝ }
 {
     let mut places = [0u32; 1008];
     let mut k = 0;
-    let mut asm = start;
-    let mut at = from;
     let mut n: u32 = 1;
     while at < file.len() {
         let e = lines::line_end(file, at);
-        let j = deck::read_line(false, &file[at..e]);
-        let place = at as u32;
+        let q = deck::quick(&file[at..e]);
+        let place = at;
         at = e;
         n += 1;
+        let t = write_order(head, q, buf, asm);
+        if t <= 65536 {
+            asm.len = t;
+            continue;
+        }
+        let j = line_says(&file[place..e], q);
         match j {
             Judged::Order(o) => {
                 let d = emit(head, n, o, buf, labels, jumps, asm);
@@ -360,7 +448,7 @@ fn lines(
                 if k == 1008 {
                     return refused(Refusal::Count, n, asm);
                 }
-                places[k] = place;
+                places[k] = place as u32;
                 k += 1;
                 continue;
             }

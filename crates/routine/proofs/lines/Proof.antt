@@ -6,7 +6,11 @@ use Prim.Native.Nat.{_+_, _-_, _≤_, _<_}
 use denote.Ref.{now}
 use lib.ListN.{length, take, drop, length-set, drop-of-length-le}
 use Rattle.text.specs.Lines.{lines-of}
+use Rattle.packed.specs.Packed.{unpacked}
+use Rattle.deck.specs.declared.Judged.the-variants.{Order}
 use Rattle.assembler.specs.State.{state}
+use Rattle.assembler.specs.declared.Done.{Done}
+use Rattle.assembler.specs.declared.Answer.the-variants.{Accepted}
 use Rattle.routine.specs.Places.{constants-at}
 use Rattle.routine.specs.Run.{lines-run}
 use Rattle.routine.proofs.Lined.{no-lines, lines-end, line-refused, line-head, line-full, line-constant, line-stops, line-goes}
@@ -15,12 +19,12 @@ use Rattle.routine.proofs.lines.Statement.{statement}
 use Rattle.routine.proofs.lines.Tie as tie
 
 abbrev Inv-loop : tie.InvT-loop
-Inv-loop file from head buf₀ labels₀ jumps₀ places₀ k₀ asm₀ at₀ n₀ buf labels jumps places k asm at n =
+Inv-loop file at₀ head buf₀ labels₀ jumps₀ asm₀ places₀ k₀ n₀ at buf labels jumps asm places k n =
     (at ≤ length file) × (n ≤ at + 1) × (k ≤ 1008) × (length places ≡ 1008) × (length buf ≡ length buf₀)
-    × (lines-run head 1 [] (lines-of (drop from file)) (state asm₀ labels₀ jumps₀ buf₀) ≡ lines-run head n (constants-at file (take k places)) (lines-of (drop at file)) (state asm labels jumps buf))
+    × (lines-run head 1 [] (lines-of (drop at₀ file)) (state asm₀ labels₀ jumps₀ buf₀) ≡ lines-run head n (constants-at file (take k places)) (lines-of (drop at file)) (state asm labels jumps buf))
 
 abbrev μ-loop : tie.MeasureT-loop
-μ-loop file from head buf₀ labels₀ jumps₀ places₀ k₀ asm₀ at₀ n₀ buf labels jumps places k asm at n = length file - at
+μ-loop file at₀ head buf₀ labels₀ jumps₀ asm₀ places₀ k₀ n₀ at buf labels jumps asm places k n = length file - at
 
 loop-holds : tie.Need-loop-holds Inv-loop μ-loop
 unfolding constants-at
@@ -29,23 +33,52 @@ loop-holds c = (search needs, search needs, search needs, search needs, refl, re
 line-end-requires : tie.Need-line-end-requires Inv-loop μ-loop
 line-end-requires c κs = search needs
 
-sub-read-line : tie.Need-sub-read-line Inv-loop μ-loop
-sub-read-line c = search needs
+sub-quick : tie.Need-sub-quick Inv-loop μ-loop
+sub-quick c = search needs
 
-part-read-line-start : tie.Need-part-read-line-start Inv-loop μ-loop
-part-read-line-start c = search needs
+part-quick-start : tie.Need-part-quick-start Inv-loop μ-loop
+part-quick-start c = search needs
 
-part-read-line-end : tie.Need-part-read-line-end Inv-loop μ-loop
-part-read-line-end c = c .line-end .ensures .1 (c .before .loop-test .taken) .1
+part-quick-end : tie.Need-part-quick-end Inv-loop μ-loop
+part-quick-end c = c .line-end .ensures .1 (c .before .loop-test .taken) .1
 
-read-line-requires : tie.Need-read-line-requires Inv-loop μ-loop
-read-line-requires c κs = search needs
-
-cast-place : tie.Need-cast-place Inv-loop μ-loop
-cast-place c = search needs
+quick-requires : tie.Need-quick-requires Inv-loop μ-loop
+quick-requires c κs = search needs
 
 add-n : tie.Need-add-n Inv-loop μ-loop
 add-n c = search needs
+
+write-order-requires : tie.Need-write-order-requires Inv-loop μ-loop
+write-order-requires c κs = search needs
+
+loop-less : tie.Need-loop-less Inv-loop μ-loop
+loop-less c = omega (arith, c .before .before .before .before .before .before .before .line-end .ensures .1 (c .before .before .before .before .before .before .before .before .loop-test .taken))
+
+loop-again : tie.Need-loop-again Inv-loop μ-loop
+loop-again c =
+    let e = c .before .before .before .before .before .before .before .line-end in
+    let g = e .ensures .1 (c .before .before .before .before .before .before .before .before .loop-test .taken) in
+    let l = c .before .before .before .before .before .before .before .before .before .loop in
+    let a = c .before .before .before .before .before .before .before .before .before .before .before .before .args in
+    let f = now (a .file) in
+    let cs = constants-at f (take (l .k) (l .places)) in
+    let w = c .before .before .before .write-order in
+    let t = w .ensures .0 (c .if1 .taken) in
+    let o = unpacked (c .before .before .before .before .before .quick .result) in
+    let d : Done = record { asm = record { len = w .result; jumps = l .asm .jumps; closed = l .asm .closed }; answer = Accepted } in
+    (search needs, search needs, search needs, search needs, c .before .before .buf .given ∙ l .inv .4, l .inv .5 ∙ line-goes (a .head) (l .n) cs _ (lines-of (drop (e .result) f)) _ (g .2) (state (l .asm) (l .labels) (l .jumps) (l .buf)) (Order o) (sym (c .before .before .before .before .before .quick .ensures (t .0))) o refl d (l .labels) (l .jumps) (w .last .1 .1 .0) (sym (t .1 (l .n + 1) (l .labels) (l .jumps))) refl)
+
+sub-line-says : tie.Need-sub-line-says Inv-loop μ-loop
+sub-line-says c = search needs
+
+part-line-says-start : tie.Need-part-line-says-start Inv-loop μ-loop
+part-line-says-start c = search needs
+
+part-line-says-end : tie.Need-part-line-says-end Inv-loop μ-loop
+part-line-says-end c = c .before .before .before .before .before .before .before .line-end .ensures .1 (c .before .before .before .before .before .before .before .before .loop-test .taken) .1
+
+line-says-requires : tie.Need-line-says-requires Inv-loop μ-loop
+line-says-requires c κs = c .before .before .before .before .before .before .quick .ensures
 
 enum-known-j : tie.Need-enum-known-j Inv-loop μ-loop
 enum-known-j c = search needs
@@ -60,39 +93,45 @@ refused-requires : tie.Need-refused-requires Inv-loop μ-loop
 refused-requires c κs = search needs
 
 same-length : tie.Need-same-length Inv-loop μ-loop
-same-length c = c .before .before .before .before .before .before .buf .given ∙ c .before .before .before .before .before .before .before .before .before .before .before .before .before .before .before .before .before .before .loop .inv .4
+same-length c = c .before .before .before .before .before .before .buf2 .given ∙ c .before .before .before .before .before .before .before .before .before .before .before .before .before .before .before .before .before .before .buf .given ∙ c .before .before .before .before .before .before .before .before .before .before .before .before .before .before .before .before .before .before .before .before .before .before .before .before .before .loop .inv .4
 
 returns : tie.Need-returns Inv-loop μ-loop
 returns c =
-    let r = c .before .before .before .before .before .before .before .before .before .before .before .before .before .before .read-line in
-    let e = c .before .before .before .before .before .before .before .before .before .before .before .before .before .before .before .before .line-end in
-    let g = e .ensures .1 (c .before .before .before .before .before .before .before .before .before .before .before .before .before .before .before .before .before .loop-test .taken) in
-    let l = c .before .before .before .before .before .before .before .before .before .before .before .before .before .before .before .before .before .before .loop in
-    let a = c .before .before .before .before .before .before .before .before .before .before .before .before .before .before .before .before .before .before .before .before .before .args in
+    let r = c .before .before .before .before .before .before .before .before .before .before .before .before .before .before .line-says in
+    let w = c .before .before .before .before .before .before .before .before .before .before .before .before .before .before .before .before .before .before .before .write-order in
+    let e = c .before .before .before .before .before .before .before .before .before .before .before .before .before .before .before .before .before .before .before .before .before .before .before .line-end in
+    let g = e .ensures .1 (c .before .before .before .before .before .before .before .before .before .before .before .before .before .before .before .before .before .before .before .before .before .before .before .before .loop-test .taken) in
+    let l = c .before .before .before .before .before .before .before .before .before .before .before .before .before .before .before .before .before .before .before .before .before .before .before .before .before .loop in
+    let a = c .before .before .before .before .before .before .before .before .before .before .before .before .before .before .before .before .before .before .before .before .before .before .before .before .before .before .before .before .args in
     let f = now (a .file) in
     let cs = constants-at f (take (l .k) (l .places)) in
-    let s = state (l .asm) (l .labels) (l .jumps) (l .buf) in
+    let u = w .ensures .1 (c .before .before .before .before .before .before .before .before .before .before .before .before .before .before .before .before .if1 .left) in
+    let i = rw (← u) at (l .inv .5) in
+    let s = state (l .asm) (l .labels) (l .jumps) (w .last .1 .1 .0) in
     let d = c .before .before .before .before .before .before .before .emit in
-    rw (c .refused .ensures) (line-stops (a .head) (l .n) cs _ (lines-of (drop (e .result) f)) _ (g .2) s (r .result) (r .ensures) _ (c .before .before .before .before .before .before .before .before .before .before .before .before .j .given .1) (d .result) _ _ _ (d .ensures) _ _ (c .before .before .w .given .1) ∙ sym (l .inv .5))
+    rw (c .refused .ensures) (line-stops (a .head) (l .n) cs _ (lines-of (drop (e .result) f)) _ (g .2) s (r .result) (r .ensures) _ (c .before .before .before .before .before .before .before .before .before .before .before .before .j .given .1) (d .result) _ _ _ (d .ensures) _ _ (c .before .before .w .given .1) ∙ sym i)
 
 enum-told : tie.Need-enum-told Inv-loop μ-loop
 enum-told c = search needs
 
-loop-less : tie.Need-loop-less Inv-loop μ-loop
-loop-less c = omega (arith, c .before .before .before .before .before .before .before .before .before .before .before .before .before .before .line-end .ensures .1 (c .before .before .before .before .before .before .before .before .before .before .before .before .before .before .before .loop-test .taken))
+loop-less-2 : tie.Need-loop-less-2 Inv-loop μ-loop
+loop-less-2 c = omega (arith, c .before .before .before .before .before .before .before .before .before .before .before .before .before .before .before .before .before .before .before .before .before .line-end .ensures .1 (c .before .before .before .before .before .before .before .before .before .before .before .before .before .before .before .before .before .before .before .before .before .before .loop-test .taken))
 
-loop-again : tie.Need-loop-again Inv-loop μ-loop
-loop-again c =
-    let r = c .before .before .before .before .before .before .before .before .before .before .before .before .read-line in
-    let e = c .before .before .before .before .before .before .before .before .before .before .before .before .before .before .line-end in
-    let g = e .ensures .1 (c .before .before .before .before .before .before .before .before .before .before .before .before .before .before .before .loop-test .taken) in
-    let l = c .before .before .before .before .before .before .before .before .before .before .before .before .before .before .before .before .loop in
-    let a = c .before .before .before .before .before .before .before .before .before .before .before .before .before .before .before .before .before .before .before .args in
+loop-again-2 : tie.Need-loop-again-2 Inv-loop μ-loop
+loop-again-2 c =
+    let r = c .before .before .before .before .before .before .before .before .before .before .before .before .line-says in
+    let w = c .before .before .before .before .before .before .before .before .before .before .before .before .before .before .before .before .before .write-order in
+    let e = c .before .before .before .before .before .before .before .before .before .before .before .before .before .before .before .before .before .before .before .before .before .line-end in
+    let g = e .ensures .1 (c .before .before .before .before .before .before .before .before .before .before .before .before .before .before .before .before .before .before .before .before .before .before .loop-test .taken) in
+    let l = c .before .before .before .before .before .before .before .before .before .before .before .before .before .before .before .before .before .before .before .before .before .before .before .loop in
+    let a = c .before .before .before .before .before .before .before .before .before .before .before .before .before .before .before .before .before .before .before .before .before .before .before .before .before .before .args in
     let f = now (a .file) in
     let cs = constants-at f (take (l .k) (l .places)) in
-    let s = state (l .asm) (l .labels) (l .jumps) (l .buf) in
+    let u = w .ensures .1 (c .before .before .before .before .before .before .before .before .before .before .before .before .before .before .if1 .left) in
+    let i = rw (← u) at (l .inv .5) in
+    let s = state (l .asm) (l .labels) (l .jumps) (w .last .1 .1 .0) in
     let d = c .before .before .before .before .before .emit in
-    (search needs, search needs, search needs, search needs, search needs, l .inv .5 ∙ line-goes (a .head) (l .n) cs _ (lines-of (drop (e .result) f)) _ (g .2) s (r .result) (r .ensures) _ (c .before .before .before .before .before .before .before .before .before .before .j .given .1) (d .result) _ _ _ (d .ensures) (c .enum-told .given .1))
+    (search needs, search needs, search needs, search needs, c .before .before .before .before .buf2 .given ∙ c .before .before .before .before .before .before .before .before .before .before .before .before .before .before .before .before .buf .given ∙ l .inv .4, i ∙ line-goes (a .head) (l .n) cs _ (lines-of (drop (e .result) f)) _ (g .2) s (r .result) (r .ensures) _ (c .before .before .before .before .before .before .before .before .before .before .j .given .1) (d .result) _ _ _ (d .ensures) (c .enum-told .given .1))
 
 enum-told-2 : tie.Need-enum-told-2 Inv-loop μ-loop
 enum-told-2 c = search needs
@@ -101,20 +140,26 @@ refused-requires-2 : tie.Need-refused-requires-2 Inv-loop μ-loop
 refused-requires-2 c κs = search needs
 
 same-length-2 : tie.Need-same-length-2 Inv-loop μ-loop
-same-length-2 c = search needs
+same-length-2 c = c .before .before .before .before .before .before .before .before .buf .given ∙ c .before .before .before .before .before .before .before .before .before .before .before .before .before .before .before .loop .inv .4
 
 returns-2 : tie.Need-returns-2 Inv-loop μ-loop
 returns-2 c =
-    let r = c .before .before .before .before .read-line in
-    let e = c .before .before .before .before .before .before .line-end in
-    let g = e .ensures .1 (c .before .before .before .before .before .before .before .loop-test .taken) in
-    let l = c .before .before .before .before .before .before .before .before .loop in
-    let a = c .before .before .before .before .before .before .before .before .before .before .before .args in
+    let r = c .before .before .before .before .line-says in
+    let w = c .before .before .before .before .before .before .before .before .before .write-order in
+    let e = c .before .before .before .before .before .before .before .before .before .before .before .before .before .line-end in
+    let g = e .ensures .1 (c .before .before .before .before .before .before .before .before .before .before .before .before .before .before .loop-test .taken) in
+    let l = c .before .before .before .before .before .before .before .before .before .before .before .before .before .before .before .loop in
+    let a = c .before .before .before .before .before .before .before .before .before .before .before .before .before .before .before .before .before .before .args in
     let f = now (a .file) in
     let cs = constants-at f (take (l .k) (l .places)) in
-    let s = state (l .asm) (l .labels) (l .jumps) (l .buf) in
-    let w : length cs ≡ 1008 = places-length f (l .places) (l .k) (omega arith) ∙ c .before .if1 .taken in
-    rw (c .refused2 .ensures) (line-full (a .head) (l .n) cs _ (lines-of (drop (e .result) f)) _ (g .2) s (r .result) (r .ensures) _ (c .before .before .enum-told2 .given .1) w ∙ sym (l .inv .5))
+    let u = w .ensures .1 (c .before .before .before .before .before .before .if1 .left) in
+    let i = rw (← u) at (l .inv .5) in
+    let s = state (l .asm) (l .labels) (l .jumps) (w .last .1 .1 .0) in
+    let y : length cs ≡ 1008 = places-length f (l .places) (l .k) (omega arith) ∙ c .before .if2 .taken in
+    rw (c .refused2 .ensures) (line-full (a .head) (l .n) cs _ (lines-of (drop (e .result) f)) _ (g .2) s (r .result) (r .ensures) _ (c .before .before .enum-told2 .given .1) y ∙ sym i)
+
+cast-places : tie.Need-cast-places Inv-loop μ-loop
+cast-places c = search needs
 
 mul-places : tie.Need-mul-places Inv-loop μ-loop
 mul-places c = search needs
@@ -125,22 +170,25 @@ array-write-places c = search needs
 add-k : tie.Need-add-k Inv-loop μ-loop
 add-k c = search needs
 
-loop-less-2 : tie.Need-loop-less-2 Inv-loop μ-loop
-loop-less-2 c = omega (arith, c .before .before .before .before .before .line-end .ensures .1 (c .before .before .before .before .before .before .loop-test .taken))
+loop-less-3 : tie.Need-loop-less-3 Inv-loop μ-loop
+loop-less-3 c = omega (arith, c .before .before .before .before .before .before .before .before .before .before .before .before .line-end .ensures .1 (c .before .before .before .before .before .before .before .before .before .before .before .before .before .loop-test .taken))
 
-loop-again-2 : tie.Need-loop-again-2 Inv-loop μ-loop
-loop-again-2 c =
-    let r = c .before .before .before .read-line in
-    let e = c .before .before .before .before .before .line-end in
-    let g = e .ensures .1 (c .before .before .before .before .before .before .loop-test .taken) in
-    let l = c .before .before .before .before .before .before .before .loop in
-    let a = c .before .before .before .before .before .before .before .before .before .before .args in
+loop-again-3 : tie.Need-loop-again-3 Inv-loop μ-loop
+loop-again-3 c =
+    let r = c .before .before .before .line-says in
+    let w = c .before .before .before .before .before .before .before .before .write-order in
+    let e = c .before .before .before .before .before .before .before .before .before .before .before .before .line-end in
+    let g = e .ensures .1 (c .before .before .before .before .before .before .before .before .before .before .before .before .before .loop-test .taken) in
+    let l = c .before .before .before .before .before .before .before .before .before .before .before .before .before .before .loop in
+    let a = c .before .before .before .before .before .before .before .before .before .before .before .before .before .before .before .before .before .args in
     let f = now (a .file) in
     let cs = constants-at f (take (l .k) (l .places)) in
-    let s = state (l .asm) (l .labels) (l .jumps) (l .buf) in
+    let u = w .ensures .1 (c .before .before .before .before .before .if1 .left) in
+    let i = rw (← u) at (l .inv .5) in
+    let s = state (l .asm) (l .labels) (l .jumps) (w .last .1 .1 .0) in
     let j = c .before .enum-told2 .given .1 in
-    let w : length cs < 1008 = omega (arith, places-length f (l .places) (l .k) (omega arith)) in
-    (search needs, search needs, search needs, simp length-set (l .inv .3), search needs, l .inv .5 ∙ line-constant (a .head) (l .n) cs _ (lines-of (drop (e .result) f)) _ (g .2) s (r .result) (r .ensures) _ j w ∙ rw (place-kept f (l .places) (l .k) (l .at) _ (omega arith) (rw j at (said-at f (l .at) _ _ (g .2) (r .result) (r .ensures)))))
+    let y : length cs < 1008 = omega (arith, places-length f (l .places) (l .k) (omega arith)) in
+    (search needs, search needs, search needs, simp length-set (l .inv .3), c .before .before .before .before .before .before .before .buf .given ∙ l .inv .4, i ∙ line-constant (a .head) (l .n) cs _ (lines-of (drop (e .result) f)) _ (g .2) s (r .result) (r .ensures) _ j y ∙ rw (place-kept f (l .places) (l .k) (l .at) _ (omega arith) (rw j at (said-at f (l .at) _ _ (g .2) (r .result) (r .ensures)))))
 
 enum-told-3 : tie.Need-enum-told-3 Inv-loop μ-loop
 enum-told-3 c = search needs
@@ -149,19 +197,22 @@ refused-requires-3 : tie.Need-refused-requires-3 Inv-loop μ-loop
 refused-requires-3 c κs = search needs
 
 same-length-3 : tie.Need-same-length-3 Inv-loop μ-loop
-same-length-3 c = search needs
+same-length-3 c = c .before .before .before .before .before .before .before .buf .given ∙ c .before .before .before .before .before .before .before .before .before .before .before .before .before .before .loop .inv .4
 
 returns-3 : tie.Need-returns-3 Inv-loop μ-loop
 returns-3 c =
-    let r = c .before .before .before .read-line in
-    let e = c .before .before .before .before .before .line-end in
-    let g = e .ensures .1 (c .before .before .before .before .before .before .loop-test .taken) in
-    let l = c .before .before .before .before .before .before .before .loop in
-    let a = c .before .before .before .before .before .before .before .before .before .before .args in
+    let r = c .before .before .before .line-says in
+    let w = c .before .before .before .before .before .before .before .before .write-order in
+    let e = c .before .before .before .before .before .before .before .before .before .before .before .before .line-end in
+    let g = e .ensures .1 (c .before .before .before .before .before .before .before .before .before .before .before .before .before .loop-test .taken) in
+    let l = c .before .before .before .before .before .before .before .before .before .before .before .before .before .before .loop in
+    let a = c .before .before .before .before .before .before .before .before .before .before .before .before .before .before .before .before .before .args in
     let f = now (a .file) in
     let cs = constants-at f (take (l .k) (l .places)) in
-    let s = state (l .asm) (l .labels) (l .jumps) (l .buf) in
-    rw (c .refused3 .ensures) (line-head (a .head) (l .n) cs _ (lines-of (drop (e .result) f)) _ (g .2) s (r .result) (r .ensures) _ (c .before .enum-told3 .given .1) ∙ sym (l .inv .5))
+    let u = w .ensures .1 (c .before .before .before .before .before .if1 .left) in
+    let i = rw (← u) at (l .inv .5) in
+    let s = state (l .asm) (l .labels) (l .jumps) (w .last .1 .1 .0) in
+    rw (c .refused3 .ensures) (line-head (a .head) (l .n) cs _ (lines-of (drop (e .result) f)) _ (g .2) s (r .result) (r .ensures) _ (c .before .enum-told3 .given .1) ∙ sym i)
 
 enum-known-j-2 : tie.Need-enum-known-j-2 Inv-loop μ-loop
 enum-known-j-2 c = search needs
@@ -170,19 +221,22 @@ refused-requires-4 : tie.Need-refused-requires-4 Inv-loop μ-loop
 refused-requires-4 c κs = search needs
 
 same-length-4 : tie.Need-same-length-4 Inv-loop μ-loop
-same-length-4 c = search needs
+same-length-4 c = c .before .before .before .before .before .before .before .before .buf .given ∙ c .before .before .before .before .before .before .before .before .before .before .before .before .before .before .before .loop .inv .4
 
 returns-4 : tie.Need-returns-4 Inv-loop μ-loop
 returns-4 c =
-    let r = c .before .before .before .before .read-line in
-    let e = c .before .before .before .before .before .before .line-end in
-    let g = e .ensures .1 (c .before .before .before .before .before .before .before .loop-test .taken) in
-    let l = c .before .before .before .before .before .before .before .before .loop in
-    let a = c .before .before .before .before .before .before .before .before .before .before .before .args in
+    let r = c .before .before .before .before .line-says in
+    let w = c .before .before .before .before .before .before .before .before .before .write-order in
+    let e = c .before .before .before .before .before .before .before .before .before .before .before .before .before .line-end in
+    let g = e .ensures .1 (c .before .before .before .before .before .before .before .before .before .before .before .before .before .before .loop-test .taken) in
+    let l = c .before .before .before .before .before .before .before .before .before .before .before .before .before .before .before .loop in
+    let a = c .before .before .before .before .before .before .before .before .before .before .before .before .before .before .before .before .before .before .args in
     let f = now (a .file) in
     let cs = constants-at f (take (l .k) (l .places)) in
-    let s = state (l .asm) (l .labels) (l .jumps) (l .buf) in
-    rw (c .refused4 .ensures) (line-refused (a .head) (l .n) cs _ (lines-of (drop (e .result) f)) _ (g .2) s (r .result) (r .ensures) _ (c .before .before .j2 .given .1) ∙ sym (l .inv .5))
+    let u = w .ensures .1 (c .before .before .before .before .before .before .if1 .left) in
+    let i = rw (← u) at (l .inv .5) in
+    let s = state (l .asm) (l .labels) (l .jumps) (w .last .1 .1 .0) in
+    rw (c .refused4 .ensures) (line-refused (a .head) (l .n) cs _ (lines-of (drop (e .result) f)) _ (g .2) s (r .result) (r .ensures) _ (c .before .before .j2 .given .1) ∙ sym i)
 
 unwind-requires : tie.Need-unwind-requires Inv-loop μ-loop
 unwind-requires c κs = search needs
@@ -191,7 +245,7 @@ leave-requires : tie.Need-leave-requires Inv-loop μ-loop
 leave-requires c κs = (c .before .before .before .before .before .before .before .before .before .before .before .loop .inv .2, c .before .before .before .before .before .before .before .before .before .before .before .loop .inv .3, c .before .before .before .before .before .before .unwind .ensures .1)
 
 same-length-5 : tie.Need-same-length-5 Inv-loop μ-loop
-same-length-5 c = c .before .buf3 .given ∙ c .before .before .before .before .before .before .before .before .buf2 .given ∙ c .before .before .before .before .before .before .before .before .before .before .before .before .before .before .loop .inv .4
+same-length-5 c = c .before .buf4 .given ∙ c .before .before .before .before .before .before .before .before .buf3 .given ∙ c .before .before .before .before .before .before .before .before .before .before .before .before .before .before .loop .inv .4
 
 returns-5 : tie.Need-returns-5 Inv-loop μ-loop
 returns-5 c =
@@ -210,12 +264,18 @@ lines-spec =
     μ-loop
     loop-holds
     line-end-requires
-    sub-read-line
-    part-read-line-start
-    part-read-line-end
-    read-line-requires
-    cast-place
+    sub-quick
+    part-quick-start
+    part-quick-end
+    quick-requires
     add-n
+    write-order-requires
+    loop-less
+    loop-again
+    sub-line-says
+    part-line-says-start
+    part-line-says-end
+    line-says-requires
     enum-known-j
     emit-requires
     enum-known-w
@@ -223,17 +283,18 @@ lines-spec =
     same-length
     returns
     enum-told
-    loop-less
-    loop-again
+    loop-less-2
+    loop-again-2
     enum-told-2
     refused-requires-2
     same-length-2
     returns-2
+    cast-places
     mul-places
     array-write-places
     add-k
-    loop-less-2
-    loop-again-2
+    loop-less-3
+    loop-again-3
     enum-told-3
     refused-requires-3
     same-length-3
