@@ -59,18 +59,18 @@ fn good_label(e: u64, len: usize) -> bool
     p % 4 == 0
 }
 
-// None of the eight labels from i on holds anything.
-fn eight_unset(labels: &[u64; 2039], i: usize) -> bool
-    requires { ⌜ i < 2032 ⌝ }
-    ensures { λ r. ⌜ (r ≡ true → (j : ℕ) → j < 8 → getD (now (labels .entry)) (i + j) 0 ≡ 0) ⌝ }
+// The 64 labels from i on in one number, which is 0 where none holds anything.
+fn joined(labels: &[u64; 2039], i: usize) -> u64
+    requires { ⌜ i ≤ 1920 ⌝ }
+    ensures { λ r. ⌜ (r ≡ 0 → (j : ℕ) → j < 64 → getD (now (labels .entry)) (i + j) 0 ≡ 0) ⌝ }
 {
-    let a = labels[i] | labels[i + 1];
-    let b = labels[i + 2] | labels[i + 3];
-    let c = labels[i + 4] | labels[i + 5];
-    let d = labels[i + 6] | labels[i + 7];
-    let e = a | b;
-    let f = c | d;
-    e | f == 0
+    let mut all = 0;
+    let mut j = 0;
+    while j < 64 {
+        all = all | labels[i + j];
+        j += 1;
+    }
+    all
 }
 
 // The first label from `from` on that is not good, or n.
@@ -90,22 +90,22 @@ fn first_from(labels: &[u64; 2039], len: usize, from: usize, n: usize) -> usize
     i
 }
 
-// How many labels stand before the first that is not good. Most are unset: looked at by eights.
+// How many labels stand before the first that is not good. Most are unset: looked at 64 at a time.
 fn first_label(labels: &[u64; 2039], len: usize) -> usize
     ensures { λ r. ⌜ (r ≡ first (λ i. not (label-good len (getD (now (labels .entry)) i 0))) 0 2039) × (r ≤ 2039) ⌝ }
 {
     let mut i = 0;
-    while i < 2032 {
-        let u = eight_unset(labels, i);
-        if u {
-            i += 8;
+    while i < 1984 {
+        let all = joined(labels, i);
+        if all == 0 {
+            i += 64;
             continue;
         }
-        let k = first_from(labels, len, i, i + 8);
-        if k < i + 8 {
+        let k = first_from(labels, len, i, i + 64);
+        if k < i + 64 {
             return k;
         }
-        i += 8;
+        i += 64;
     }
     first_from(labels, len, i, 2039)
 }

@@ -9,7 +9,7 @@ use mathlib.Core.List.{List}
 use lib.ListN.{getD}
 use Rattle.finish.specs.Finish.{first, label-good}
 use Rattle.finish.proofs.First.{first-past, first-within}
-use Rattle.finish.proofs.Unset.{eight-good}
+use Rattle.finish.proofs.Unset.{block-good}
 use Rattle.finish.proofs.first_label.Statement.{statement}
 use Rattle.finish.proofs.first_label.Tie as tie
 
@@ -17,16 +17,16 @@ abbrev bad : List ℕ → ℕ → ℕ → Bool
 bad labels len i = not (label-good len (getD labels i 0))
 
 abbrev Inv-loop : tie.InvT-loop
-Inv-loop labels len i₀ i = (i ≤ 2032) × (i % 8 ≡ 0) × (first (bad labels len) 0 2039 ≡ i + first (bad labels len) i (2039 - i))
+Inv-loop labels len i₀ i = (i ≤ 1984) × (i % 64 ≡ 0) × (first (bad labels len) 0 2039 ≡ i + first (bad labels len) i (2039 - i))
 
 abbrev μ-loop : tie.MeasureT-loop
-μ-loop labels len i₀ i = 2032 - i
+μ-loop labels len i₀ i = 1984 - i
 
 loop-holds : tie.Need-loop-holds Inv-loop μ-loop
 loop-holds c = (omega arith, omega arith, sym (zero-add _))
 
-eight-unset-requires : tie.Need-eight-unset-requires Inv-loop μ-loop
-eight-unset-requires c κs = search needs
+joined-requires : tie.Need-joined-requires Inv-loop μ-loop
+joined-requires c κs = omega arith
 
 add-i : tie.Need-add-i Inv-loop μ-loop
 add-i c = search needs
@@ -39,8 +39,8 @@ loop-again c =
     let l = c .before .before .before in
     let a = l .before .args in
     let i = l .loop .i in
-    let f = eight-good (now (a .labels)) (a .len) i (c .before .eight-unset .ensures (c .if1 .taken)) in
-    let e = first-past (bad (now (a .labels)) (a .len)) i (i + 8) 2039 (omega arith) (omega arith) f in
+    let f = block-good (now (a .labels)) (a .len) i (c .before .joined .ensures (c .if1 .taken)) in
+    let e = first-past (bad (now (a .labels)) (a .len)) i (i + 64) 2039 (omega arith) (omega arith) f in
     (omega arith, omega arith, l .loop .inv .2 ∙ e)
 
 add-first-from : tie.Need-add-first-from Inv-loop μ-loop
@@ -58,7 +58,7 @@ returns c =
     let a = l .before .args in
     let i = l .loop .i in
     let r = c .before .first-from .ensures in
-    let e = first-within (bad (now (a .labels)) (a .len)) i (i + 8) 2039 (omega arith) (omega arith) (omega (arith, r .0)) in
+    let e = first-within (bad (now (a .labels)) (a .len)) i (i + 64) 2039 (omega arith) (omega arith) (omega (arith, r .0)) in
     (omega (arith, e, r .0, l .loop .inv .2), omega arith)
 
 add-i-2 : tie.Need-add-i-2 Inv-loop μ-loop
@@ -72,7 +72,7 @@ loop-again-2 c =
     let l = c .before .before .before .before .before in
     let a = l .before .args in
     let i = l .loop .i in
-    let e = first-past (bad (now (a .labels)) (a .len)) i (i + 8) 2039 (omega arith) (omega arith) (omega (arith, c .before .first-from .ensures .0)) in
+    let e = first-past (bad (now (a .labels)) (a .len)) i (i + 64) 2039 (omega arith) (omega arith) (omega (arith, c .before .first-from .ensures .0)) in
     (omega arith, omega arith, l .loop .inv .2 ∙ e)
 
 first-from-requires-2 : tie.Need-first-from-requires-2 Inv-loop μ-loop
@@ -88,7 +88,7 @@ first-label-spec =
     Inv-loop
     μ-loop
     loop-holds
-    eight-unset-requires
+    joined-requires
     add-i
     loop-less
     loop-again
