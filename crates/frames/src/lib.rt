@@ -10,7 +10,6 @@ ghost use Rattle.order.specs.Count.{cells};
 ghost use Rattle.isa.specs.Instr.{I, FLD};
 ghost use Rattle.assembler.specs.Bytes.{room};
 ghost use Rattle.assembler.specs.Label.{is-set};
-ghost use Rattle.assembler.specs.Plan.{pushed};
 ghost use Rattle.assembler.specs.State.{state, outcome, told, fits};
 ghost use Rattle.assembler.specs.Put.{words, jumps, verdict, settled, put};
 ghost use Rattle.accesses.specs.Code.{li-code, sub-stack-code, allocate-stack-code};
@@ -178,37 +177,39 @@ fn cell_of(r: u32) -> u32
     r - 12
 }
 
-// One save more, or one reload, if the register is preserved.
-fn with_used(p: Plan, r: u32, back: bool) -> Plan
-    ensures { λ q. ⌜ q ≡ cond (is-preserved r) (pushed p (answer-of (cond back reload save r))) p ⌝ }
+// The word of a preserved register's save, or of its reload.
+fn used_word(r: u32, back: bool) -> u32
+    requires { ⌜ is-preserved r ≡ true ⌝ }
+    ensures { λ w. ⌜ answer-of (cond back reload save r) ≡ Encoded.Word w ⌝ }
 {
-    let b = is_preserved(r);
-    if b {
-        let n = 8 * cell_of(r);
-        if back {
-            return assembler::push(p, encoder::fld(r, STACK, n as i32));
-        }
-        return assembler::push(p, encoder::fsd(r, STACK, n as i32));
+    let n = 8 * cell_of(r);
+    if back {
+        return accesses::word(encoder::fld(r, STACK, n as i32));
     }
-    p
+    accesses::word(encoder::fsd(r, STACK, n as i32))
 }
 
 // The saves of a mask or its reloads, upward from its lowest set bit.
 fn used_plan(mask: u32, back: bool) -> Plan
     ensures { λ q. ⌜ q ≡ plan-of (map (cond back reload save) (saved-of mask)) ⌝ }
 {
-    let mut q = assembler::no_plan();
+    let mut w = [0u32; 12];
+    let mut n: usize = 0;
     let mut p: u32 = 0;
     let mut r = mask;
     while r != 0 {
         let t = u32::trailing_zeros(r);
         let k = p + t;
-        q = with_used(q, k, back);
+        let b = is_preserved(k);
+        if b {
+            w[n] = used_word(k, back);
+            n += 1;
+        }
         let h = r >> t;
         r = h / 2;
         p = k + 1;
     }
-    q
+    Plan { n, fault: 0, w }
 }
 
 // How many registers a mask saves: f8, f9 and f18..f27 are its bits.

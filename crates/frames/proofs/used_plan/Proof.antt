@@ -1,73 +1,141 @@
 use borrow.Author.Needs.{needs}
+use borrow.Author.Tests.{lt-ltb}
 use native.Mathlib.Omega.{arith}
 use mathlib.Core.Path.{_≡_, sym, ap, _∙_, subst}
-use mathlib.Core.Bool.{cond}
-use mathlib.Core.List.{List, map}
-use Prim.Native.Nat.{ℕ, suc, _+_, _-_, _^_, _≤_, _<_}
+use mathlib.Core.Logic.{⊎-elim}
+use mathlib.Core.Bool.{cond, true, false}
+use mathlib.Core.List.{List, _∷_, map}
+use Prim.Native.Nat.{ℕ, suc, _+_, _-_, _^_, _/_, _≤_, _<_}
 use lib.Count.{trailingZeros}
-use Rattle.accesses.specs.Plans.{answer-of, pushes-from, plan-of}
+use lib.ListN.{length, set}
+use Rattle.isa.specs.Instr.{Instr}
+use Rattle.encoder.specs.declared.Encoded.the-variants.{Word}
+use Rattle.assembler.specs.Plan.{pushed}
+use Rattle.assembler.specs.declared.Plan.{Plan}
+use Rattle.accesses.specs.Plans.{answer-of, plan-of}
 use Rattle.order.specs.Mask.{chosen, is-preserved, saved}
 use Rattle.framing.specs.Items.{save, reload}
 use Rattle.frames.proofs.Digits.{digits, First, first, same-place, no-digits, walked}
-use Rattle.frames.proofs.Pushes.{one-more, all-pushed}
+use Rattle.frames.proofs.Pushes.{one-more, all-pushed, saved-few}
 use Rattle.frames.proofs.used_plan.Statement.{statement}
 use Rattle.frames.proofs.used_plan.Tie as tie
 
+abbrev so-far : (w : List ℕ) (n : ℕ) → Plan
+so-far w n = record { n = n; fault = 0; w = w }
+
+-- n words of the plan q stand; those of the list's preserved registers are to come, and have room
+abbrev Left : Plan → (ℕ → Instr) → (w : List ℕ) (n : ℕ) → List ℕ → Type 0
+Left q f w n rs = (n + length (chosen is-preserved rs) ≤ 12) × (q ≡ all-pushed f (so-far w n) rs)
+
+module _ (q : Plan) (f : ℕ → Instr) (w : List ℕ) (n r : ℕ) (rs ds : List ℕ) (d : ds ≡ r ∷ rs) (l : Left q f w n ds) where
+  first-pushed : q ≡ all-pushed f (cond (is-preserved r) (pushed (so-far w n) (answer-of (f r))) (so-far w n)) rs
+  first-pushed = l .1 ∙ ap (all-pushed f (so-far w n)) d ∙ one-more f (so-far w n) r rs
+
+  passed : is-preserved r ≡ false → Left q f w n rs
+  passed e = (rw (d, e) at (l .0), first-pushed ∙ rw e)
+
+  module _ (e : is-preserved r ≡ true) where
+    has-room : n < 12
+    has-room = let h = rw (d, e) at (l .0) in omega arith
+
+    added : (x : ℕ) → answer-of (f r) ≡ Word x → Left q f (set w n x) (n + 1) rs
+    unfolding pushed
+    added x a =
+        let h = rw (d, e) at (l .0) in
+        (omega arith, first-pushed ∙ rw (e, a, lt-ltb n 12 has-room))
+
+-- the lowest set bit of r, whose bits stand for registers from p on, and the rest above it
+abbrev Lowest : ℕ → ℕ → ℕ → Type 0
+Lowest p r t = (p + t + 1 ≤ 32) × (r / 2 ^ t / 2 < 2 ^ (32 - (p + t + 1))) × (digits (32 - p) p r ≡ (p + t) ∷ digits (32 - (p + t + 1)) (p + t + 1) (r / 2 ^ t / 2))
+
+lowest : (p r : ℕ) → p ≤ 32 → 0 < r → r < 2 ^ (32 - p) → Lowest p r (trailingZeros 32 r)
+lowest p r h pos l =
+    let t = trailingZeros 32 r in
+    let s = subst (First (32 - p) p r) (sym (same-place (32 - p) 32 r (omega arith) pos l)) (first (32 - p) p r pos l) in
+    let d : 32 - (p + t + 1) ≡ 32 - p - suc t = omega (arith, s .0) in
+    (omega (arith, s .0), rw d (s .1), rw d (s .2))
+
 abbrev Inv-loop : tie.InvT-loop
-Inv-loop mask back q₀ p₀ r₀ q p r = (p ≤ 32) × (r < 2 ^ (32 - p)) × (plan-of (map (cond back reload save) (saved mask)) ≡ all-pushed (cond back reload save) q (digits (32 - p) p r))
+Inv-loop mask back w₀ n₀ p₀ r₀ w n p r = (p ≤ 32) × (r < 2 ^ (32 - p)) × Left (plan-of (map (cond back reload save) (saved mask))) (cond back reload save) w n (digits (32 - p) p r)
 
 abbrev μ-loop : tie.MeasureT-loop
-μ-loop mask back q₀ p₀ r₀ q p r = 32 - p
+μ-loop mask back w₀ n₀ p₀ r₀ w n p r = 32 - p
 
-step : (c : tie.In-loop Inv-loop μ-loop) → First (32 - c .before .loop .p) (c .before .loop .p) (c .before .loop .r) (trailingZeros 32 (c .before .loop .r))
-step c =
-    let l = c .before .loop in
-    let pos : 0 < l .r = omega arith in
-    subst (First (32 - l .p) (l .p) (l .r)) (sym (same-place (32 - l .p) 32 (l .r) (omega arith) pos (l .inv .1))) (first (32 - l .p) (l .p) (l .r) pos (l .inv .1))
-
-no-plan-requires : tie.Need-no-plan-requires Inv-loop μ-loop
-no-plan-requires c κs = search needs
+step : (c : tie.In-loop Inv-loop μ-loop) → Lowest (c .before .loop .p) (c .before .loop .r) (trailingZeros 32 (c .before .loop .r))
+step c = let l = c .before .loop in lowest (l .p) (l .r) (l .inv .0) (omega arith) (l .inv .1)
 
 loop-holds : tie.Need-loop-holds Inv-loop μ-loop
 unfolding all-pushed
-loop-holds c = (
-  search needs,
-  c .before .fits .mask .fits,
-  ap (λ (rs : List ℕ). plan-of (map (cond (c .before .args .back) reload save) rs)) (sym (walked (c .before .args .mask))) ∙ ap (λ q. pushes-from q (map answer-of (map (cond (c .before .args .back) reload save) (chosen is-preserved (digits 32 0 (c .before .args .mask)))))) (sym (c .no-plan .ensures)),
-)
+loop-holds c =
+    let e = walked (c .args .mask) in (
+      search needs,
+      c .fits .mask .fits,
+      (rw e (omega (arith, saved-few (c .args .mask))), rw e),
+    )
 
 add-k : tie.Need-add-k Inv-loop μ-loop
 add-k c = omega (arith, step c .0)
 
-with-used-requires : tie.Need-with-used-requires Inv-loop μ-loop
-with-used-requires c κs = search needs
+is-preserved-requires : tie.Need-is-preserved-requires Inv-loop μ-loop
+is-preserved-requires c κs = search needs
+
+used-word-requires : tie.Need-used-word-requires Inv-loop μ-loop
+used-word-requires c κs = sym (c .before .is-preserved .ensures) ∙ c .if1 .taken
+
+mul-w : tie.Need-mul-w Inv-loop μ-loop
+mul-w c = omega arith
+
+array-write-w : tie.Need-array-write-w Inv-loop μ-loop
+array-write-w c =
+    let b = c .before .before .before in
+    has-room _ _ _ _ _ _ _ (step b .2) (b .before .loop .inv .2) (sym (c .before .before .is-preserved .ensures) ∙ c .before .if1 .taken)
+
+add-n : tie.Need-add-n Inv-loop μ-loop
+add-n c = omega arith
 
 shr-h : tie.Need-shr-h Inv-loop μ-loop
-shr-h c = omega (arith, step (c .before) .0)
+shr-h c = omega (arith, step (c .before .before) .0)
 
 add-p : tie.Need-add-p Inv-loop μ-loop
-add-p c = omega (arith, step (c .before) .0)
+add-p c = omega (arith, step (c .before .before) .0)
 
 loop-less : tie.Need-loop-less Inv-loop μ-loop
-loop-less c = omega (arith, step (c .before) .0)
+loop-less c = omega (arith, step (c .before .before) .0)
 
 loop-again : tie.Need-loop-again Inv-loop μ-loop
 loop-again c =
-    let l = c .before .before .loop in
-    let t = trailingZeros 32 (l .r) in
-    let f = cond (c .before .before .before .before .args .back) reload save in
-    let st = step (c .before) in
-    let d : 32 - (l .p + t + 1) ≡ 32 - l .p - suc t = omega (arith, st .0) in (
-      omega (arith, st .0),
-      rw d (st .1),
-      l .inv .2 ∙ ap (all-pushed f (l .q)) (st .2) ∙ one-more f (l .q) (l .p + t) _ ∙ rw (d, c .with-used .ensures),
+    let b = c .before .before in
+    let l = b .before .loop in
+    let e = c .before .is-preserved .ensures in (
+      step b .0,
+      step b .1,
+      ⊎-elim
+          (λ t. rw (t .2, t .3) (added _ _ _ _ _ _ _ (step b .2) (l .inv .2) (sym e ∙ t .0 .taken) _ (t .1 .ensures)))
+          (λ t. rw (t .1, t .2) (passed _ _ _ _ _ _ _ (step b .2) (l .inv .2) (sym e ∙ t .0 .left)))
+          (c .if1 .came),
     )
 
 returns : tie.Need-returns Inv-loop μ-loop
 unfolding all-pushed
 returns c =
     let l = c .before .loop in
-    sym (l .inv .2 ∙ rw (c .loop-test .left, no-digits))
+    sym (l .inv .2 .1 ∙ rw (c .loop-test .left, no-digits))
 
 pub used-plan-spec : {M : Type 1} → statement M
-used-plan-spec = tie.close (tie.spec Inv-loop μ-loop no-plan-requires loop-holds add-k with-used-requires shr-h add-p loop-less loop-again returns)
+used-plan-spec =
+    tie.close
+    (tie.spec
+    Inv-loop
+    μ-loop
+    loop-holds
+    add-k
+    is-preserved-requires
+    used-word-requires
+    mul-w
+    array-write-w
+    add-n
+    shr-h
+    add-p
+    loop-less
+    loop-again
+    returns)
