@@ -1,36 +1,18 @@
 -- Signed numbers that are handed on: a local is held as its bits and read back. Assumes nothing.
-use mathlib.Core.Path.{_≡_, refl, sym, ap, _∙_}
+use mathlib.Core.Path.{_≡_, ap, _∙_}
 use Prim.Native.Nat.{ℕ, zero, suc, _<_, _^_}
 use native.Mathlib.Omega.{arith}
-use lib.IntN.{ℤ, pos, negsuc, negℤ, _-ℤ_, +ℤ-idl}
+use lib.IntN.{ℤ, pos, negℤ, _-ℤ_, +ℤ-idl}
 use lib.Signed.{mag}
 use mir.Syntax.{w32}
-use mir.Val.{SFits, toZ, ofZ}
-use mir.ValLaws.{toZ-ofZ}
-use Rattle.isa.specs.Immediate.{hi, lo}
+use mir.Val.{SFits, toZ}
 use Rattle.isa.specs.Instr.{Instr}
-use Rattle.isa.proofs.HiLo.{lo-fits}
 use Rattle.encoder.specs.Answer.{told, encoded}
 use Rattle.encoder.specs.declared.Encoded.{Encoded}
+use Rattle.encoder.proofs.ReadBack.{sfits}
+pub use Rattle.encoder.proofs.ReadBack.{back, back-hi, back-lo, back-small}
 use Rattle.accesses.specs.Plans.{answer-of}
 use Rattle.accesses.proofs.Collect.{answered}
-
-sfits : (z : ℤ) → mag z < 2 ^ 31 → SFits w32 z
-sfits (pos n) h = record { sfits = h }
-sfits (negsuc n) h = record { sfits = h }
-
--- z is read back as y
-pub back : (z y : ℤ) → z ≡ y → mag y < 2 ^ 31 → toZ w32 (ofZ w32 z) ≡ y
-back z y e h = rw e (toZ-ofZ w32 y (sfits y h))
-
-pub back-hi : (z : ℤ) (x : ℕ) → z ≡ pos (hi x) → toZ w32 (ofZ w32 z) ≡ pos (hi x)
-back-hi z x e = back z (pos (hi x)) e (omega arith)
-
-pub back-lo : (z : ℤ) (x : ℕ) → z ≡ lo x → toZ w32 (ofZ w32 z) ≡ lo x
-back-lo z x e = back z (lo x) e (omega (arith, lo-fits x))
-
-pub back-small : (n : ℕ) → n < 2 ^ 31 → toZ w32 n ≡ pos n
-back-small n h = toZ-ofZ w32 (pos n) (sfits (pos n) h)
 
 -- the encoder's answer for an instruction with an immediate that is read back
 pub answered-at : (e : Encoded) (f : ℤ → Instr) {z y : ℤ} → told e ≡ encoded (f z) → z ≡ y → e ≡ answer-of (f y)

@@ -4,4 +4,3 @@ pub mod Writes
 pub mod Items
 pub mod Steps
 pub mod Plans
-pub mod Handed

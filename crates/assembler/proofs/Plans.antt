@@ -4,7 +4,7 @@ use mathlib.Core.Bool.{Bool, true, false, cond}
 use mathlib.Core.List.{List, [], _∷_, _++_, map}
 use Prim.Native.Nat.{ℕ, zero, suc, _≤_}
 use native.Mathlib.Omega.{arith}
-use borrow.Author.Tests.{le-leb, ne-eqb, ltb-true, eqb-true, eqb-false}
+use borrow.Author.Tests.{le-leb, le-ltb, ne-eqb, ltb-true, eqb-true, eqb-false}
 use lib.Dec.{ltb, eqb}
 use lib.ListN.{length}
 use Rattle.isa.specs.Instr.{Instr}
@@ -86,6 +86,10 @@ rank-small (suc (suc (suc (suc (suc (suc (suc (suc (suc (suc zero)))))))))) h = 
 rank-small (suc (suc (suc (suc (suc (suc (suc (suc (suc (suc (suc zero))))))))))) h = omega arith
 rank-small (suc (suc (suc (suc (suc (suc (suc (suc (suc (suc (suc (suc zero)))))))))))) h = omega arith
 rank-small (suc (suc (suc (suc (suc (suc (suc (suc (suc (suc (suc (suc (suc a))))))))))))) h = absurd (omega arith)
+
+-- a fault and none
+pub earlier-none : (a : ℕ) → a ≤ 12 → earlier a 0 ≡ a
+earlier-none a h = rw (le-ltb 12 (rank a) (rank-small a h))
 
 fault-zero : (a b : ℕ) → a ≤ 12 → earlier a b ≡ 0 → a ≡ 0
 fault-zero a b h e = by (ltb (rank b) (rank a)) refl e

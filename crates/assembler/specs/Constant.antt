@@ -32,6 +32,10 @@ constant-items k c = label (constant-label k) ∷ quad (constant-bits c)
 abbrev pub constant-fault : ℕ → ℕ
 constant-fault k = cond (leb k 1007) 0 (number-of Count)
 
+-- the next multiple of 16 above n: 0 gives 16, and 16 gives 32
+abbrev pub align16 : ℕ → ℕ
+align16 n = n + 16 - n % 16
+
 -- the largest size that `align_stack` takes
 abbrev pub align-limit : ℕ
 align-limit = 0x7FFFF7FF
@@ -41,4 +45,4 @@ told-size (Size n) = accepted n
 told-size (Refused r place) = refused (number-of r) place
 
 unfoldable pub aligned : ℕ → Answer ℕ
-aligned n = cond (leb n align-limit) (accepted (n + 16 - n % 16)) (refused (number-of Value) 0)
+aligned n = cond (leb n align-limit) (accepted (align16 n)) (refused (number-of Value) 0)

@@ -20,6 +20,7 @@ use Rattle.order.specs.declared.Order.{Order}
 use Rattle.order.specs.declared.Order.the-variants.{Binary, Load, Save}
 use Rattle.order.specs.declared.Frame.the-variants.{Fast, Indirect}
 use Rattle.assembler.specs.Bytes.{bytes}
+use Rattle.assembler.proofs.Writes.{length-bytes}
 use Rattle.accesses.specs.Code.{li-code, sub-stack-code, add-stack-code, allocate-stack-code, access-code, point-code}
 use Rattle.reading.specs.Meaning.{meaning, binary}
 use Rattle.reading.specs.Line.{Line, order, constant}
@@ -77,11 +78,6 @@ words-small (w ∷ ws) (suc zero) = omega arith
 words-small (w ∷ ws) (suc (suc zero)) = omega arith
 words-small (w ∷ ws) (suc (suc (suc zero))) = omega arith
 words-small (w ∷ ws) (suc (suc (suc (suc k)))) = words-small ws k
-
-bytes-length : (ws : List ℕ) → length (bytes ws) ≡ 4 * length ws
-unfolding bytes flatMap
-bytes-length [] = refl
-bytes-length (w ∷ ws) = omega (arith, bytes-length ws)
 
 pub upd-small : (f : ℕ → ℕ) (k v : ℕ) → v < 2 ^ 64 → ((r : ℕ) → f r < 2 ^ 64) → (r : ℕ) → upd f k v r < 2 ^ 64
 unfolding upd
@@ -147,7 +143,7 @@ module _ (Q : Floats) (f : ℕ → ℕ) (small : (r : ℕ) → f r < 2 ^ 64) whe
               rm = omega arith;
               mem = with-small 0x10000 (bytes (routine-words sample)) (λ x. 0) (words-small (routine-words sample)) (λ x. omega arith);
             };
-        code = loaded 0x10000 (bytes (routine-words sample)) (λ x. 0) (omega (arith, bytes-length (routine-words sample), resolved-length (place sample) 0 (items sample), sample-length));
+        code = loaded 0x10000 (bytes (routine-words sample)) (λ x. 0) (omega (arith, length-bytes (routine-words sample), resolved-length (place sample) 0 (items sample), sample-length));
         terms = subst (λ (n : ℕ). Terms (sample .head) n first) (sym sample-length) first-terms;
       }
 
@@ -254,7 +250,7 @@ data-small = (by two tt, by three tt, by pointers tt)
     by (b ∷ bs) h (suc k) = by bs (and-r (ltb b 256) (all bs) h) k
 
 product-fits : length (bytes (routine-words product)) ≡ 204
-product-fits = omega (arith, bytes-length (routine-words product), resolved-length (place product) 0 (items product), product-length)
+product-fits = omega (arith, length-bytes (routine-words product), resolved-length (place product) 0 (items product), product-length)
 
 abbrev code-memory : ℕ → ℕ
 code-memory = with-bytes 0x10000 (bytes (routine-words product)) (λ x. 0)

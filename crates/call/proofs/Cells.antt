@@ -6,6 +6,7 @@ use Prim.Native.Nat.{ℕ, _+_, _*_, _^_, _≤_, _<_}
 use native.Mathlib.Omega.{arith}
 use borrow.Author.Tests.{ltb-true, ltb-false, eqb-true, eq-eqb}
 use lib.Dec.{eqb, ltb}
+use Rattle.isa.proofs.Validity.{both}
 use Rattle.machine.specs.Word.{w64, dist, load8, store8}
 use Rattle.machine.proofs.Memory.{inside, store-miss, load-store, load8-store, Apart}
 use Rattle.order.specs.declared.Place.{Place}
@@ -27,10 +28,6 @@ same-eq Stack Param e = let z : _≡_ {A = ℕ} 0 1 = cc in absurd (omega arith)
 same-eq Param Mem e = let z : _≡_ {A = ℕ} 0 1 = cc in absurd (omega arith)
 same-eq Param Stack e = let z : _≡_ {A = ℕ} 0 1 = cc in absurd (omega arith)
 same-eq Param Param e = refl
-
-both : (a b : Bool) → (a && b) ≡ true → (a ≡ true) × (b ≡ true)
-both true b e = (refl, e)
-both false b e = let z : _≡_ {A = ℕ} 0 1 = cc in absurd (omega arith)
 
 no-both : (a b : Bool) → (a && b) ≡ false → a ≡ true → b ≡ true → ⊥
 no-both a b e f g = let z : _≡_ {A = ℕ} 0 1 = cc in omega arith

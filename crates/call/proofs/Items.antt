@@ -12,7 +12,7 @@ use lib.ListN.{length}
 use Rattle.isa.specs.Instr.{Instr}
 use Rattle.assembler.specs.Item.{Item, instr, raw, jump, label}
 use Rattle.assembler.specs.Resolved.{resolved, label-place}
-use Rattle.framing.proofs.Walk.{Stands}
+use Rattle.framing.proofs.Walk.{Stands, resolved-append as resolved-behind}
 use Rattle.call.specs.Layout.{span}
 
 pub span-append : (xs ys : List Item) → span (xs ++ ys) ≡ span xs + span ys
@@ -31,14 +31,6 @@ span-four (raw w ∷ xs) = omega (arith, span-four xs)
 span-four (jump k l r ∷ xs) = omega (arith, span-four xs)
 span-four (label l ∷ xs) = span-four xs
 
-pub resolved-append : (at : ℕ → ℕ) (h : ℕ) (xs ys : List Item) → resolved at h (xs ++ ys) ≡ resolved at h xs ++ resolved at (h + span xs) ys
-unfolding resolved span
-resolved-append at h [] ys = rw (add-zero h)
-resolved-append at h (instr i ∷ xs) ys = rw (← (add-assoc h 4 (span xs)), resolved-append at (h + 4) xs ys)
-resolved-append at h (raw w ∷ xs) ys = rw (← (add-assoc h 4 (span xs)), resolved-append at (h + 4) xs ys)
-resolved-append at h (jump k l r ∷ xs) ys = rw (← (add-assoc h 4 (span xs)), resolved-append at (h + 4) xs ys)
-resolved-append at h (label l ∷ xs) ys = resolved-append at h xs ys
-
 pub resolved-length : (at : ℕ → ℕ) (h : ℕ) (xs : List Item) → 4 * length (resolved at h xs) ≡ span xs
 unfolding resolved span
 resolved-length at h [] = refl
@@ -46,6 +38,9 @@ resolved-length at h (instr i ∷ xs) = omega (arith, resolved-length at (h + 4)
 resolved-length at h (raw w ∷ xs) = omega (arith, resolved-length at (h + 4) xs)
 resolved-length at h (jump k l r ∷ xs) = omega (arith, resolved-length at (h + 4) xs)
 resolved-length at h (label l ∷ xs) = resolved-length at h xs
+
+pub resolved-append : (at : ℕ → ℕ) (h : ℕ) (xs ys : List Item) → resolved at h (xs ++ ys) ≡ resolved at h xs ++ resolved at (h + span xs) ys
+resolved-append at h xs ys = rw (resolved-length at h xs) at (resolved-behind at h xs ys)
 
 -- ---- labels
 

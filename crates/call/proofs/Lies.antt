@@ -15,7 +15,8 @@ use Rattle.order.specs.declared.Place.the-variants.{Mem, Stack, Param}
 use Rattle.order.specs.declared.Frame.{Frame}
 use Rattle.order.specs.declared.Frame.the-variants.{Fast, Indirect}
 use Rattle.order.specs.declared.Head.{Head}
-use Rattle.framing.specs.Size.{align16, holds-mem, stack-size, below-saves}
+use Rattle.assembler.specs.Constant.{align16}
+use Rattle.framing.specs.Size.{holds-mem, stack-size, below-saves}
 use Rattle.framing.specs.Fault.{epilogue-holds}
 use Rattle.call.specs.Plain.{same-place}
 use Rattle.call.specs.Terms.{table-used, frame-bytes, bottom, base, table-cell, Within, code, frame, table, block, params, Separate, Terms}

@@ -1,6 +1,6 @@
 -- What each outcome of the checks answers, and the words of each format. Assumes nothing.
 use mathlib.Core.Path.{_≡_, refl, sym, ap, _∙_}
-use mathlib.Core.Bool.{Bool, true, false, _&&_, cond}
+use mathlib.Core.Bool.{Bool, true, false, _&&_, cond, and-false}
 use mathlib.Core.List.{List, [], _∷_, _++_, map}
 use Prim.Native.Nat.{ℕ, zero, suc, _+_, _*_, _/_, _%_, _^_, _<_}
 use native.Mathlib.Omega.{arith}
@@ -10,7 +10,7 @@ use lib.IntN.{ℤ, pos}
 use lib.ListN.{length, getD, take, drop}
 use lib.Seq.{getD-append-add}
 use Rattle.isa.specs.Immediate.{twos}
-use Rattle.isa.specs.Instr.{Instr, R, F, C, M, R4, I, Shift, S, B, U, J, ADD, FADD-D, FSQRT-D, FMV-X-D, FMADD-D, ADDI, SLLI, SD, BEQ, LUI, JAL, operands, registers-hold, valid, Valid}
+use Rattle.isa.specs.Instr.{Instr, R, F, C, M, R4, I, Shift, S, B, U, J, ADD, FADD-D, FSQRT-D, FMV-X-D, FMADD-D, ADDI, SLLI, SD, BEQ, LUI, JAL, Operand, register, holds, all-hold, operands, registers-hold, valid, Valid}
 use Rattle.isa.specs.Encode.{encode}
 use Rattle.isa.specs.Decode.{r-ops, f-ops, c-ops, m-ops, r4-ops, i-ops, shift-ops, s-ops, b-ops, u-ops, j-ops}
 use Rattle.isa.proofs.Validity.{both, valid-Valid, Valid-valid, Valid-registers}
@@ -41,27 +41,14 @@ module _ (i : Instr) where
     good r = rw (r, v, e)
 
 -- the last operand, a value, decides once the registers before it have passed
-pub inside : (a b o : Bool) → o ≡ true → (a && (b && true)) ≡ true → (a && (b && (o && true))) ≡ true
-inside a b o e h = rw e h
+module _ (o : Operand) where
+  pub inside : (rs : List ℕ) → registers-hold (map register rs) ≡ true → holds o ≡ true → all-hold (map register rs ++ (o ∷ [])) ≡ true
+  inside [] p e = rw e
+  inside (r ∷ rs) p e = let q = both (ltb r 32) _ p in rw (q .0) (inside rs (q .1) e)
 
-pub outside : (a b o : Bool) → o ≡ false → (a && (b && (o && true))) ≡ false
-outside true true o e = rw e
-outside true false o e = refl
-outside false b o e = refl
-
-pub inside3 : (a b c o : Bool) → o ≡ true → (a && (b && (c && true))) ≡ true → (a && (b && (c && (o && true)))) ≡ true
-inside3 a b c o e h = rw e h
-
-pub outside3 : (a b c o : Bool) → o ≡ false → (a && (b && (c && (o && true)))) ≡ false
-outside3 true b c o e = outside b c o e
-outside3 false b c o e = refl
-
-pub inside1 : (a o : Bool) → o ≡ true → (a && true) ≡ true → (a && (o && true)) ≡ true
-inside1 a o e h = rw e h
-
-pub outside1 : (a o : Bool) → o ≡ false → (a && (o && true)) ≡ false
-outside1 true o e = rw e
-outside1 false o e = refl
+  pub outside : (rs : List ℕ) → holds o ≡ false → all-hold (map register rs ++ (o ∷ [])) ≡ false
+  outside [] e = rw e
+  outside (r ∷ rs) e = rw (outside rs e) (and-false (ltb r 32))
 
 pub fourth : (a b c d : ℕ) → (ltb a 32 && (ltb b 32 && (ltb c 32 && (ltb d 32 && true)))) ≡ true → d < 32
 fourth a b c d e =
@@ -82,6 +69,23 @@ accepted-valid i w e = by (registers-hold (operands i)) (valid i) refl e
 
 pub valid-accepted : (i : Instr) → Valid i → encoded i ≡ accepted (encode i)
 valid-accepted i h = sym (good i (Valid-valid i h) (encode i) refl (Valid-registers i h))
+
+-- the same of an answer that is told
+module _ (i : Instr) where
+  pub taken-valid : (w : ℕ) → accepted w ≡ encoded i → true ≡ valid i
+  taken-valid w e = sym (Valid-valid i (accepted-valid i w (sym e) .0))
+
+  pub taken-word : (w : ℕ) → accepted w ≡ encoded i → w ≡ encode i
+  taken-word w e = accepted-valid i w (sym e) .1
+
+  pub refused-invalid : (n p : ℕ) → refused n p ≡ encoded i → false ≡ valid i
+  refused-invalid n p e = by (valid i) refl
+    where
+      by : (t : Bool) → valid i ≡ t → false ≡ t
+      by false q = refl
+      by true q =
+          let f = valid-accepted i (valid-Valid i q) in
+          let z : _≡_ {A = ℕ} 0 1 = cc in absurd (omega arith)
 
 -- ---- the row of an operation, by its place in the table
 

@@ -1,4 +1,5 @@
 pub mod Table
 pub mod Signs
+pub mod ReadBack
 pub mod Fields
 pub mod Answers

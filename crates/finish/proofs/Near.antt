@@ -6,18 +6,13 @@ use native.Mathlib.Omega.{arith}
 use borrow.Author.Tests.{lt-ltb, le-ltb}
 use lib.Dec.{leb, ltb}
 use lib.IntN.{ℤ, pos, negsuc, subℕ, _-ℤ_}
+use lib.Signed.{mag}
 use mir.Syntax.{w32}
 use mir.Val.{SFits, toZ, ofZ}
-use mir.ValLaws.{toZ-pos, toZ-ofZ}
 use Rattle.isa.specs.Immediate.{twos, hi, lo}
-use Rattle.isa.specs.Instr.{Instr, holds, offset, valid}
-use Rattle.isa.specs.Encode.{encode}
+use Rattle.isa.specs.Instr.{holds, offset, valid}
 use Rattle.isa.proofs.HiLo.{lo-fits, hi-fits}
-use Rattle.isa.proofs.Validity.{valid-Valid, Valid-valid}
-use Rattle.refusal.specs.Answer.{accepted, refused}
-use Rattle.encoder.specs.Answer.{encoded}
-use Rattle.encoder.proofs.Answers.{accepted-valid, valid-accepted}
-use Rattle.assembler.proofs.Handed.{kept}
+use Rattle.encoder.proofs.ReadBack.{sfits, back, back-small}
 use Rattle.assembler.specs.Jump.{kind-of, jump-instr}
 use Rattle.assembler.specs.declared.Kind.the-variants.{Bne}
 
@@ -37,28 +32,28 @@ minus a (suc b) = refl
 -- of two locals that hold small numbers
 module _ (a b : ℕ) (h : a ≤ 65536) (k : b ≤ 65536) where
   value : toZ w32 a -ℤ toZ w32 b ≡ subℕ a b
-  value = rw (toZ-pos w32 a (omega arith), toZ-pos w32 b (omega arith)) (minus a b)
+  value = rw (back-small a (omega arith), back-small b (omega arith)) (minus a b)
 
-  fits : SFits w32 (subℕ a b)
-  fits = by (ltb a b) refl
+  small : mag (subℕ a b) < 2 ^ 31
+  small = by (ltb a b) refl
     where
-      by : (t : Bool) → ltb a b ≡ t → SFits w32 (cond t (negsuc (b - suc a)) (pos (a - b)))
-      by true e = record { sfits = omega arith }
-      by false e = record { sfits = omega arith }
+      by : (t : Bool) → ltb a b ≡ t → mag (cond t (negsuc (b - suc a)) (pos (a - b))) < 2 ^ 31
+      by true e = omega arith
+      by false e = omega arith
 
   pub minus-fits : SFits w32 (toZ w32 a -ℤ toZ w32 b)
-  minus-fits = rw value fits
+  minus-fits = rw value (sfits (subℕ a b) small)
+
+  pub offset-back : (z : ℤ) → z ≡ subℕ a b → toZ w32 (ofZ w32 z) ≡ subℕ a b
+  offset-back z e = back z (subℕ a b) e small
 
   pub minus-value : toZ w32 (ofZ w32 (toZ w32 a -ℤ toZ w32 b)) ≡ subℕ a b
-  minus-value = toZ-ofZ w32 _ minus-fits ∙ value
+  minus-value = offset-back _ value
 
 pub low-part : (u : ℕ) → lo (u % 4096 + 4) ≡ lo (u + 4)
 low-part u =
     let e : (u % 4096 + 4) % 4096 ≡ (u + 4) % 4096 = omega arith in
     rw e
-
-pub offset-kept : (a b : ℕ) (z : ℤ) → a ≤ 65536 → b ≤ 65536 → z ≡ subℕ a b → toZ w32 (ofZ w32 z) ≡ subℕ a b
-offset-kept a b z h k e = kept z _ e (fits a b h k)
 
 -- ---- kinds
 
@@ -80,21 +75,3 @@ near (suc (suc (suc zero))) r z h g = simp (lt-ltb r 32 g, lt-ltb _ _ (lo-fits (
 near (suc (suc (suc (suc zero)))) r z h g = and-true (holds (offset 13 z)) ∙ sym (Bool·not-not (holds (offset 13 z)))
 near (suc (suc (suc (suc (suc zero))))) r z h g = and-true (holds (offset 13 z)) ∙ sym (Bool·not-not (holds (offset 13 z)))
 near (suc (suc (suc (suc (suc (suc k)))))) r z h g = absurd (omega arith)
-
--- ---- what the encoder answers
-
-module _ (i : Instr) where
-  pub taken-valid : (w : ℕ) → accepted w ≡ encoded i → true ≡ valid i
-  taken-valid w e = sym (Valid-valid i (accepted-valid i w (sym e) .0))
-
-  pub refused-invalid : (n p : ℕ) → refused n p ≡ encoded i → false ≡ valid i
-  refused-invalid n p e = by (valid i) refl
-    where
-      by : (t : Bool) → valid i ≡ t → false ≡ t
-      by false q = refl
-      by true q =
-          let f = valid-accepted i (valid-Valid i q) in
-          let z : _≡_ {A = ℕ} 0 1 = cc in absurd (omega arith)
-
-  pub taken-word : (w : ℕ) → accepted w ≡ encoded i → w ≡ encode i
-  taken-word w e = accepted-valid i w (sym e) .1

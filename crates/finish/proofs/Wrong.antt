@@ -60,11 +60,11 @@ module _ (labels : List ℕ) (len : ℕ) (j : Jump) (g : jump-good len j ≡ tru
 
 -- ---- a jump with nothing wrong
 
-zero-then : (t : Bool) (x y : ℕ) → cond t (suc x) y ≡ 0 → (t ≡ false) × (y ≡ 0)
+pub zero-then : (t : Bool) (x y : ℕ) → cond t (suc x) y ≡ 0 → (t ≡ false) × (y ≡ 0)
 zero-then true x y e = absurd (omega arith)
 zero-then false x y e = (refl, e)
 
-zero-else : (t : Bool) (x y : ℕ) → cond t x (suc y) ≡ 0 → (t ≡ true) × (x ≡ 0)
+pub zero-else : (t : Bool) (x y : ℕ) → cond t x (suc y) ≡ 0 → (t ≡ true) × (x ≡ 0)
 zero-else true x y e = (refl, e)
 zero-else false x y e = absurd (omega arith)
 

@@ -9,7 +9,7 @@ use Rattle.isa.proofs.Validity.{both}
 use Rattle.order.specs.declared.Frame.{Frame}
 use Rattle.order.specs.declared.Frame.the-variants.{Fast, Indirect}
 use Rattle.order.specs.declared.Head.{Head}
-use Rattle.laid.proofs.All.{zero-else}
+use Rattle.finish.proofs.Wrong.{zero-else}
 use Rattle.framing.specs.Fault.{counts-hold, result-holds, prologue-holds, prologue-fault, epilogue-fault}
 
 module _ (H : Head) where

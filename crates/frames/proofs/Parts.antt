@@ -1,7 +1,7 @@
 -- A part placed piece by piece is the part placed whole, where the whole was asked for first. Assumes nothing.
 use mathlib.Core.Path.{_≡_, refl, sym, ap, subst, _∙_}
 use mathlib.Core.Bool.{true, false}
-use mathlib.Core.List.{List, [], _∷_, _++_, append-nil, append-assoc, map-append}
+use mathlib.Core.List.{List, [], _∷_, _++_, append-assoc, map-append}
 use Prim.Native.Nat.{ℕ, zero, suc, _+_, _-_, _≤_, _<_}
 use native.Mathlib.Omega.{arith}
 use borrow.Author.Tests.{lt-ltb, le-leb}
@@ -12,16 +12,16 @@ use Rattle.refusal.specs.Answer.{accepted}
 use Rattle.assembler.specs.Item.{Item, instr, raw, jump, label}
 use Rattle.assembler.specs.State.{State, Outcome}
 use Rattle.assembler.specs.Put.{words, jumps, labels, twice, place, placed, with-word, with-label, verdict, put-number, settled, put}
-use Rattle.assembler.specs.Plan.{label-fault, plan-fault, plan-items, tail-items, tail-fault}
+use Rattle.assembler.specs.Plan.{label-fault, plan-fault, plan-items}
 use Rattle.assembler.specs.declared.Plan.{Plan}
-use Rattle.assembler.specs.declared.Tail.{Tail}
-use Rattle.assembler.specs.declared.Tail.the-variants.{Nothing, One}
+use Rattle.assembler.specs.declared.Tail.the-variants.{One}
 use Rattle.assembler.specs.declared.Kind.{Kind}
 use Rattle.assembler.proofs.Tests.{no}
-use Rattle.assembler.proofs.Plans.{put-fault, stands-put}
+use Rattle.assembler.proofs.Plans.{put-fault}
 use Rattle.accesses.specs.Fault.{stack-fault}
-use Rattle.accesses.specs.Plans.{plan-of, Built}
-use Rattle.accesses.proofs.Collect.{AllValid, built}
+use Rattle.accesses.specs.Plans.{plan-of}
+use Rattle.accesses.proofs.Collect.{AllValid}
+use Rattle.accesses.proofs.Placed.{plan-tail}
 use Rattle.laid.proofs.All.{accepts}
 use Rattle.laid.proofs.Both.{Accepts, put-split}
 use Rattle.framing.specs.Items.{code, times-over}
@@ -58,17 +58,6 @@ module _ (t u : ℕ) where
   unfolding put
   untagged f is s h = ap (settled (put-number f is s) s) (placed-untagged is s h)
 
--- ---- plans
-
-module _ (p : Plan) (is : List Instr) (e : p ≡ plan-of is) (few : length is ≤ 12) (v : AllValid is) (tag : ℕ) (s : State) where
-  pub plan-tail : (t : Tail) → tail-fault t ≡ 0 → put tag (plan-fault p t) (plan-items p t) s ≡ put tag 0 (code is ++ tail-items t) s
-  plan-tail t z =
-      let b : Built (plan-of is) is = built is few v in
-      stands-put p 0 is t tag s (rw e (b .fault)) (omega arith) (λ q. rw e (b .words)) ∙ rw z
-
-  pub plan-code : put tag (plan-fault p Nothing) (plan-items p Nothing) s ≡ put tag 0 (code is) s
-  plan-code = plan-tail Nothing refl ∙ rw (append-nil (code is))
-
 -- ---- labels
 
 label-holds : (l : ℕ) → l < 2039 → label-fault l ≡ 0
@@ -85,9 +74,14 @@ module _ (tag l m : ℕ) (e : l ≡ m) (h : l < 2039) (s : State) where
 
 -- ---- faults and sizes
 
-pub faulted : (tag f : ℕ) (is : List Item) (s : State) (o : Outcome) → (f ≡ 0 → ⊥) → o ≡ settled (verdict f false 0 0 (length (s .buf)) (s .asm)) s s → o ≡ put tag f is s
-unfolding put words jumps labels twice placed
-faulted tag f is s o h e = e ∙ put-fault 0 tag f [] is s h
+-- an order whose fault f was looked for first
+module _ (tag f want : ℕ) (is : List Item) (s : State) (o : Outcome) (e : f ≡ want) where
+  pub faulted : (f ≡ 0 → ⊥) → o ≡ settled (verdict f false 0 0 (length (s .buf)) (s .asm)) s s → o ≡ put tag want is s
+  unfolding put words jumps labels twice placed
+  faulted h q = q ∙ put-fault 0 tag f [] is s h ∙ ap (λ (k : ℕ). put tag k is s) e
+
+  pub faultless : f ≡ 0 → o ≡ put tag 0 is s → o ≡ put tag want is s
+  faultless z q = q ∙ ap (λ (k : ℕ). put tag k is s) (sym z ∙ e)
 
 -- a stack size that is taken
 pub size-put : (tag : ℕ) (is : ℕ → List Instr) (n m : ℕ) (s : State) → n ≡ m → n ≤ 32784 → put 0 (stack-fault n) (code (is n)) s ≡ put tag 0 (code (is m)) s

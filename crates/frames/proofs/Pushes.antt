@@ -1,23 +1,21 @@
 -- Instructions of preserved registers, pushed as a mask is walked, and placed. Assumes nothing.
-use mathlib.Core.Path.{_≡_, refl, _∙_}
+use mathlib.Core.Path.{_≡_, refl}
 use mathlib.Core.Bool.{Bool, true, false, cond}
-use mathlib.Core.List.{List, [], _∷_, map, append-nil}
+use mathlib.Core.List.{List, [], _∷_, map}
 use Prim.Native.Nat.{ℕ, _≤_}
 use native.Mathlib.Omega.{arith}
 use lib.ListN.{length, length-map}
 use Rattle.isa.specs.Instr.{Instr}
-use Rattle.assembler.specs.Item.{instr}
 use Rattle.assembler.specs.State.{State}
 use Rattle.assembler.specs.Put.{put}
 use Rattle.assembler.specs.Plan.{pushed, plan-fault, plan-items}
 use Rattle.assembler.specs.declared.Tail.the-variants.{Nothing}
 use Rattle.assembler.specs.declared.Plan.{Plan}
-use Rattle.assembler.proofs.Plans.{stands-put}
-use Rattle.accesses.specs.Plans.{answer-of, pushes-from, plan-of, Built}
-use Rattle.accesses.proofs.Collect.{built}
+use Rattle.accesses.specs.Plans.{answer-of, pushes-from, plan-of}
 use Rattle.order.specs.Mask.{preserved, in-mask, chosen, saved, is-preserved}
 use Rattle.framing.specs.Items.{save, saves}
 use Rattle.framing.proofs.Listed.{save-list-valid}
+use Rattle.accesses.proofs.Placed.{plan-code}
 
 -- q with an instruction for each preserved register of the list
 unfoldable pub all-pushed : (ℕ → Instr) → Plan → List ℕ → Plan
@@ -50,5 +48,4 @@ unfolding saves
 saves-put mask p s e =
     let is = map save (saved mask) in
     let n : length is ≤ 12 = omega (arith, saved-few mask, length-map (saved mask) save) in
-    let b : Built (plan-of is) is = built is n (save-list-valid mask) in
-    stands-put p 0 is Nothing 0 s (rw e (b .fault)) (omega arith) (λ z. rw e (b .words)) ∙ rw (append-nil (map instr is))
+    plan-code p is e n (save-list-valid mask) 0 s

@@ -23,6 +23,7 @@ use Rattle.framing.specs.Size.{frame-size, stack-size}
 use Rattle.framing.specs.Items.{code, mv, opening, closing, states-from, prologue-fast, prologue-indirect, epilogue-fast, epilogue-indirect, prologue, epilogue, at-main, at-done}
 use Rattle.framing.specs.Fault.{prologue-fault, epilogue-fault}
 use Rattle.framing.specs.Copies.{copies}
+use Rattle.framing.proofs.Fast.{states-length}
 use Rattle.frames.specs.Whole.{entry}
 use Rattle.frames.proofs.Parts.{words-code, jumps-code, labels-code, untagged}
 use Rattle.frames.proofs.Sizes.{code-number, copies-jumps, copies-labels}
@@ -38,10 +39,6 @@ closing-few Fast = omega arith
 closing-few Indirect = omega arith
 
 -- ---- the fast frame
-
-states-length : (i n : ℕ) → length (states-from i n) ≡ n
-states-length i zero = refl
-states-length i (suc n) = ap suc (states-length (suc i) n)
 
 pub states-few : (n : ℕ) → n ≤ 8 → length (mv 21 2 ∷ states-from 0 n) ≤ 12
 states-few n h = omega (arith, states-length 0 n)

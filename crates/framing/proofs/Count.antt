@@ -1,39 +1,22 @@
 -- How many words the pieces have. Assumes nothing.
-use mathlib.Core.Path.{_≡_, refl, _∙_}
+use mathlib.Core.Path.{_≡_, refl}
 use mathlib.Core.Bool.{Bool, true, false, cond}
 use mathlib.Core.List.{List, [], _∷_, _++_, map}
-use Prim.Native.Nat.{ℕ, zero, suc, _+_, _*_, _≤_, _<_}
+use Prim.Native.Nat.{ℕ, zero, suc, _+_, _*_, _≤_}
 use native.Mathlib.Omega.{arith}
 use borrow.Author.Tests.{leb-true}
-use lib.Dec.{eqb, ltb, leb}
-use lib.IntN.{ℤ, pos, negsuc, negℤ}
+use lib.Dec.{eqb, leb}
+use lib.IntN.{pos}
 use lib.ListN.{length, length-append, length-map}
-use lib.Signed.{mag}
-use Rattle.isa.specs.Immediate.{twos, hi, lo}
-use Rattle.isa.specs.Instr.{Instr, R, I, U, ADD, SUB, ADDI, LUI}
+use Rattle.isa.specs.Instr.{Instr}
 use Rattle.isa.specs.Encode.{encode}
-use Rattle.assembler.specs.Item.{Item, jump, label}
+use Rattle.assembler.specs.Item.{jump, label}
 use Rattle.assembler.specs.declared.Kind.the-variants.{Bne}
 use Rattle.assembler.specs.Resolved.{resolved}
-use Rattle.accesses.specs.Code.{li-code, sub-stack-code, allocate-stack-code}
+use Rattle.accesses.specs.Code.{li-code}
+use Rattle.accesses.proofs.Lengths.{li-length}
 use Rattle.framing.specs.Items.{code, times-over, count-down, repeated}
 use Rattle.framing.proofs.Walk.{resolved-code, resolved-all}
-
-pub li-length : (d : ℕ) (z : ℤ) → length (li-code d z) ≤ 2
-unfolding li-code
-li-length d z = by (ltb (mag z) 2048)
-  where
-    by : (b : Bool) → length (cond b (I ADDI d 0 z ∷ []) (U LUI d (pos (hi (twos 32 z))) ∷ I ADDI d d (lo (twos 32 z)) ∷ [])) ≤ 2
-    by true = omega arith
-    by false = omega arith
-
-pub sub-stack-length : (n : ℕ) → length (sub-stack-code n) ≤ 3
-unfolding sub-stack-code
-sub-stack-length n = by (ltb n 2048)
-  where
-    by : (b : Bool) → length (cond b (I ADDI 2 2 (negℤ (pos n)) ∷ []) (li-code 5 (negℤ (pos n)) ++ (R ADD 2 2 5 ∷ []))) ≤ 3
-    by true = omega arith
-    by false = omega (arith, length-append (li-code 5 (negℤ (pos n))) (R ADD 2 2 5 ∷ []), li-length 5 (negℤ (pos n)))
 
 module _ (at : ℕ → ℕ) (here n l : ℕ) (first each : List Instr) (six : length each ≡ 6) where
   pub over-length : (k : ℕ) → length (times-over k each) ≡ 6 * k

@@ -41,7 +41,7 @@ six : length (opening Fast) ≡ 6
 unfolding sub-stack-code
 six = refl
 
-states-length : (i k : ℕ) → length (states-from i k) ≡ k
+pub states-length : (i k : ℕ) → length (states-from i k) ≡ k
 states-length i zero = refl
 states-length i (suc k) = ap suc (states-length (suc i) k)
 

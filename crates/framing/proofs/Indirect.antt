@@ -29,6 +29,7 @@ use Rattle.assembler.specs.Item.{Item, instr, jump, label}
 use Rattle.assembler.specs.declared.Kind.the-variants.{Beq, Bne}
 use Rattle.assembler.specs.Resolved.{resolved}
 use Rattle.accesses.specs.Code.{li-code, sub-stack-code, allocate-stack-code}
+use Rattle.accesses.proofs.Lengths.{sub-stack-length}
 use Rattle.framing.specs.Size.{frame-size, stack-size, mem-size, whole-size}
 use Rattle.order.specs.Mask.{saved, save-cell}
 use Rattle.framing.specs.Items.{at-self, at-main, at-pro, code, mv, kept, opening, state-copy, repeated, save, prologue, saves}
@@ -36,7 +37,7 @@ use Rattle.framing.proofs.Land.{In, load8-same, off-above, off-below, n
 use Rattle.framing.proofs.Walk.{resolved-code, resolved-all, resolved-append, Stands, Words, Stood, stood-left, stood-right, stood-code, piece, behind, behind-label, behind-jump, jump-word, Came, came-at, hop, run-rm}
 use Rattle.framing.proofs.Seg.{Seg, seg-join, seg-wider, seg-same, onward-seg, Lowered, down-to, allocate-to, Begun, begun}
 use Rattle.framing.proofs.Rows.{Stored, saves-stored, not-ten}
-use Rattle.framing.proofs.Count.{sub-stack-length, repeated-words, repeated-none}
+use Rattle.framing.proofs.Count.{repeated-words, repeated-none}
 use Rattle.framing.proofs.Repeat.{Round, repeat}
 use Rattle.framing.proofs.Copy.{off-part, copy-regs, Copied, copied-free, round, begin, floats-last}
 use Rattle.framing.specs.Steps.{prologue-steps, repeated-steps}

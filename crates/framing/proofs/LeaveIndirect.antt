@@ -26,13 +26,14 @@ use Rattle.assembler.specs.Item.{Item, jump, label}
 use Rattle.assembler.specs.declared.Kind.the-variants.{Beq}
 use Rattle.assembler.specs.Resolved.{resolved}
 use Rattle.accesses.specs.Code.{li-code}
+use Rattle.accesses.proofs.Lengths.{li-length}
 use Rattle.framing.specs.Size.{frame-size, stack-size, mem-size}
 use Rattle.order.specs.Mask.{saved}
 use Rattle.framing.specs.Items.{at-epi, at-done, code, kept, closing, obs-copy, repeated, reloads, epilogue}
 use Rattle.framing.proofs.Land.{load8-same, not-or, or-not}
 use Rattle.framing.proofs.Walk.{Words, Stood, stood-left, stood-right, behind-label, behind-jump, jump-word, Came, came-at, hop, run-rm}
 use Rattle.framing.proofs.Seg.{Seg}
-use Rattle.framing.proofs.Count.{li-length, repeated-words, repeated-none}
+use Rattle.framing.proofs.Count.{repeated-words, repeated-none}
 use Rattle.framing.proofs.Repeat.{Round, repeat}
 use Rattle.framing.proofs.Copy.{off-part, copy-regs}
 use Rattle.framing.proofs.Give.{goal, result, given, Given, given-free, give, given-begin}

@@ -22,15 +22,16 @@ use Rattle.assembler.specs.declared.Kind.the-variants.{Beq, Bne}
 use Rattle.accesses.specs.Code.{li-code, sub-stack-code, add-stack-code, allocate-stack-code}
 use Rattle.accesses.proofs.Then.{valids-join}
 use Rattle.accesses.proofs.LoadImmediate.{li-valid}
+use Rattle.accesses.proofs.Lengths.{li-length, sub-stack-length}
 use Rattle.accesses.proofs.Stack.{sub-stack-valid, add-stack-valid, allocate-stack-valid}
 use Rattle.framing.specs.Size.{frame-size, stack-size}
 use Rattle.order.specs.Mask.{saved}
 use Rattle.framing.specs.Items.{code, mv, kept, opening, closing, loads-from, states-from, state-copy, obs-copy, times-over, count-down, repeated, at-main, at-pro, at-epi, at-done, by-frame, prologue-fast, prologue-indirect, epilogue-fast, epilogue-indirect, prologue, epilogue, save, reload, saves, reloads}
 use Rattle.framing.specs.Copies.{copy-first, copy-each}
 use Rattle.framing.specs.Fault.{counts-hold, result-limit, result-holds, prologue-holds, epilogue-holds}
-use Rattle.framing.proofs.Walk.{Stands, stands-code, stands-left, stands-right}
+use Rattle.framing.proofs.Walk.{further, Stands, stands-code, stands-left, stands-right}
 use Rattle.framing.proofs.Listed.{save-list-valid, reload-list-valid}
-use Rattle.framing.proofs.Count.{li-length, sub-stack-length, repeated-words}
+use Rattle.framing.proofs.Count.{repeated-words}
 use Rattle.framing.proofs.Indirect.{forward}
 
 -- each is valid where it stands, the first of them being at `here`
@@ -40,9 +41,6 @@ AllValid at here (instr i ∷ is) = Valid i × AllValid at (here + 4) is
 AllValid at here (raw w ∷ is) = AllValid at (here + 4) is
 AllValid at here (jump k l r ∷ is) = Valid (jump-instr k r (subℕ (at l) here)) × AllValid at (here + 4) is
 AllValid at here (label l ∷ is) = AllValid at here is
-
-further : (h n : ℕ) → h + 4 + 4 * n ≡ h + 4 * suc n
-further h n = omega arith
 
 module _ (at : ℕ → ℕ) where
   valid-code : (here : ℕ) (is : List Instr) → Valids is → AllValid at here (code is)

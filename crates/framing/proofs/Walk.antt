@@ -37,7 +37,7 @@ Stands at here (raw w ∷ is) = Stands at (here + 4) is
 Stands at here (jump k l r ∷ is) = Stands at (here + 4) is
 Stands at here (label l ∷ is) = (at l ≡ here) × Stands at here is
 
-further : (here n : ℕ) → here + 4 + 4 * n ≡ here + 4 * suc n
+pub further : (here n : ℕ) → here + 4 + 4 * n ≡ here + 4 * suc n
 further here n = omega arith
 
 module _ (at : ℕ → ℕ) where

@@ -1,15 +1,12 @@
 -- The sizes of a frame, from its lowest sp up to the call's (document 01, "mod.rs, frames" and "Demand 3").
 use mathlib.Core.Bool.{Bool, true, false, not, cond}
-use Prim.Native.Nat.{ℕ, _+_, _-_, _*_, _%_}
+use Prim.Native.Nat.{ℕ, _+_, _*_}
 use lib.Dec.{eqb}
 use Rattle.order.specs.Count.{cells}
 use Rattle.order.specs.declared.Frame.{Frame}
 use Rattle.order.specs.declared.Frame.the-variants.{Fast, Indirect}
 use Rattle.order.specs.declared.Head.{Head}
-
--- what `align_stack` answers: 0 gives 16, and 16 gives 32
-abbrev pub align16 : ℕ → ℕ
-align16 n = n + 16 - n % 16
+use Rattle.assembler.specs.Constant.{align16}
 
 -- the table at a1 is used: an indirect frame, a1 not zero
 abbrev pub uses-table : Frame → (a1 : ℕ) → Bool

@@ -23,6 +23,7 @@ use Rattle.assembler.specs.declared.Asm.{Asm}
 use Rattle.assembler.proofs.Tests.{no}
 use Rattle.assembler.proofs.Items.{words-append, jumps-append}
 use Rattle.assembler.proofs.Writes.{length-written, written-none}
+pub use Rattle.finish.proofs.Wrong.{zero-then, zero-else}
 use Rattle.laid.specs.Laid.{Laid, Labelled, jumps-in}
 use Rattle.laid.proofs.Each.{word-laid, jump-laid, label-laid}
 
@@ -51,14 +52,6 @@ pub record Passed (fault : ℕ) (taken : Bool) (w j n : ℕ) (a : Asm) : Type 0 
   pub new : taken ≡ false
   pub room-left : a .len + 4 * w ≤ room n
   pub jumps-left : a .jumps + j ≤ 4096
-
-pub zero-then : (t : Bool) (x y : ℕ) → cond t (suc x) y ≡ 0 → (t ≡ false) × (y ≡ 0)
-zero-then true x y e = absurd (omega arith)
-zero-then false x y e = (refl, e)
-
-pub zero-else : (t : Bool) (x y : ℕ) → cond t x (suc y) ≡ 0 → (t ≡ true) × (x ≡ 0)
-zero-else true x y e = (refl, e)
-zero-else false x y e = absurd (omega arith)
 
 passed-of : (fault : ℕ) (t : Bool) (x : ℕ) → eqb fault 0 ≡ t → cond t x fault ≡ 0 → (fault ≡ 0) × (x ≡ 0)
 passed-of fault true x q e = (eqb-true fault 0 q, e)

@@ -19,7 +19,8 @@ use Rattle.assembler.specs.State.{State, sound}
 use Rattle.assembler.specs.Put.{words, jumps, labels, twice, with-word, with-jump, with-label, place, placed, put-number, settled, put}
 use Rattle.assembler.proofs.Writes.{length-bytes}
 use Rattle.finish.specs.Finish.{Ending, jump-word, patched, finish-number, about, finished, finish}
-use Rattle.laid.proofs.All.{passed, zero-then, zero-else}
+use Rattle.finish.proofs.Wrong.{zero-then, zero-else}
+use Rattle.laid.proofs.All.{passed}
 use Rattle.laid.proofs.Finished.{finish-right}
 
 sets-behind : (n : ℕ) (b : List ℕ) (at : ℕ) (bs : List ℕ) → at + length bs ≤ n → drop n (sets b at bs) ≡ drop n b

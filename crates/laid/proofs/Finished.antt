@@ -22,12 +22,11 @@ use Rattle.assembler.specs.Resolved.{resolved, label-place}
 use Rattle.assembler.specs.declared.Kind.{Kind}
 use Rattle.assembler.proofs.Tests.{no}
 use Rattle.finish.specs.Finish.{labels-good, first-with, finish-number, about, ended, finished, finish}
-use Rattle.finish.proofs.Wrong.{Right, right}
+use Rattle.finish.proofs.Wrong.{zero-then, zero-else, Right, right}
 use Rattle.finish.proofs.Ends.{all-right}
 use Rattle.laid.specs.Laid.{Laid, Labelled, Reaching, jumps-in, entry, place-in}
 use Rattle.laid.proofs.Joined.{label-within, resolved-same}
 use Rattle.laid.proofs.Over.{at-label, patched-resolved, kind-back}
-use Rattle.laid.proofs.All.{zero-then, zero-else}
 
 module _ (s : State) where
   ended-accepts : (k : ℕ) → ended k s .answer ≡ accepted tt → (k ≡ 0) × (ended k s .state ≡ finished s)

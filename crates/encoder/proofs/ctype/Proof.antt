@@ -1,8 +1,7 @@
 use borrow.Author.Needs.{needs}
 use borrow.Author.Tests.{not-true, not-false}
 use mathlib.Core.Path.{_≡_, sym, _∙_}
-use mathlib.Core.Bool.{true, false}
-use lib.Dec.{ltb}
+use mathlib.Core.Bool.{true}
 use lib.ListN.{getD}
 use mathlib.Core.List.{[], _∷_}
 use Rattle.isa.specs.Instr.{register, registers-hold, C, FSQRT-D, valid, rounding, c-rounding}
@@ -16,7 +15,9 @@ passed : (c : tie.Else1) → registers-hold (register (c .before .before .args .
 passed c = sym (c .before .registers .ensures) ∙ not-false _ (c .if1 .left)
 
 rounded : (c : tie.Else1) → valid (C (getD c-ops (c .before .before .args .op) FSQRT-D) (c .before .before .args .rd) (c .before .before .args .rs1) (c .before .before .args .rm)) ≡ true
-rounded c = inside (ltb (c .before .before .args .rd) 32) (ltb (c .before .before .args .rs1) 32) _ (Holds-holds (rounding (c-rounding (getD c-ops (c .before .before .args .op) FSQRT-D)) (c .before .before .args .rm)) (c .before .before .pre .1)) (passed c)
+rounded c =
+    let o = rounding (c-rounding (getD c-ops (c .before .before .args .op) FSQRT-D)) (c .before .before .args .rm) in
+    inside o (c .before .before .args .rd ∷ c .before .before .args .rs1 ∷ []) (passed c) (Holds-holds o (c .before .before .pre .1))
 
 registers-requires : tie.Need-registers-requires
 registers-requires c κs = search needs

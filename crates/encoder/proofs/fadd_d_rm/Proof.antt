@@ -1,8 +1,10 @@
 use borrow.Author.Needs.{needs}
 use mathlib.Core.Path.{_≡_, sym, _∙_}
-use lib.Dec.{lit<, ltb}
+use mathlib.Core.List.{[], _∷_}
+use lib.Dec.{lit<}
+use Rattle.isa.specs.Instr.{rounding, free}
 use Rattle.isa.proofs.Validity.{true-T}
-use Rattle.encoder.proofs.Answers.{bad-register, bad-value, outside3}
+use Rattle.encoder.proofs.Answers.{bad-register, bad-value, outside}
 use Rattle.encoder.proofs.fadd_d_rm.Statement.{statement}
 use Rattle.encoder.proofs.fadd_d_rm.Tie as tie
 
@@ -21,7 +23,7 @@ registers-requires c κs = search needs
 returns-2 : tie.Need-returns-2
 returns-2 c =
     bad-value _ (sym (c .before .registers .ensures) ∙ c .if2 .taken)
-    (outside3 (ltb (c .before .before .before .before .args .rd) 32) (ltb (c .before .before .before .before .args .rs1) 32) (ltb (c .before .before .before .before .args .rs2) 32) _ (sym (c .before .before .before .rounding .ensures) ∙ c .before .before .if1 .left))
+    (outside (rounding free (c .before .before .before .before .args .rm)) (c .before .before .before .before .args .rd ∷ c .before .before .before .before .args .rs1 ∷ c .before .before .before .before .args .rs2 ∷ []) (sym (c .before .before .before .rounding .ensures) ∙ c .before .before .if1 .left))
 
 returns-3 : tie.Need-returns-3
 returns-3 c = bad-register _ (sym (c .before .registers .ensures) ∙ c .if2 .left)

@@ -6,8 +6,8 @@ use borrow.Author.Needs.{needs}
 use Rattle.isa.specs.Immediate.{hi, lo}
 use Rattle.isa.specs.Instr.{U, I, B, AUIPC, LD, JALR, FLD, BEQ, BNE}
 use Rattle.encoder.specs.Answer.{encoded}
-use Rattle.assembler.proofs.Handed.{hi-kept, lo-kept}
-use Rattle.finish.proofs.Near.{offset-kept, last-kind}
+use Rattle.encoder.proofs.ReadBack.{back-hi, back-lo}
+use Rattle.finish.proofs.Near.{offset-back, last-kind}
 use Rattle.finish.proofs.jump_encoded.Statement.{statement}
 use Rattle.finish.proofs.jump_encoded.Tie as tie
 
@@ -23,7 +23,7 @@ auipc-requires c κs = search needs
 returns : tie.Need-returns
 returns c =
     rw (c .before .before .if1 .taken) (c .auipc .ensures
-    ∙ ap (λ (z : ℤ). encoded (U AUIPC 5 z)) (hi-kept _ _ (c .before .hi .ensures) ∙ ap (λ (u : ℕ). pos (hi u)) (c .before .before .before .twos-of .ensures)))
+    ∙ ap (λ (z : ℤ). encoded (U AUIPC 5 z)) (back-hi _ _ (c .before .hi .ensures) ∙ ap (λ (u : ℕ). pos (hi u)) (c .before .before .before .twos-of .ensures)))
 
 second-requires : tie.Need-second-requires
 second-requires c κs = search needs
@@ -34,7 +34,7 @@ ld-requires c κs = search needs
 returns-2 : tie.Need-returns-2
 returns-2 c =
     rw (c .before .before .if2 .taken) (c .ld .ensures
-    ∙ ap (λ (z : ℤ). encoded (I LD (c .before .before .before .before .before .args .r) 5 z)) (lo-kept (c .before .before .before .before .twos-of .result + 4) _ (c .before .second .ensures) ∙ ap (λ (u : ℕ). lo (u + 4)) (c .before .before .before .before .twos-of .ensures)))
+    ∙ ap (λ (z : ℤ). encoded (I LD (c .before .before .before .before .before .args .r) 5 z)) (back-lo _ (c .before .before .before .before .twos-of .result + 4) (c .before .second .ensures) ∙ ap (λ (u : ℕ). lo (u + 4)) (c .before .before .before .before .twos-of .ensures)))
 
 second-requires-2 : tie.Need-second-requires-2
 second-requires-2 c κs = search needs
@@ -45,7 +45,7 @@ jalr-requires c κs = search needs
 returns-3 : tie.Need-returns-3
 returns-3 c =
     rw (c .before .before .if3 .taken) (c .jalr .ensures
-    ∙ ap (λ (z : ℤ). encoded (I JALR (c .before .before .before .before .before .before .args .r) 5 z)) (lo-kept (c .before .before .before .before .before .twos-of .result + 4) _ (c .before .second2 .ensures) ∙ ap (λ (u : ℕ). lo (u + 4)) (c .before .before .before .before .before .twos-of .ensures)))
+    ∙ ap (λ (z : ℤ). encoded (I JALR (c .before .before .before .before .before .before .args .r) 5 z)) (back-lo _ (c .before .before .before .before .before .twos-of .result + 4) (c .before .second2 .ensures) ∙ ap (λ (u : ℕ). lo (u + 4)) (c .before .before .before .before .before .twos-of .ensures)))
 
 second-requires-3 : tie.Need-second-requires-3
 second-requires-3 c κs = search needs
@@ -56,7 +56,7 @@ fld-requires c κs = search needs
 returns-4 : tie.Need-returns-4
 returns-4 c =
     rw (c .before .before .if4 .taken) (c .fld .ensures
-    ∙ ap (λ (z : ℤ). encoded (I FLD (c .before .before .before .before .before .before .before .args .r) 5 z)) (lo-kept (c .before .before .before .before .before .before .twos-of .result + 4) _ (c .before .second3 .ensures) ∙ ap (λ (u : ℕ). lo (u + 4)) (c .before .before .before .before .before .before .twos-of .ensures)))
+    ∙ ap (λ (z : ℤ). encoded (I FLD (c .before .before .before .before .before .before .before .args .r) 5 z)) (back-lo _ (c .before .before .before .before .before .before .twos-of .result + 4) (c .before .second3 .ensures) ∙ ap (λ (u : ℕ). lo (u + 4)) (c .before .before .before .before .before .before .twos-of .ensures)))
 
 offset-of-requires : tie.Need-offset-of-requires
 offset-of-requires c κs = search needs
@@ -68,7 +68,7 @@ returns-5 : tie.Need-returns-5
 returns-5 c =
     let a = c .before .before .before .before .before .before .before .before .args in
     rw (c .before .if5 .taken) (c .beq .ensures
-    ∙ ap (λ (z : ℤ). encoded (B BEQ 18 0 z)) (offset-kept (a .a) (a .b) _ (omega arith) (omega arith) (c .before .before .offset-of .ensures)))
+    ∙ ap (λ (z : ℤ). encoded (B BEQ 18 0 z)) (offset-back (a .a) (a .b) (omega arith) (omega arith) _ (c .before .before .offset-of .ensures)))
 
 bne-requires : tie.Need-bne-requires
 bne-requires c κs = search needs
@@ -77,7 +77,7 @@ returns-6 : tie.Need-returns-6
 returns-6 c =
     let a = c .before .before .before .before .before .before .before .before .args in
     rw (last-kind (a .k) (c .before .before .before .before .before .before .if1 .left) (c .before .before .before .before .before .if2 .left) (c .before .before .before .before .if3 .left) (c .before .before .before .if4 .left) (c .before .if5 .left)) (c .bne .ensures
-    ∙ ap (λ (z : ℤ). encoded (B BNE 7 0 z)) (offset-kept (a .a) (a .b) _ (omega arith) (omega arith) (c .before .before .offset-of .ensures)))
+    ∙ ap (λ (z : ℤ). encoded (B BNE 7 0 z)) (offset-back (a .a) (a .b) (omega arith) (omega arith) _ (c .before .before .offset-of .ensures)))
 
 pub jump-encoded-spec : {M : Type 1} → statement M
 jump-encoded-spec =

@@ -1,7 +1,7 @@
 use mathlib.Core.Path.{sym, ap, _∙_}
 use borrow.Author.Needs.{needs}
 use Rattle.encoder.specs.Answer.{told}
-use Rattle.finish.proofs.Near.{taken-valid, refused-invalid}
+use Rattle.encoder.proofs.Answers.{taken-valid, refused-invalid}
 use Rattle.finish.proofs.reaches.Statement.{statement}
 use Rattle.finish.proofs.reaches.Tie as tie
 

@@ -1,7 +1,7 @@
 use Prim.Native.Nat.{_+_, _%_}
 use mathlib.Core.Path.{_∙_}
 use borrow.Author.Needs.{needs}
-use Rattle.assembler.proofs.Handed.{lo-kept}
+use Rattle.encoder.proofs.ReadBack.{back-lo}
 use Rattle.finish.proofs.Near.{low-part}
 use Rattle.finish.proofs.second.Statement.{statement}
 use Rattle.finish.proofs.second.Tie as tie
@@ -15,7 +15,7 @@ lo-requires c κs = search needs
 returns : tie.Need-returns
 returns c =
     let u = c .before .args .u in
-    lo-kept (u % 4096 + 4) _ (c .lo .ensures) ∙ low-part u
+    back-lo _ (u % 4096 + 4) (c .lo .ensures) ∙ low-part u
 
 pub second-spec : {M : Type 1} → statement M
 second-spec = tie.close (tie.spec add-lo lo-requires returns)

@@ -1,8 +1,8 @@
 use mathlib.Core.Path.{sym, ap, _∙_}
 use borrow.Author.Needs.{needs}
 use Rattle.encoder.specs.Answer.{told}
+use Rattle.encoder.proofs.Answers.{taken-word, refused-invalid}
 use Rattle.assembler.proofs.Tests.{no}
-use Rattle.finish.proofs.Near.{taken-word, refused-invalid}
 use Rattle.finish.proofs.word.Statement.{statement}
 use Rattle.finish.proofs.word.Tie as tie
 

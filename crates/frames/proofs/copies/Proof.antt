@@ -8,7 +8,8 @@ use Rattle.assembler.specs.State.{state}
 use Rattle.framing.specs.Items.{times-over}
 use Rattle.framing.specs.Copies.{copy-first, copy-each}
 use Rattle.frames.specs.Whole.{looped}
-use Rattle.frames.proofs.Parts.{jumps-code, untagged, plan-code}
+use Rattle.accesses.proofs.Placed.{plan-code}
+use Rattle.frames.proofs.Parts.{jumps-code, untagged}
 use Rattle.frames.proofs.Sizes.{none-are, few-are, many-are}
 use borrow.Author.Needs.{needs}
 use Rattle.frames.proofs.copies.Statement.{statement}

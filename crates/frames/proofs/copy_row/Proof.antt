@@ -8,7 +8,8 @@ use Rattle.assembler.specs.State.{State, state}
 use Rattle.laid.proofs.Both.{Accepts}
 use Rattle.framing.specs.Items.{code, times-over}
 use Rattle.framing.specs.Copies.{copy-each}
-use Rattle.frames.proofs.Parts.{plan-code, refuses, opens, closed, row-piece}
+use Rattle.accesses.proofs.Placed.{plan-code}
+use Rattle.frames.proofs.Parts.{refuses, opens, closed, row-piece}
 use Rattle.frames.proofs.Sizes.{six, row-number}
 use Rattle.framing.proofs.Valid.{each-valid}
 use Rattle.frames.proofs.copy_row.Statement.{statement}

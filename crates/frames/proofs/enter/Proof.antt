@@ -7,7 +7,8 @@ use Rattle.assembler.specs.Put.{jumps}
 use Rattle.assembler.specs.State.{state}
 use Rattle.assembler.specs.declared.Kind.the-variants.{Beq}
 use Rattle.framing.specs.Items.{code, mv, opening, at-main}
-use Rattle.frames.proofs.Parts.{plan-code, label-set, plan-jump, refuses, opens, closes, front-piece, piece}
+use Rattle.accesses.proofs.Placed.{plan-code}
+use Rattle.frames.proofs.Parts.{label-set, plan-jump, refuses, opens, closes, front-piece, piece}
 use Rattle.order.specs.declared.Frame.the-variants.{Indirect}
 use Rattle.accesses.proofs.Collect.{answered, collected}
 use Rattle.framing.proofs.Valid.{opening-valid}

@@ -1,16 +1,16 @@
 use native.Mathlib.Omega.{arith}
-use mathlib.Core.Path.{refl, sym, ap, _∙_}
+use mathlib.Core.Path.{refl, sym, _∙_}
 use mathlib.Core.List.{_∷_}
-use Prim.Native.Nat.{ℕ, _*_}
+use Prim.Native.Nat.{_*_}
 use lib.IntN.{pos}
 use denote.Ref.{now}
 use Rattle.isa.specs.Instr.{I, FLD}
 use Rattle.order.specs.declared.Head.{Head}
 use Rattle.order.specs.declared.Frame.the-variants.{Fast}
-use Rattle.assembler.specs.Put.{put}
 use Rattle.assembler.specs.State.{state}
 use Rattle.framing.specs.Items.{closing, epilogue}
-use Rattle.frames.proofs.Parts.{faulted, plan-code}
+use Rattle.accesses.proofs.Placed.{plan-code}
+use Rattle.frames.proofs.Parts.{faulted, faultless}
 use Rattle.framing.proofs.Valid.{closing-valid}
 use Rattle.frames.proofs.Wholes.{closing-few}
 use Rattle.frames.proofs.Counts.{near-result}
@@ -32,7 +32,7 @@ returns c =
     let a = c .before .before .before .before .before .before .before .before .before .args in
     let H : Head = record { frame = Fast; cap = a .cap; states = a .states; obs = a .obs; last = a .last; mask = 0 } in
     let s = state (a .asm) (now (a .labels)) (now (a .jumps)) (now (a .buf)) in
-    faulted 0 _ (epilogue H) s _ (c .before .before .before .before .before .before .if1 .taken) (c .before .before .begin .ensures) ∙ ap (λ (k : ℕ). put 0 k (epilogue H) s) (c .before .before .before .before .before .before .before .result-fault .ensures .0)
+    faulted 0 _ _ (epilogue H) s _ (c .before .before .before .before .before .before .before .result-fault .ensures .0) (c .before .before .before .before .before .before .if1 .taken) (c .before .before .begin .ensures)
 
 fast-end-requires : tie.Need-fast-end-requires
 fast-end-requires c κs =
@@ -53,7 +53,7 @@ returns-2 c =
     let H : Head = record { frame = Fast; cap = a .cap; states = a .states; obs = a .obs; last = a .last; mask = 0 } in
     let s = state (a .asm) (now (a .labels)) (now (a .jumps)) (now (a .buf)) in
     let near = near-result H (sym (c .before .before .before .before .before .before .before .before .result-fault .ensures .0) ∙ c .before .before .before .before .before .before .before .if1 .left) refl in
-    c .before .before .place .ensures ∙ plan-code _ (I FLD 10 9 (pos (8 * a .last)) ∷ closing Fast) (c .before .before .before .before .before .before .fast-end .ensures) (omega (arith, closing-few Fast)) (omega arith, closing-valid Fast) 0 _ ∙ ap (λ (k : ℕ). put 0 k (epilogue H) s) (sym (sym (c .before .before .before .before .before .before .before .before .result-fault .ensures .0) ∙ c .before .before .before .before .before .before .before .if1 .left))
+    faultless 0 _ _ (epilogue H) s _ (c .before .before .before .before .before .before .before .before .result-fault .ensures .0) (c .before .before .before .before .before .before .before .if1 .left) (c .before .before .place .ensures ∙ plan-code _ (I FLD 10 9 (pos (8 * a .last)) ∷ closing Fast) (c .before .before .before .before .before .before .fast-end .ensures) (omega (arith, closing-few Fast)) (omega arith, closing-valid Fast) 0 _)
 
 pub epilogue-fast-spec : {M : Type 1} → statement M
 epilogue-fast-spec =

@@ -7,7 +7,8 @@ use denote.Ref.{now}
 use Rattle.assembler.specs.Put.{jumps}
 use Rattle.assembler.specs.State.{state}
 use Rattle.framing.specs.Items.{code, mv, opening, states-from, prologue-fast}
-use Rattle.frames.proofs.Parts.{plan-code, refuses, opens, closes, code-piece, size-put}
+use Rattle.accesses.proofs.Placed.{plan-code}
+use Rattle.frames.proofs.Parts.{refuses, opens, closes, code-piece, size-put}
 use Rattle.order.specs.declared.Head.{Head}
 use Rattle.order.specs.declared.Frame.the-variants.{Fast}
 use Rattle.accesses.specs.Code.{sub-stack-code}

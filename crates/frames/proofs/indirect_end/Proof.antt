@@ -10,7 +10,8 @@ use Rattle.assembler.specs.State.{state}
 use Rattle.assembler.specs.declared.Kind.the-variants.{Beq}
 use Rattle.framing.specs.Items.{code, closing, epilogue-indirect, at-done}
 use Rattle.framing.specs.Copies.{copies}
-use Rattle.frames.proofs.Parts.{plan-code, label-set, refuses, opens, closes, piece}
+use Rattle.accesses.proofs.Placed.{plan-code}
+use Rattle.frames.proofs.Parts.{label-set, refuses, opens, closes, piece}
 use Rattle.order.specs.declared.Head.{Head}
 use Rattle.order.specs.declared.Frame.the-variants.{Indirect}
 use Rattle.framing.proofs.Valid.{closing-valid}

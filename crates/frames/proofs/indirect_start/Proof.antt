@@ -12,7 +12,8 @@ use Rattle.assembler.specs.State.{state}
 use Rattle.framing.specs.Items.{code, mv, prologue-indirect, at-main}
 use Rattle.framing.specs.Copies.{copies}
 use Rattle.frames.specs.Whole.{entry}
-use Rattle.frames.proofs.Parts.{plan-code, label-set, refuses, opens, closes, front-piece, piece, size-put}
+use Rattle.accesses.proofs.Placed.{plan-code}
+use Rattle.frames.proofs.Parts.{label-set, refuses, opens, closes, front-piece, piece, size-put}
 use Rattle.isa.specs.Instr.{Shift, SLLI}
 use Rattle.order.specs.declared.Head.{Head}
 use Rattle.order.specs.declared.Frame.the-variants.{Indirect}

@@ -4,7 +4,8 @@ use Rattle.isa.specs.Instr.{I, ADDI}
 use Rattle.assembler.specs.Item.{label}
 use Rattle.assembler.specs.Put.{jumps}
 use Rattle.framing.specs.Items.{code, reload, reloads}
-use Rattle.frames.proofs.Parts.{plan-code, refuses, opens, closes, piece}
+use Rattle.accesses.proofs.Placed.{plan-code}
+use Rattle.frames.proofs.Parts.{refuses, opens, closes, piece}
 use Rattle.accesses.proofs.Collect.{collected}
 use Rattle.accesses.proofs.Numbers.{answered-at}
 use lib.ListN.{length-map}

@@ -14,7 +14,8 @@ use Rattle.assembler.specs.declared.Kind.the-variants.{Bne}
 use Rattle.framing.specs.Items.{code, count-down}
 use Rattle.framing.specs.Copies.{copy-first, copy-each, copy-label}
 use Rattle.frames.specs.Whole.{looped}
-use Rattle.frames.proofs.Parts.{plan-code, label-set, plan-jump, refuses, opens, closes, front-piece, piece}
+use Rattle.accesses.proofs.Placed.{plan-code}
+use Rattle.frames.proofs.Parts.{label-set, plan-jump, refuses, opens, closes, front-piece, piece}
 use Rattle.framing.proofs.Valid.{first-valid, each-valid}
 use Rattle.accesses.specs.Plans.{plan-of}
 use Rattle.accesses.specs.Code.{li-code}

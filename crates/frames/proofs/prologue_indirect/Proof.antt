@@ -1,12 +1,10 @@
-use mathlib.Core.Path.{sym, ap, _∙_}
-use Prim.Native.Nat.{ℕ}
+use mathlib.Core.Path.{sym, _∙_}
 use denote.Ref.{now}
 use Rattle.order.specs.declared.Head.{Head}
 use Rattle.order.specs.declared.Frame.the-variants.{Indirect}
-use Rattle.assembler.specs.Put.{put}
 use Rattle.assembler.specs.State.{state}
 use Rattle.framing.specs.Items.{prologue}
-use Rattle.frames.proofs.Parts.{faulted}
+use Rattle.frames.proofs.Parts.{faulted, faultless}
 use Rattle.frames.proofs.Counts.{bounds}
 use borrow.Author.Needs.{needs}
 use Rattle.frames.proofs.prologue_indirect.Statement.{statement}
@@ -26,7 +24,7 @@ returns c =
     let a = c .before .before .before .before .before .before .before .before .before .args in
     let H : Head = record { frame = Indirect; cap = a .cap; states = a .states; obs = a .obs; last = a .last; mask = 0 } in
     let s = state (a .asm) (now (a .labels)) (now (a .jumps)) (now (a .buf)) in
-    faulted (a .tag) _ (prologue H) s _ (c .before .before .before .before .before .before .if1 .taken) (c .before .before .begin .ensures) ∙ ap (λ (k : ℕ). put (a .tag) k (prologue H) s) (c .before .before .before .before .before .before .before .count-fault .ensures .0)
+    faulted (a .tag) _ _ (prologue H) s _ (c .before .before .before .before .before .before .before .count-fault .ensures .0) (c .before .before .before .before .before .before .if1 .taken) (c .before .before .begin .ensures)
 
 indirect-start-requires : tie.Need-indirect-start-requires
 indirect-start-requires c κs =
@@ -43,7 +41,7 @@ returns-2 c =
     let a = c .before .before .before .before .before .before .before .before .before .args in
     let H : Head = record { frame = Indirect; cap = a .cap; states = a .states; obs = a .obs; last = a .last; mask = 0 } in
     let s = state (a .asm) (now (a .labels)) (now (a .jumps)) (now (a .buf)) in
-    c .before .before .indirect-start .ensures ∙ ap (λ (k : ℕ). put (a .tag) k (prologue H) s) (sym (sym (c .before .before .before .before .before .before .before .count-fault .ensures .0) ∙ c .before .before .before .before .before .before .if1 .left))
+    faultless (a .tag) _ _ (prologue H) s _ (c .before .before .before .before .before .before .before .count-fault .ensures .0) (c .before .before .before .before .before .before .if1 .left) (c .before .before .indirect-start .ensures)
 
 pub prologue-indirect-spec : {M : Type 1} → statement M
 prologue-indirect-spec =

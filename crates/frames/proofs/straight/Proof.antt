@@ -6,7 +6,8 @@ use Rattle.assembler.specs.Put.{jumps}
 use Rattle.assembler.specs.State.{state}
 use Rattle.framing.specs.Items.{code, times-over}
 use Rattle.framing.specs.Copies.{copy-first, copy-each}
-use Rattle.frames.proofs.Parts.{plan-code, refuses, opens, closes, code-piece}
+use Rattle.accesses.proofs.Placed.{plan-code}
+use Rattle.frames.proofs.Parts.{refuses, opens, closes, code-piece}
 use Rattle.framing.proofs.Valid.{first-valid}
 use Rattle.frames.proofs.Sizes.{straight-number}
 use borrow.Author.Needs.{needs}
