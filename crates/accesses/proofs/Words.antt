@@ -10,11 +10,7 @@ use lib.ListN.{length, set}
 use lib.Seq.{sets}
 use native.Mathlib.Numerals.{add-one}
 use native.Mathlib.Nat.{add-zero}
-use Rattle.assembler.specs.Item.{raw}
-use Rattle.assembler.specs.State.{State}
-use Rattle.assembler.specs.Put.{words, jumps, labels, place, placed, put}
-use Rattle.assembler.specs.Plan.{pushed, plan-fault, plan-items}
-use Rattle.assembler.specs.declared.Tail.the-variants.{Nothing}
+use Rattle.assembler.specs.Plan.{pushed}
 use Rattle.assembler.specs.declared.Plan.{Plan}
 use Rattle.encoder.specs.declared.Encoded.{Encoded}
 use Rattle.encoder.specs.declared.Encoded.the-variants.{Word, Refused}
@@ -81,11 +77,3 @@ seven-more p a b c d e f g h =
     let e5 : n + 5 ≡ suc (suc (suc (suc (suc n)))) = omega arith in
     let e6 : n + 6 ≡ suc (suc (suc (suc (suc (suc n))))) = omega arith in
     rw (e1, e2, e3, e4, e5, e6) (sym (words-more n (p .fault) (p .w) (a ∷ b ∷ c ∷ d ∷ e ∷ f ∷ g ∷ []) (omega arith)))
-
--- a word appended is a plan of one word placed
-one-placed : (w tag : ℕ) (s : State) → put 0 0 (raw w ∷ []) s ≡ put tag (plan-fault (pushes (Word w ∷ [])) Nothing) (plan-items (pushes (Word w ∷ [])) Nothing) s
-unfolding pushed put words jumps labels place placed
-one-placed w tag s = refl
-
-pub word-placed : (e : Encoded) (w tag : ℕ) (s : State) → e ≡ Word w → put 0 0 (raw w ∷ []) s ≡ put tag (plan-fault (pushes (e ∷ [])) Nothing) (plan-items (pushes (e ∷ [])) Nothing) s
-word-placed e w tag s h = rw h (one-placed w tag s)

@@ -10,8 +10,7 @@ ghost use Rattle.isa.specs.Instr.{R, I, U, ADD, ADDI, LUI};
 ghost use Rattle.assembler.specs.Item.{instr};
 ghost use Rattle.assembler.specs.State.{state, outcome};
 ghost use Rattle.assembler.specs.Put.{put};
-ghost use Rattle.assembler.specs.Plan.{plan-items, plan-fault, pushed};
-ghost use Rattle.assembler.specs.declared.Tail.the-variants.{Nothing};
+ghost use Rattle.assembler.specs.Plan.{pushed};
 ghost use Rattle.accesses.specs.Code.{li-code, point-code, load-float-code, save-float-code, load-int-code, load-complex-code, save-complex-code, sub-stack-code, add-stack-code, allocate-stack-code};
 ghost use Rattle.accesses.specs.Fault.{li-fault, access-fault, one-fault, pair-fault, stack-fault};
 ghost use Rattle.accesses.specs.Plans.{is-word, word-of, pushes-from, pushes, plan-of, settled-plan};
@@ -174,31 +173,6 @@ pub fn seven_more(
     let p = assembler::push(assembler::push(assembler::push(p, a), b), c);
     let p = assembler::push(assembler::push(p, d), e);
     assembler::push(assembler::push(p, f), g)
-}
-
-// One instruction, placed.
-pub fn append_one(
-    a: Encoded,
-    tag: u32,
-    buf: &mut [u8],
-    labels: &mut [u64; 2039],
-    jumps: &mut [u32; 20480],
-    asm: Asm,
-) -> Done
-    ensures { λ r. ⌜ outcome r (now (labels .exit)) (now (jumps .exit)) (now (buf .exit)) ≡ put tag (plan-fault (pushes (a ∷ [])) Nothing) (plan-items (pushes (a ∷ [])) Nothing) (state asm (now (labels .entry)) (now (jumps .entry)) (now (buf .entry))) ⌝ }
-{
-    match a {
-        Encoded::Word(w) => assembler::append_word(w, buf, labels, jumps, asm),
-        Encoded::Refused(_, _) => assembler::place(
-            one(a),
-            Tail::Nothing,
-            tag,
-            buf,
-            labels,
-            jumps,
-            asm,
-        ),
-    }
 }
 
 // ---- li

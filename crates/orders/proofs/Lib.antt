@@ -7,6 +7,5 @@ pub mod Cases
 pub mod Does
 pub mod Laws
 pub mod Whole
-pub mod Shorts
 pub mod Examples
 pub mod Wrote

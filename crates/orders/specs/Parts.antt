@@ -4,9 +4,6 @@ use Prim.Native.Nat.{ℕ}
 use Rattle.isa.specs.Instr.{Instr}
 use Rattle.assembler.specs.Item.{Item, instr, raw, jump, label}
 use Rattle.assembler.specs.Plan.{tail-items, tail-fault, label-fault}
-use Rattle.accesses.specs.Plans.{answer-of}
-use Rattle.orders.specs.declared.Short.{Short}
-use Rattle.orders.specs.declared.Short.the-variants.{Is, Other}
 use Rattle.orders.specs.declared.Rest.{Rest}
 use Rattle.orders.specs.declared.Rest.the-variants.{Jumps, Label}
 
@@ -25,9 +22,3 @@ joined (Label l) is = label l ∷ []
 abbrev pub rest-fault : Rest → ℕ
 rest-fault (Jumps t) = tail-fault t
 rest-fault (Label l) = label-fault l
-
--- the encoder's answer where there is one instruction
-abbrev pub short-of : List Instr → Short
-short-of [] = Other
-short-of (i ∷ []) = Is (answer-of i)
-short-of (i ∷ (j ∷ is)) = Other

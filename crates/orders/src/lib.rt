@@ -18,7 +18,7 @@ ghost use Rattle.accesses.specs.Plans.{answer-of, plan-of};
 ghost use Rattle.orders.specs.Code.{code, base, unary-code, scratched-code, binary-code, fused-op, choose-code, skip};
 ghost use Rattle.orders.specs.Fault.{fault as fault-of, registers-fit};
 ghost use Rattle.orders.specs.Emitted.{emitted};
-ghost use Rattle.orders.specs.Parts.{instrs-of, joined, rest-fault, short-of};
+ghost use Rattle.orders.specs.Parts.{instrs-of, joined, rest-fault};
 ghost use Rattle.orders.specs.Wrote.{word, Wrote, Wrote-order};
 use assembler::Asm;
 use assembler::Done;
@@ -47,12 +47,6 @@ const STACK: u32 = 21;
 enum Rest {
     Jumps(Tail),
     Label(u32),
-}
-
-// The instruction of an order that has one and nothing else.
-enum Short {
-    Is(Encoded),
-    Other,
 }
 
 // ---- words by shape
@@ -209,73 +203,6 @@ fn base_of(p: Place) -> u32
     }
 }
 
-// ---- orders of one instruction
-
-fn short_unary(k: Unary, d: u32, s: u32) -> Short
-    ensures { λ r. ⌜ r ≡ short-of (unary-code k d s) ⌝ }
-{
-    match k {
-        Unary::Fmov => {
-            if d == s {
-                return Short::Other;
-            }
-            Short::Is(encoder::fmv_d(d, s))
-        }
-        Unary::Recip => Short::Other,
-        Unary::Round => Short::Other,
-        Unary::Floor => Short::Other,
-        Unary::Not => Short::Other,
-    }
-}
-
-fn short_binary(k: Binary, d: u32, a: u32, b: u32) -> Short
-    ensures { λ r. ⌜ r ≡ short-of (binary-code k d a b) ⌝ }
-{
-    match k {
-        Binary::Minus => Short::Is(encoder::fsub_d(d, a, b)),
-        Binary::Times => Short::Is(encoder::fmul_d(d, a, b)),
-        Binary::Divide => Short::Is(encoder::fdiv_d(d, a, b)),
-        Binary::Xor => {
-            if a == b {
-                return Short::Is(encoder::fmv_d_x(d, 0));
-            }
-            Short::Other
-        }
-        Binary::Gt => Short::Other,
-        Binary::Neq => Short::Other,
-        Binary::And => Short::Other,
-        Binary::Andnot => Short::Other,
-        Binary::Or => Short::Other,
-    }
-}
-
-fn short_order(o: Order) -> Short
-    ensures { λ r. ⌜ r ≡ short-of (instrs-of (code o)) ⌝ }
-{
-    match o {
-        Order::Unary(k, d, s) => short_unary(k, d, s),
-        Order::Scratched(_, _, _, _) => Short::Other,
-        Order::Binary(k, d, a, b) => short_binary(k, d, a, b),
-        Order::Fused(k, d, a, b, c) => Short::Is(fused(k, d, a, b, c)),
-        Order::Ifelse(_, _, _, _) => Short::Other,
-        Order::LoadConst(_, _) => Short::Other,
-        Order::Load(d, p, i) => {
-            if i < 256 {
-                return Short::Is(encoder::fld(d, base_of(p), (8 * i) as i32));
-            }
-            Short::Other
-        }
-        Order::Save(s, p, i) => {
-            if i < 256 {
-                return Short::Is(encoder::fsd(s, base_of(p), (8 * i) as i32));
-            }
-            Short::Other
-        }
-        Order::BranchIf(_, _, _) => Short::Other,
-        Order::SetLabel(_) => Short::Other,
-    }
-}
-
 // ---- refusals
 
 // Whether four registers are below 32.
@@ -392,9 +319,6 @@ pub fn emit(
     let k = fault(o);
     if k != 0 {
         return assembler::place(refused_plan(k), Tail::Nothing, tag, buf, labels, jumps, asm);
-    }
-    if let Short::Is(e) = short_order(o) {
-        return accesses::append_one(e, tag, buf, labels, jumps, asm);
     }
     let p = plan(o);
     let r = behind(o);
