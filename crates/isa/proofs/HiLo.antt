@@ -2,13 +2,13 @@
 use mathlib.Core.Path.{_≡_, refl}
 use mathlib.Core.Logic.{_⊎_, inl, inr}
 use mathlib.Core.Bool.{Bool, true, false, cond}
-use Prim.Native.Nat.{ℕ, _+_, _-_, _*_, _/_, _%_, _^_, _≤_, _<_}
+use Prim.Native.Nat.{ℕ, _+_, _-_, _*_, _%_, _^_, _≤_, _<_}
 use native.Mathlib.Omega.{arith}
-use borrow.Author.Tests.{ltb-true, ltb-false, lt-ltb}
+use borrow.Author.Tests.{ltb-true, ltb-false}
 use lib.Dec.{ltb}
 use lib.IntN.{ℤ, pos, negsuc}
 use lib.Signed.{mag}
-use Rattle.isa.specs.Immediate.{twos, signed, hi, lo}
+use Rattle.isa.specs.Immediate.{twos, hi, lo}
 
 -- the two cases of `lo`
 module _ (P : ℤ → Type 0) (x : ℕ) (low : x % 4096 < 2048 → P (pos (x % 4096))) (high : 2048 ≤ x % 4096 → P (negsuc (4095 - x % 4096))) where

@@ -1,8 +1,8 @@
 -- Laws of the encoding: an instruction's word gives the instruction back, and no other word does. Assumes nothing.
-use mathlib.Core.Path.{_≡_, refl, ap, sym, _∙_}
+use mathlib.Core.Path.{_≡_, refl, ap, _∙_}
 use mathlib.Core.Bool.{Bool, true, false, _&&_, _||_, cond}
 use mathlib.Core.Option.{Option, some, none}
-use Prim.Native.Nat.{ℕ, _+_, _-_, _*_, _/_, _%_, _^_, _≤_, _<_}
+use Prim.Native.Nat.{ℕ, _+_, _-_, _*_, _/_, _%_, _^_, _<_}
 use native.Mathlib.Nat.{mod-eq-of-lt, mod-lt}
 use lib.Pow.{pow-pos}
 use native.Mathlib.Omega.{arith}
@@ -13,7 +13,7 @@ use lib.Signed.{mag}
 use Rattle.isa.specs.Immediate.{twos, signed}
 use Rattle.isa.specs.Instr.{Instr, R, F, C, M, R4, I, Shift, S, B, U, J, ADD, SUB, SLL, XOR, SRL, SRA, OR, AND, FSGNJ-D, FSGNJN-D, FSGNJX-D, FMIN-D, FMAX-D, FLE-D, FLT-D, FEQ-D, FADD-D, FSUB-D, FMUL-D, FDIV-D, FSQRT-D, FCVT-W-D, FCVT-L-D, FCVT-D-W, FCVT-D-L, FMV-X-D, FMV-D-X, FMADD-D, FMSUB-D, FNMSUB-D, FNMADD-D, ADDI, XORI, ORI, ANDI, JALR, LD, FLD, SLLI, SRLI, SRAI, SD, FSD, BEQ, BNE, BLT, BGE, BLTU, BGEU, LUI, AUIPC, JAL, BOp, Holds, offset, unsigned, rounding, free, Valid, valid}
 use Rattle.isa.specs.Encode.{Fields, join, fields, encode}
-use Rattle.isa.specs.Decode.{cut, i-imm, shamt, s-imm, b-imm, u-imm, j-imm, reading, checked, decode}
+use Rattle.isa.specs.Decode.{cut, b-imm, j-imm, reading, checked, decode}
 use Rattle.isa.proofs.Validity.{both, valid-Valid, Valid-valid}
 
 -- ---- a word's six fields

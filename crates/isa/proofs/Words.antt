@@ -1,6 +1,6 @@
 -- An instruction's word is the word of its operation with no operands, the base word, and its operands at their places. Assumes nothing.
 use mathlib.Core.Path.{_≡_}
-use Prim.Native.Nat.{ℕ, _+_, _*_, _/_, _%_, _<_}
+use Prim.Native.Nat.{ℕ, _+_, _*_, _/_, _%_}
 use native.Mathlib.Omega.{arith}
 use lib.IntN.{ℤ, pos}
 use Rattle.isa.specs.Immediate.{twos}

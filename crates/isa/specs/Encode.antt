@@ -1,6 +1,5 @@
 -- Encodings, from the RISC-V Unprivileged ISA Manual: the instruction formats and the opcode tables of RV64I, F and D.
 use Prim.Native.Nat.{ℕ, _+_, _*_, _/_, _%_, _^_}
-use lib.IntN.{ℤ}
 use Rattle.isa.specs.Immediate.{twos}
 use Rattle.isa.specs.Instr.{Instr, R, F, C, M, R4, I, Shift, S, B, U, J, ROp, ADD, SUB, SLL, XOR, SRL, SRA, OR, AND, FSGNJ-D, FSGNJN-D, FSGNJX-D, FMIN-D, FMAX-D, FLE-D, FLT-D, FEQ-D, FOp, FADD-D, FSUB-D, FMUL-D, FDIV-D, COp, FSQRT-D, FCVT-W-D, FCVT-L-D, FCVT-D-W, FCVT-D-L, MOp, FMV-X-D, FMV-D-X, R4Op, FMADD-D, FMSUB-D, FNMSUB-D, FNMADD-D, IOp, ADDI, XORI, ORI, ANDI, JALR, LD, FLD, ShiftOp, SLLI, SRLI, SRAI, SOp, SD, FSD, BOp, BEQ, BNE, BLT, BGE, BLTU, BGEU, UOp, LUI, AUIPC, JOp, JAL}
 

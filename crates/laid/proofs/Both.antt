@@ -1,13 +1,13 @@
--- Items placed in one order or in two: the same where both are accepted. Assumes nothing.
-use mathlib.Core.Path.{_≡_, refl, sym, ap, subst, _∙_}
-use mathlib.Core.Bool.{Bool, true, false, not, _&&_, _||_}
+-- An order that is accepted whole is accepted in two parts as well. Assumes nothing.
+use mathlib.Core.Path.{_≡_, refl, sym, ap, _∙_}
+use mathlib.Core.Bool.{Bool, true, false, _&&_, _||_}
 use mathlib.Core.List.{List, [], _∷_, _++_}
-use Prim.Native.Nat.{ℕ, _+_, _*_, _%_, _^_, _≤_, _<_}
+use Prim.Native.Nat.{ℕ, _+_, _*_, _%_, _≤_}
 use native.Mathlib.Omega.{arith}
-use borrow.Author.Tests.{le-leb, eqb-true, eqb-false, eq-eqb, ne-eqb}
+use borrow.Author.Tests.{le-leb, eqb-true, eqb-false, eq-eqb}
 use lib.Dec.{leb, eqb}
 use lib.ListN.{length, getD, set, length-append, length-set}
-use lib.Seq.{getD-set-same, getD-set-other}
+use lib.Seq.{getD-set-other}
 use Rattle.isa.specs.Encode.{encode}
 use Rattle.isa.proofs.Validity.{both}
 use Rattle.refusal.specs.Answer.{accepted}
@@ -18,12 +18,10 @@ use Rattle.assembler.specs.Label.{is-set, with-place}
 use Rattle.assembler.specs.State.{State, sound, fits}
 use Rattle.assembler.specs.Put.{words, jumps, labels, among, twice, with-word, with-jump, with-label, place, placed, verdict, put}
 use Rattle.assembler.specs.declared.Asm.{Asm}
-use Rattle.assembler.proofs.Tests.{no}
 use Rattle.assembler.proofs.Items.{words-append, jumps-append, labels-append, placed-append}
 use Rattle.assembler.proofs.Writes.{length-written}
 use Rattle.assembler.proofs.Checks.{v-good}
 use Rattle.assembler.proofs.Steps.{put-done}
-use Rattle.laid.specs.Laid.{Labelled}
 use Rattle.laid.proofs.All.{accepts, either}
 
 -- ---- what placing does to the record
@@ -56,19 +54,6 @@ moved tag (label l ∷ is) s =
 neither : (a b : Bool) → a ≡ false → b ≡ false → (a || b) ≡ false
 neither a b e f = rw (e, f)
 
--- a set label is none of those that can be set
-apart : (m : List ℕ) (l : ℕ) (ls : List ℕ) → is-set (getD m l 0) ≡ true → twice m ls ≡ false → among l ls ≡ false
-unfolding among twice
-apart m l [] e t = refl
-apart m l (k ∷ ls) e t =
-    let p = either (is-set (getD m k 0)) (among k ls || twice m ls) t in
-    let q = either (among k ls) (twice m ls) (p .1) in
-    neither (eqb k l) (among l ls) (differ (eqb k l) refl (p .0)) (apart m l ls e (q .1))
-  where
-    differ : (t : Bool) → eqb k l ≡ t → is-set (getD m k 0) ≡ false → eqb k l ≡ false
-    differ false q f = q
-    differ true q f = no (sym f ∙ ap (λ (x : ℕ). is-set (getD m x 0)) (eqb-true k l q) ∙ e)
-
 -- whether the others can be set doesn't depend on one that is not among them
 other : (m : List ℕ) (l x : ℕ) (ls : List ℕ) → among l ls ≡ false → twice (set m l x) ls ≡ twice m ls
 unfolding among twice
@@ -82,12 +67,6 @@ among-first : (l : ℕ) (xs ys : List ℕ) → among l (xs ++ ys) ≡ false → 
 unfolding among
 among-first l [] ys e = refl
 among-first l (x ∷ xs) ys e = let p = either (eqb x l) (among l (xs ++ ys)) e in neither (eqb x l) (among l xs) (p .0) (among-first l xs ys (p .1))
-
-place-set : (e p : ℕ) → p ≤ 65536 → is-set (with-place e p) ≡ true
-place-set e p h =
-    let n : with-place e p % 2 ^ 32 ≡ p + 1 = omega arith in
-    let z : with-place e p % 2 ^ 32 ≡ 0 → ⊥ = λ q. omega arith in
-    ap not (ne-eqb (with-place e p % 2 ^ 32) 0 z)
 
 module _ (tag : ℕ) where
   -- set in one go, or some and then the others
@@ -105,23 +84,6 @@ module _ (tag : ℕ) where
       let a = among-first l (labels is) ls (q .0) in
       let r = twice-split is ls (with-label l s) (other (s .labels) l x (labels is ++ ls) (q .0) ∙ q .1) in
       (neither _ _ (p .0) (neither _ _ a (sym (other (s .labels) l x (labels is) a) ∙ r .0)), r .1)
-
-  pub twice-join : (is : List Item) (ls : List ℕ) (s : State) → Labelled is → length (s .labels) ≡ 2039 → s .asm .len + 4 * length (words is) ≤ 65536
-      → twice (s .labels) (labels is) ≡ false → twice (placed tag is s .labels) ls ≡ false → twice (s .labels) (labels is ++ ls) ≡ false
-  unfolding words labels twice placed place with-word with-jump with-label
-  twice-join [] ls s h n w t u = u
-  twice-join (instr i ∷ is) ls s h n w t u = twice-join is ls (with-word (encode i) s) h n (omega arith) t u
-  twice-join (raw x ∷ is) ls s h n w t u = twice-join is ls (with-word x s) h n (omega arith) t u
-  twice-join (jump k l r ∷ is) ls s h n w t u = twice-join is ls (with-jump (kind-number k) l r tag s) (h .1) n (omega arith) t u
-  twice-join (label l ∷ is) ls s h n w t u =
-      let x = with-place (getD (s .labels) l 0) (s .asm .len) in
-      let p = either (is-set (getD (s .labels) l 0)) (among l (labels is) || twice (s .labels) (labels is)) t in
-      let q = either (among l (labels is)) (twice (s .labels) (labels is)) (p .1) in
-      let r = twice-join is ls (with-label l s) (h .1) (length-set (s .labels) l x ∙ n) w (other (s .labels) l x (labels is) (q .0) ∙ q .1) u in
-      let k : l < length (s .labels) = omega (arith, n, h .0) in
-      let v : is-set (getD (set (s .labels) l x) l 0) ≡ true = ap is-set (getD-set-same (s .labels) l x 0 k) ∙ place-set (getD (s .labels) l 0) (s .asm .len) (omega arith) in
-      let a = apart (set (s .labels) l x) l (labels is ++ ls) v r in
-      neither _ _ (p .0) (neither _ _ a (sym (other (s .labels) l x (labels is ++ ls) a) ∙ r))
 
 -- ---- orders
 
@@ -146,23 +108,7 @@ good t w j n a c s e r f = sym (v-good 0 t w j n a c (λ z. omega arith) (λ z. 
 abbrev pub Accepts : (tag : ℕ) → List Item → State → State → Type 0
 Accepts tag is s t = put tag 0 is s ≡ record { answer = accepted tt; state = t }
 
--- Two orders that are accepted one after the other are accepted as one, with the same state.
-pub put-join : (tag : ℕ) (is js : List Item) (s t u : State) → Labelled is → length (s .labels) ≡ 2039 → Accepts tag is s t → Accepts tag js t u → Accepts tag (is ++ js) s u
-put-join tag is js s t u h n e f =
-    let p = accepts tag 0 is s t e in
-    let q = accepts tag 0 js t u f in
-    let z : t ≡ placed tag is s = p .1 in
-    let m : Moved is s t = subst (Moved is s) (sym z) (moved tag is s) in
-    let w : length (words (is ++ js)) ≡ length (words is) + length (words js) = ap length (words-append is js) ∙ length-append (words is) (words js) in
-    let j = jumps-append is js in
-    let c : room (length (t .buf)) ≡ room (length (s .buf)) = ap room (m .size) in
-    let r : twice (placed tag is s .labels) (labels js) ≡ false = rw (← z) (q .0 .new) in
-    let l : twice (s .labels) (labels (is ++ js)) ≡ false = ap (twice (s .labels)) (labels-append is js) ∙ twice-join tag is (labels js) s h n (omega (arith, p .0 .room-left)) (p .0 .new) r in
-    sym (put-done tag 0 (is ++ js) s u
-    (good _ _ _ _ _ (p .0 .unclosed) (p .0 .well) l (omega (arith, q .0 .room-left, m .len, w, c)) (omega (arith, q .0 .jumps-left, m .jumped, j)))
-    (q .1 ∙ ap (placed tag js) z ∙ sym (placed-append tag is js s)))
-
--- And an accepted order is two, wherever its items are parted.
+-- An accepted order is two, wherever its items are parted.
 pub put-split : (tag : ℕ) (is js : List Item) (s u : State) → Accepts tag (is ++ js) s u → Accepts tag is s (placed tag is s) × Accepts tag js (placed tag is s) u
 put-split tag is js s u e =
     let p = accepts tag 0 (is ++ js) s u e in

@@ -17,7 +17,7 @@ use Rattle.assembler.specs.Bytes.{written}
 use Rattle.assembler.specs.Label.{is-set, place-of}
 use Rattle.assembler.specs.Memory.{Jump, jump-at, jumps-of}
 use Rattle.assembler.specs.State.{State, sound}
-use Rattle.assembler.specs.Put.{words, jumps}
+use Rattle.assembler.specs.Put.{jumps}
 use Rattle.assembler.specs.Resolved.{resolved, label-place}
 use Rattle.assembler.specs.declared.Kind.{Kind}
 use Rattle.assembler.proofs.Tests.{no}

@@ -1,4 +1,4 @@
--- Items joined: their jumps, labels and resolved words. Assumes nothing.
+-- Items joined: their jumps and labels. Assumes nothing.
 use mathlib.Core.Path.{_≡_, refl, ap, _∙_}
 use mathlib.Core.Bool.{Bool, true, false, cond}
 use mathlib.Core.List.{List, [], _∷_, _++_}
@@ -32,17 +32,6 @@ jumps-in-append here (jump k l r ∷ is) js =
     ap (λ (x : List Jump). record { word = here; label = l; reg = r; kind = kind-number k } ∷ x)
     (jumps-in-append (here + 4) is js ∙ ap (λ (h : ℕ). jumps-in (here + 4) is ++ jumps-in h js) (step here (length (words is))))
 jumps-in-append here (label l ∷ is) js = jumps-in-append here is js
-
-pub resolved-append : (at : ℕ → ℕ) (here : ℕ) (is js : List Item) → resolved at here (is ++ js) ≡ resolved at here is ++ resolved at (here + 4 * length (words is)) js
-unfolding resolved words
-resolved-append at here [] js = ap (λ (h : ℕ). resolved at h js) (none-here here)
-resolved-append at here (instr i ∷ is) js =
-    ap (λ (x : List ℕ). encode i ∷ x) (resolved-append at (here + 4) is js ∙ ap (λ (h : ℕ). resolved at (here + 4) is ++ resolved at h js) (step here (length (words is))))
-resolved-append at here (raw w ∷ is) js =
-    ap (λ (x : List ℕ). w ∷ x) (resolved-append at (here + 4) is js ∙ ap (λ (h : ℕ). resolved at (here + 4) is ++ resolved at h js) (step here (length (words is))))
-resolved-append at here (jump k l r ∷ is) js =
-    ap (λ (x : List ℕ). encode (jump-instr k r (subℕ (at l) here)) ∷ x) (resolved-append at (here + 4) is js ∙ ap (λ (h : ℕ). resolved at (here + 4) is ++ resolved at h js) (step here (length (words is))))
-resolved-append at here (label l ∷ is) js = resolved-append at here is js
 
 -- the first place, or the other
 abbrev pub or-else : Option ℕ → Option ℕ → Option ℕ

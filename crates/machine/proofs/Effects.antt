@@ -5,7 +5,7 @@ use mathlib.Core.Bool.{Bool, true, false, not, _&&_, _||_, cond}
 use Prim.Native.Nat.{ℕ, _^_, _<_}
 use native.Mathlib.Omega.{arith}
 use borrow.Author.Tests.{ne-eqb, eqb-false}
-use lib.Dec.{T, eqb, ltb, eqb-refl, T-not, lit<}
+use lib.Dec.{T, eqb, ltb, T-not, lit<}
 use lib.Bits.{and-lt, or-lt, xor-lt}
 use lib.IntN.{ℤ, pos, negsuc}
 use Rattle.isa.specs.Immediate.{twos}
@@ -104,14 +104,6 @@ setx-twice x d u v = by (eqb d 0)
     by : (b : Bool) → cond b (cond b x (upd x d u)) (upd (cond b x (upd x d u)) d v) ≡ cond b x (upd x d v)
     by true = refl
     by false = upd-twice x d u v
-
--- a register is in the set of itself alone
-pub own : (d : ℕ) → T (eqb d 0 || eqb d d)
-own d = by (eqb d 0)
-  where
-    by : (b : Bool) → T (b || eqb d d)
-    by true = tt
-    by false = eqb-refl d
 
 -- registers outside a set W
 module _ (W : ℕ → Bool) where

@@ -1,5 +1,5 @@
 -- Laws of 64-bit numbers, of functions changed at one place, and of loads and stores. Assumes nothing.
-use mathlib.Core.Path.{_≡_, refl, _∙_, fun-ext}
+use mathlib.Core.Path.{_≡_, refl, fun-ext}
 use mathlib.Core.Logic.{_≢_}
 use mathlib.Core.Bool.{Bool, true, false, cond}
 use Prim.Native.Nat.{ℕ, _+_, _-_, _*_, _/_, _%_, _^_, _≤_, _<_}
@@ -46,10 +46,6 @@ upd-twice g k u v = fun-ext (λ j. by (eqb j k) (g j))
 
 -- ---- distances
 
-pub dist-lt : (a x : ℕ) → dist a x < 2 ^ 64
-unfolding dist
-dist-lt a x = omega arith
-
 pub dist-near : (a k : ℕ) → k < 2 ^ 64 → dist a (w64 (a + k)) ≡ k
 unfolding dist
 dist-near a k h = omega arith
@@ -58,58 +54,19 @@ pub dist-back : (a x : ℕ) → x < 2 ^ 64 → w64 (a + dist a x) ≡ x
 unfolding dist
 dist-back a x h = omega arith
 
-pub dist-wrap : (a x : ℕ) → dist (w64 a) x ≡ dist a x
-unfolding dist
-dist-wrap a x = omega arith
-
 -- from k further on, k less
 pub dist-ahead : (a k x : ℕ) → dist (w64 (a + k)) x + k < 2 ^ 64 → dist a x ≡ dist (w64 (a + k)) x + k
 unfolding dist
 dist-ahead a k x h = omega arith
-
--- where nothing goes round
-pub dist-up : (a x : ℕ) → a ≤ x → x < 2 ^ 64 → a + dist a x ≡ x
-unfolding dist
-dist-up a x h l = omega arith
-
-pub dist-down : (a x : ℕ) → x < a → a < 2 ^ 64 → a + dist a x ≡ x + 2 ^ 64
-unfolding dist
-dist-down a x h l = omega arith
 
 -- the n bytes at a, where they don't go round
 pub inside : (a n x : ℕ) → a + n ≤ 2 ^ 64 → x < 2 ^ 64 → dist a x < n → (a ≤ x) × (x < a + n)
 unfolding dist
 inside a n x h l d = (omega arith, omega arith)
 
-dist-chain : (a b x : ℕ) → (dist a b + dist b x) % 2 ^ 64 ≡ dist a x
-unfolding dist
-dist-chain a b x = omega arith
-
-dist-self : (a : ℕ) → dist a a ≡ 0
-unfolding dist
-dist-self a = omega arith
-
 -- the n bytes at a and the k bytes at b have none in common
 abbrev pub Apart : (a n b k : ℕ) → Type 0
 Apart a n b k = (x : ℕ) → x < 2 ^ 64 → dist a x < n → dist b x < k → ⊥
-
--- by two distances
-pub apart-dist : (a n b k : ℕ) → n ≤ dist a b → k ≤ dist b a → Apart a n b k
-apart-dist a n b k h l x g p q =
-    plain (dist a b) (dist b a) (dist b x) (dist a x) h l p q (dist-chain a b x) (dist-chain a b a ∙ dist-self a) (dist-lt b a) (dist-lt a b)
-  where
-    plain : (u v r s : ℕ) → n ≤ u → k ≤ v → s < n → r < k → (u + r) % 2 ^ 64 ≡ s → (u + v) % 2 ^ 64 ≡ 0 → v < 2 ^ 64 → u < 2 ^ 64 → ⊥
-    plain u v r s h l p q e f g w = omega arith
-
--- two ranges that don't go round, one behind the other
-pub apart-below : (a n b k : ℕ) → a + n ≤ b → b + k ≤ 2 ^ 64 → Apart a n b k
-apart-below a n b k h l x g p q =
-    let u = inside a n x (omega arith) g p in
-    let v = inside b k x l g q in
-    omega (arith, u .1, v .0)
-
-pub apart-sym : (a n b k : ℕ) → Apart a n b k → Apart b k a n
-apart-sym a n b k h x l p q = h x l q p
 
 -- ---- stores
 
@@ -197,10 +154,6 @@ pub load4-store : (m : ℕ → ℕ) (a v b : ℕ) → Apart a 8 b 4 → load4 (s
 load4-store m a v b h = load4-local (store8 m a v) m b (store-agrees m a v b 4 h)
 
 -- an address counts modulo 2^64
-pub load8-wrap : (m : ℕ → ℕ) (a : ℕ) → load8 m (w64 a) ≡ load8 m a
-unfolding load8
-load8-wrap m a = rw (wrap-l a 0, wrap-l a 1, wrap-l a 2, wrap-l a 3, wrap-l a 4, wrap-l a 5, wrap-l a 6, wrap-l a 7)
-
 pub load4-wrap : (m : ℕ → ℕ) (a : ℕ) → load4 m (w64 a) ≡ load4 m a
 unfolding load4
 load4-wrap m a = rw (wrap-l a 0, wrap-l a 1, wrap-l a 2, wrap-l a 3)
@@ -219,7 +172,3 @@ pub load8-small : (m : ℕ → ℕ) (a : ℕ) → ((x : ℕ) → m x < 256) → 
 unfolding load8
 load8-small m a h =
     omega (arith, h (w64 (a + 0)), h (w64 (a + 1)), h (w64 (a + 2)), h (w64 (a + 3)), h (w64 (a + 4)), h (w64 (a + 5)), h (w64 (a + 6)), h (w64 (a + 7)))
-
-pub load4-small : (m : ℕ → ℕ) (a : ℕ) → ((x : ℕ) → m x < 256) → load4 m a < 2 ^ 32
-unfolding load4
-load4-small m a h = omega (arith, h (w64 (a + 0)), h (w64 (a + 1)), h (w64 (a + 2)), h (w64 (a + 3)))

@@ -1,14 +1,13 @@
 -- Code in memory: its parts, what leaves it standing, and how it comes from a buffer's bytes. Assumes nothing.
-use mathlib.Core.Path.{_≡_, refl, _∙_}
+use mathlib.Core.Path.{_≡_, _∙_}
 use mathlib.Core.List.{List, [], _∷_, _++_}
 use Prim.Native.Nat.{ℕ, zero, suc, _+_, _*_, _^_, _≤_, _<_}
 use native.Mathlib.Nat.{add-assoc, add-zero}
 use native.Mathlib.Omega.{arith}
-use lib.ListN.{length, getD, length-append, List·getD-append}
+use lib.ListN.{length, getD}
 use Rattle.isa.specs.Instr.{Instr, Valid}
-use Rattle.isa.proofs.Laws.{encode-small}
 use Rattle.machine.specs.Word.{w64, load4, load8}
-use Rattle.machine.specs.Step.{CodeAt, Loaded, bytes-of, words}
+use Rattle.machine.specs.Step.{CodeAt, Loaded, bytes-of}
 use Rattle.machine.proofs.Memory.{wrap-l, dist-ahead, bytes4, Agree, load4-local, load8-two, load4-wrap}
 
 -- ---- parts
@@ -24,10 +23,6 @@ module _ (m : ℕ → ℕ) where
   pub code-right : (a : ℕ) (us vs : List ℕ) → a < 2 ^ 64 → CodeAt m a (us ++ vs) → CodeAt m (w64 (a + 4 * length us)) vs
   code-right a [] vs h c = let e : w64 (a + 0) ≡ a = omega arith in rw e c
   code-right a (u ∷ us) vs h c = rw (← (further a (length us))) (code-right (w64 (a + 4)) us vs (omega arith) (c .1))
-
-  pub code-join : (a : ℕ) (us vs : List ℕ) → a < 2 ^ 64 → CodeAt m a us → CodeAt m (w64 (a + 4 * length us)) vs → CodeAt m a (us ++ vs)
-  code-join a [] vs h c d = let e : w64 (a + 0) ≡ a = omega arith in rw e at d
-  code-join a (u ∷ us) vs h c d = (c .0, code-join (w64 (a + 4)) us vs (omega arith) (c .1) (rw (further a (length us)) d))
 
   -- one word
   pub code-word : (a : ℕ) (ws : List ℕ) (k : ℕ) → CodeAt m a ws → k < length ws → load4 m (w64 (a + 4 * k)) ≡ getD ws k 0
@@ -66,20 +61,7 @@ code-of-bytes m a (w ∷ ws) s h = (
     four : (k : ℕ) → 4 + k ≡ suc (suc (suc (suc k)))
     four k = omega arith
 
--- the first bytes of those that stand there
-pub loaded-left : (m : ℕ → ℕ) (a : ℕ) (us vs : List ℕ) → Loaded m a (us ++ vs) → Loaded m a us
-loaded-left m a us vs h k l = h k (omega (arith, length-append us vs)) ∙ List·getD-append us vs 0 k l
-
-pub bytes-length : (ws : List ℕ) → length (bytes-of ws) ≡ 4 * length ws
-unfolding bytes-of
-bytes-length [] = refl
-bytes-length (w ∷ ws) = omega (arith, bytes-length ws)
-
--- the words of valid instructions
+-- valid instructions
 abbrev pub Valids : List Instr → Type 0
 Valids [] = Unit {0}
 Valids (i ∷ is) = Valid i × Valids is
-
-pub words-small : (is : List Instr) → Valids is → Small (words is)
-words-small [] v = tt
-words-small (i ∷ is) v = (encode-small i (v .0), words-small is (v .1))

@@ -9,16 +9,15 @@ use lib.Dec.{T, ltb}
 use lib.ListN.{length, length-map}
 use Rattle.isa.specs.Instr.{Instr}
 use Rattle.isa.specs.Encode.{encode}
-use Rattle.machine.specs.Word.{w64, dist, store8}
+use Rattle.machine.specs.Word.{dist, store8}
 use Rattle.machine.specs.Floats.{Floats}
-use Rattle.machine.specs.State.{State, Sound, next}
+use Rattle.machine.specs.State.{State, next}
 use Rattle.machine.specs.Effect.{Effect, write-x, write-f, store, jump, apply, effect, exec}
 use Rattle.machine.specs.Step.{CodeAt, words, Run, stop, go, execs, Fit}
-use Rattle.machine.specs.Ends.{Ends}
 use Rattle.machine.proofs.Memory.{dist-ahead, inside, store-miss}
 use Rattle.machine.proofs.Effects.{flows, apply-pc}
 use Rattle.machine.proofs.Runs.{step-at}
-use Rattle.machine.proofs.Straight.{aligned, flow, flow-pc, execs-rm, keeps, execs-x}
+use Rattle.machine.proofs.Straight.{aligned, flow}
 use Rattle.machine.proofs.Placed.{code-kept}
 
 -- P x: the byte at x may be written
@@ -92,27 +91,3 @@ module _ (P : ℕ → Type 0) where
 
 pub lands-in : (lo hi a : ℕ) → lo ≤ a → a + 8 ≤ hi → hi ≤ 2 ^ 64 → (x : ℕ) → x < 2 ^ 64 → dist a x < 8 → (lo ≤ x) × (x < hi)
 lands-in lo hi a h l n x b d = let q = inside a 8 x (omega arith) b d in (omega (arith, q .0), omega (arith, q .1))
-
--- ---- stores that miss the code alone
-
--- the n bytes at c are kept; for a store to a it is `Apart a 8 c n`
-abbrev pub Outside : ℕ → ℕ → ℕ → Type 0
-Outside c n x = dist c x < n → ⊥
-
-abbrev pub Misses : Floats → ℕ → ℕ → List Instr → State → Type 0
-Misses Q c n is s = Landing (Outside c n) Q is s
-
-pub by-stores : (Q : Floats) (W : ℕ → Bool) (is : List Instr) (s : State) (f′ m′ : ℕ → ℕ) → Fit Q is s → T (keeps Q W is s) → Misses Q (s .pc) (4 * length is) is s → 4 * length is ≤ 2 ^ 64 → Sound s → s .pc % 4 ≡ 0 → CodeAt (s .mem) (s .pc) (words is) → (execs Q is s) .f ≡ f′ → (execs Q is s) .mem ≡ m′ → Ends Q W s (length is) (w64 (s .pc + 4 * length is)) f′ m′
-by-stores Q W is s f′ m′ w h k n o a c p q =
-    record {
-      end = execs Q is s;
-      runs = landing-run (Outside (s .pc) (4 * length is)) Q is s w k n (λ x l d g. g d) a c;
-      does =
-          record {
-            pc = flow-pc Q is s (landing-flow (Outside (s .pc) (4 * length is)) Q is s k) (o .pc);
-            f = p;
-            mem = q;
-            rm = execs-rm Q is s;
-            x = λ r z. execs-x Q W is s r h z;
-          };
-    }

@@ -123,7 +123,7 @@ module _ (Q : Floats) where
           does = record { pc = e; f = p; mem = q; rm = execs-rm is s; x = λ r k. execs-x is s r h k };
         }
 
--- ---- one end behind another, and with more registers spared
+-- ---- one end behind another
 
 module _ {Q : Floats} {s : State} {k p : ℕ} {f m : ℕ → ℕ} where
   pub ends-join : {W : ℕ → Bool} {n p′ : ℕ} {f′ m′ : ℕ → ℕ} (e : Ends Q W s k p f m) → Ends Q W (e .end) n p′ f′ m′ → Ends Q W s (k + n) p′ f′ m′
@@ -138,20 +138,5 @@ module _ {Q : Floats} {s : State} {k p : ℕ} {f m : ℕ → ℕ} where
               mem = g .does .mem;
               rm = g .does .rm ∙ e .does .rm;
               x = λ r h. g .does .x r h ∙ e .does .x r h;
-            };
-      }
-
-  pub ends-wider : {W W′ : ℕ → Bool} → ((r : ℕ) → T (not (W′ r)) → T (not (W r))) → Ends Q W s k p f m → Ends Q W′ s k p f m
-  ends-wider h e =
-      record {
-        end = e .end;
-        runs = e .runs;
-        does =
-            record {
-              pc = e .does .pc;
-              f = e .does .f;
-              mem = e .does .mem;
-              rm = e .does .rm;
-              x = λ r g. e .does .x r (h r g);
             };
       }
