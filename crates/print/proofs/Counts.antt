@@ -10,11 +10,7 @@ use lib.Dec.{ltb, leb}
 use lib.ListN.{length}
 use lib.Seq.{sets}
 use Rattle.text.specs.Digits.{digits, above, decimal}
-
-pub length-digits : (b k n : ℕ) → length (digits b k n) ≡ k
-unfolding digits
-length-digits b zero n = refl
-length-digits b (suc k) n = ap suc (length-digits b k n)
+use Rattle.text.proofs.Numerals.{length-digits}
 
 pub length-decimal : (n : ℕ) → length (decimal n) ≡ above n n + 1
 unfolding decimal

@@ -9,7 +9,7 @@ use lib.Seq.{sets, drop-cons}
 use Rattle.text.specs.Ascii.{bytes}
 use Rattle.text.specs.Digits.{decimal, digits}
 use Rattle.print.specs.Text.{le-word, words-of, hex, word-line, word-lines, refusal-line}
-use Rattle.print.proofs.Counts.{length-digits}
+use Rattle.text.proofs.Numerals.{length-digits}
 use Rattle.print.proofs.Stores.{sets-append}
 
 -- ---- a word's line

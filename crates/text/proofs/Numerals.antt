@@ -200,7 +200,7 @@ decimal-read (c ∷ cs) n e =
 
 -- ---- whole numbers with a sign, and words
 
-length-digits : (b k n : ℕ) → length (digits b k n) ≡ k
+pub length-digits : (b k n : ℕ) → length (digits b k n) ≡ k
 unfolding digits
 length-digits b zero n = refl
 length-digits b (suc k) n = ap suc (length-digits b k n)

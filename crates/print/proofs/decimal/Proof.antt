@@ -10,15 +10,6 @@ use Rattle.print.proofs.Whole.{too-long, fits, tested}
 use Rattle.print.proofs.decimal.Statement.{statement}
 use Rattle.print.proofs.decimal.Tie as tie
 
-decimal-length-requires : tie.Need-decimal-length-requires
-decimal-length-requires c κs = search needs
-
-has-room-requires : tie.Need-has-room-requires
-has-room-requires c κs = search needs
-
-same-length : tie.Need-same-length
-same-length c = search needs
-
 returns : tie.Need-returns
 returns c =
     let a = c .before .before .before .before .before .args in
@@ -28,9 +19,6 @@ put-digits-requires : tie.Need-put-digits-requires
 put-digits-requires c κs =
     let h = sym (c .before .before .has-room .ensures) ∙ not-false _ (c .before .if1 .left) in
     (omega arith, omega arith, leb-true _ _ h)
-
-same-length-2 : tie.Need-same-length-2
-same-length-2 c = search needs
 
 returns-2 : tie.Need-returns-2
 returns-2 c =
@@ -42,10 +30,10 @@ pub decimal-spec : {M : Type 1} → statement M
 decimal-spec =
     tie.close
     (tie.spec
-    decimal-length-requires
-    has-room-requires
-    same-length
+    (λ c κs. search needs)
+    (λ c κs. search needs)
+    (λ c. search needs)
     returns
     put-digits-requires
-    same-length-2
+    (λ c. search needs)
     returns-2)

@@ -12,12 +12,9 @@ returns : tie.Need-returns
 returns c =
     let a = c .before .args in sym (lt-leb _ (length (now (a .out))) (omega arith))
 
-sub-result : tie.Need-sub-result
-sub-result c = search needs
-
 returns-2 : tie.Need-returns-2
 returns-2 c =
     let a = c .before .args in room-behind (a .at) (a .n) (length (now (a .out))) (omega arith)
 
 pub has-room-spec : {M : Type 1} → statement M
-has-room-spec = tie.close (tie.spec returns sub-result returns-2)
+has-room-spec = tie.close (tie.spec returns (λ c. search needs) returns-2)

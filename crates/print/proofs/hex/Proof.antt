@@ -4,17 +4,11 @@ use native.Mathlib.Omega.{arith}
 use borrow.Author.Tests.{leb-true, not-true, not-false}
 use denote.Ref.{now}
 use Rattle.print.specs.Text.{hex as hex-of}
-use Rattle.print.proofs.Counts.{length-digits}
+use Rattle.text.proofs.Numerals.{length-digits}
 use Rattle.print.proofs.Whole.{too-long, fits, tested}
 use borrow.Author.Needs.{needs}
 use Rattle.print.proofs.hex.Statement.{statement}
 use Rattle.print.proofs.hex.Tie as tie
-
-has-room-requires : tie.Need-has-room-requires
-has-room-requires c κs = search needs
-
-same-length : tie.Need-same-length
-same-length c = search needs
 
 returns : tie.Need-returns
 returns c =
@@ -27,9 +21,6 @@ put-digits-requires c κs =
     let h = sym (c .before .before .has-room .ensures) ∙ not-false _ (c .before .if1 .left) in
     (omega arith, omega arith, leb-true _ _ h)
 
-same-length-2 : tie.Need-same-length-2
-same-length-2 c = search needs
-
 returns-2 : tie.Need-returns-2
 returns-2 c =
     let a = c .before .before .before .before .before .before .before .before .args in
@@ -39,4 +30,4 @@ returns-2 c =
 pub hex-spec : {M : Type 1} → statement M
 hex-spec =
     tie.close
-    (tie.spec has-room-requires same-length returns put-digits-requires same-length-2 returns-2)
+    (tie.spec (λ c κs. search needs) (λ c. search needs) returns put-digits-requires (λ c. search needs) returns-2)

@@ -18,20 +18,11 @@ Inv-loop n base k out₀ at e₀ rest₀ out e rest =
 abbrev μ-loop : tie.MeasureT-loop
 μ-loop n base k out₀ at e₀ rest₀ out e rest = e
 
-add-e : tie.Need-add-e Inv-loop μ-loop
-add-e c = search needs
-
 loop-holds : tie.Need-loop-holds Inv-loop μ-loop
 loop-holds c =
     let a = c .before .args in
     let h = digit-none (now (a .out)) (a .base) (a .n) (a .at + a .k) in
     (omega arith, omega arith, h .0, h .1)
-
-sub-e : tie.Need-sub-e Inv-loop μ-loop
-sub-e c = search needs
-
-rem-glyph : tie.Need-rem-glyph Inv-loop μ-loop
-rem-glyph c = search needs
 
 glyph-requires : tie.Need-glyph-requires Inv-loop μ-loop
 glyph-requires c κs =
@@ -41,12 +32,6 @@ slice-write-out : tie.Need-slice-write-out Inv-loop μ-loop
 slice-write-out c =
     let l = c .before .before .loop in
     omega (arith, simp length-sets at (ap length (l .inv .3)))
-
-div-rest : tie.Need-div-rest Inv-loop μ-loop
-div-rest c = search needs
-
-loop-less : tie.Need-loop-less Inv-loop μ-loop
-loop-less c = search needs
 
 loop-again : tie.Need-loop-again Inv-loop μ-loop
 loop-again c =
@@ -70,14 +55,14 @@ put-digits-spec =
     (tie.spec
     Inv-loop
     μ-loop
-    add-e
+    (λ c. search needs)
     loop-holds
-    sub-e
-    rem-glyph
+    (λ c. search needs)
+    (λ c. search needs)
     glyph-requires
     slice-write-out
-    div-rest
-    loop-less
+    (λ c. search needs)
+    (λ c. search needs)
     loop-again
     same-length
     returns)

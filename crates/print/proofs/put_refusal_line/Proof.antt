@@ -6,9 +6,6 @@ use borrow.Author.Needs.{needs}
 use Rattle.print.proofs.put_refusal_line.Statement.{statement}
 use Rattle.print.proofs.put_refusal_line.Tie as tie
 
-slice-aggregate-put-bytes : tie.Need-slice-aggregate-put-bytes
-slice-aggregate-put-bytes c = search needs
-
 put-bytes-requires : tie.Need-put-bytes-requires
 put-bytes-requires c κs =
     let a = c .before .before .before .args in
@@ -53,7 +50,7 @@ pub put-refusal-line-spec : {M : Type 1} → statement M
 put-refusal-line-spec =
     tie.close
     (tie.spec
-    slice-aggregate-put-bytes
+    (λ c. search needs)
     put-bytes-requires
     put-decimal-requires
     slice-write-out

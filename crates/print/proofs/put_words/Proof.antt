@@ -20,23 +20,11 @@ abbrev μ-loop : tie.MeasureT-loop
 loop-holds : tie.Need-loop-holds Inv-loop μ-loop
 loop-holds c = (omega arith, refl, omega arith, refl)
 
-sub-loop : tie.Need-sub-loop Inv-loop μ-loop
-sub-loop c = search needs
-
-word-at-requires : tie.Need-word-at-requires Inv-loop μ-loop
-word-at-requires c κs = search needs
-
 put-word-line-requires : tie.Need-put-word-line-requires Inv-loop μ-loop
 put-word-line-requires c κs =
     let l = c .before .before .before .loop in
     let a = c .before .before .before .before .before .before .args in
     omega (arith, length-word (now (a .code)) (l .i) _ (omega arith) (c .before .word-at .ensures), c .before .before .before .before .before .before .pre)
-
-add-i : tie.Need-add-i Inv-loop μ-loop
-add-i c = search needs
-
-loop-less : tie.Need-loop-less Inv-loop μ-loop
-loop-less c = search needs
 
 loop-again : tie.Need-loop-again Inv-loop μ-loop
 loop-again c =
@@ -50,9 +38,6 @@ loop-again c =
       omega (arith, p .ensures .1),
       l .inv .3 ∙ one-word-put (l .out) _ (now (a .code)) (l .at) _ (l .i) _ (omega arith) w (p .ensures .0) (p .ensures .1),
     )
-
-same-length : tie.Need-same-length Inv-loop μ-loop
-same-length c = search needs
 
 returns : tie.Need-returns Inv-loop μ-loop
 returns c =
@@ -68,11 +53,11 @@ put-words-spec =
     Inv-loop
     μ-loop
     loop-holds
-    sub-loop
-    word-at-requires
+    (λ c. search needs)
+    (λ c κs. search needs)
     put-word-line-requires
-    add-i
-    loop-less
+    (λ c. search needs)
+    (λ c. search needs)
     loop-again
-    same-length
+    (λ c. search needs)
     returns)

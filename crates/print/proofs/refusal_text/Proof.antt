@@ -10,18 +10,6 @@ use borrow.Author.Needs.{needs}
 use Rattle.print.proofs.refusal_text.Statement.{statement}
 use Rattle.print.proofs.refusal_text.Tie as tie
 
-decimal-length-requires : tie.Need-decimal-length-requires
-decimal-length-requires c κs = search needs
-
-decimal-length-requires-2 : tie.Need-decimal-length-requires-2
-decimal-length-requires-2 c κs = search needs
-
-add-k : tie.Need-add-k
-add-k c = search needs
-
-add-k-2 : tie.Need-add-k-2
-add-k-2 c = search needs
-
 returns : tie.Need-returns
 returns c =
     let a = c .before .before .before .before .args in
@@ -34,9 +22,6 @@ put-refusal-line-requires c κs =
     let a = c .before .before .before .before .before .args in
     omega (arith, length-refusal-line (a .number) (a .line))
 
-same-length : tie.Need-same-length
-same-length c = search needs
-
 returns-2 : tie.Need-returns-2
 returns-2 c =
     let a = c .before .before .before .before .before .before .before .before .args in
@@ -48,11 +33,11 @@ pub refusal-text-spec : {M : Type 1} → statement M
 refusal-text-spec =
     tie.close
     (tie.spec
-    decimal-length-requires
-    decimal-length-requires-2
-    add-k
-    add-k-2
+    (λ c κs. search needs)
+    (λ c κs. search needs)
+    (λ c. search needs)
+    (λ c. search needs)
     returns
     put-refusal-line-requires
-    same-length
+    (λ c. search needs)
     returns-2)

@@ -8,9 +8,6 @@ use borrow.Author.Needs.{needs}
 use Rattle.print.proofs.words_text.Statement.{statement}
 use Rattle.print.proofs.words_text.Tie as tie
 
-words-fit-requires : tie.Need-words-fit-requires
-words-fit-requires c κs = search needs
-
 returns : tie.Need-returns
 returns c =
     let a = c .before .before .before .before .args in
@@ -21,9 +18,6 @@ put-words-requires : tie.Need-put-words-requires
 put-words-requires c κs =
     leb-true _ _ (sym (c .before .before .words-fit .ensures) ∙ not-false _ (c .before .if1 .left))
 
-same-length : tie.Need-same-length
-same-length c = search needs
-
 returns-2 : tie.Need-returns-2
 returns-2 c =
     let a = c .before .before .before .before .before .before .before .before .args in
@@ -33,4 +27,4 @@ returns-2 c =
 
 pub words-text-spec : {M : Type 1} → statement M
 words-text-spec =
-    tie.close (tie.spec words-fit-requires returns put-words-requires same-length returns-2)
+    tie.close (tie.spec (λ c κs. search needs) returns put-words-requires (λ c. search needs) returns-2)
