@@ -33,10 +33,13 @@ pub settled-yes : (s t : State) → settled 0 s t ≡ record { answer = accepted
 unfolding settled
 settled-yes s t = refl
 
+pub settled-refused : (s t : State) (d : Done) (k v : ℕ) → k ≡ v → (k ≡ 0 → ⊥) → (d .asm ≡ s .asm) × (told (d .answer) ≡ refused k 0) → outcome d (s .labels) (s .jumps) (s .buf) ≡ settled v s t
+settled-refused s t d k v e h g = rw (← e, g .0, g .1) (sym (settled-no k s t h))
+
 module _ (tag fault : ℕ) (is : List Item) (s : State) where
   pub put-refused : (d : Done) (k : ℕ) → k ≡ put-number fault is s → (k ≡ 0 → ⊥) → (d .asm ≡ s .asm) × (told (d .answer) ≡ refused k 0) → outcome d (s .labels) (s .jumps) (s .buf) ≡ put tag fault is s
   unfolding put
-  put-refused d k e h g = rw (← e, g .0, g .1) (sym (settled-no k s (placed tag is s) h))
+  put-refused d k e h g = settled-refused s (placed tag is s) d k (put-number fault is s) e h g
 
   pub put-done : (t : State) → put-number fault is s ≡ 0 → t ≡ placed tag is s → _≡_ {A = Outcome} (record { answer = accepted tt; state = t }) (put tag fault is s)
   unfolding put

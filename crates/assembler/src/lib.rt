@@ -13,7 +13,7 @@ ghost use Rattle.assembler.specs.Jump.{kind-number};
 ghost use Rattle.assembler.specs.Bytes.{written, room};
 ghost use Rattle.assembler.specs.Label.{is-set, place-of, with-place};
 ghost use Rattle.assembler.specs.State.{state, outcome, told, sound, fits};
-ghost use Rattle.assembler.specs.Put.{verdict, with-jump, placed, put};
+ghost use Rattle.assembler.specs.Put.{verdict, with-jump, placed, settled, put};
 ghost use Rattle.assembler.specs.Plan.{rank, earlier, label-fault, jump-fault, tail-items, tail-fault, plan-items, plan-fault, no-words, pushed};
 ghost use Rattle.assembler.specs.Constant.{constant-bits, quad, constant-items, constant-fault, told-size, aligned};
 use encoder::Encoded;
@@ -127,20 +127,28 @@ pub fn is_sound(n: usize, asm: Asm) -> bool
     asm.jumps <= 4096
 }
 
+// So many words and jumps more have room.
 fn has_room(n: usize, asm: Asm, words: usize, jumps: usize) -> bool
-    requires { ⌜ (asm .len ≤ 65536) × (asm .jumps ≤ 4096) × (words ≤ 16) × (jumps ≤ 2) ⌝ }
     ensures { λ r. ⌜ (r ≡ fits n asm words jumps) × (r ≡ true → (asm .len + 4 * words ≤ n) × (asm .len + 4 * words ≤ 65536) × (asm .jumps + jumps ≤ 4096)) ⌝ }
 {
+    let r = counts(n);
     let len = asm.len;
-    if counts(n) < len + 4 * words {
+    if r < len {
         return false;
     }
-    asm.jumps + jumps <= 4096
+    if (r - len) / 4 < words {
+        return false;
+    }
+    let j = asm.jumps;
+    if 4096 < j {
+        return false;
+    }
+    jumps <= 4096 - j
 }
 
 // The number of the refusal, 0 for none, in document 01's order.
 fn number(fault: u8, taken: bool, words: usize, jumps: usize, n: usize, asm: Asm) -> u8
-    requires { ⌜ (fault ≤ 12) × (words ≤ 16) × (jumps ≤ 2) ⌝ }
+    requires { ⌜ fault ≤ 12 ⌝ }
     ensures { λ r. ⌜ (r ≡ verdict fault taken words jumps n asm) × (r ≤ 12) × (r ≡ 0 → (fault ≡ 0) × (asm .len + 4 * words ≤ n) × (asm .len + 4 * words ≤ 65536) × (asm .jumps + jumps ≤ 4096)) ⌝ }
 {
     if asm.closed {
@@ -510,6 +518,20 @@ fn known(k: u8) -> u8
     ensures { λ r. ⌜ (r ≡ cond (leb k 12) k 2) × (r ≤ 12) ⌝ }
 {
     if k <= 12 { k } else { 2 }
+}
+
+// Asked before a whole is placed part by part: whether it is refused, with so many words and jumps. Nothing changes.
+pub fn ask(fault: u8, taken: bool, words: usize, jumps: usize, n: usize, asm: Asm) -> Done
+    ensures { λ r. ⌜ ((ls js b : List ℕ) → outcome r ls js b ≡ settled (verdict (cond (leb fault 12) fault 2) taken words jumps n asm) (state asm ls js b) (state asm ls js b)) ⌝ }
+{
+    let k = number(known(fault), taken, words, jumps, n, asm);
+    if k != 0 {
+        return refused_with(k, asm);
+    }
+    Done {
+        asm,
+        answer: Answer::Accepted,
+    }
 }
 
 fn at_most(n: usize) -> usize

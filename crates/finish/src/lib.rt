@@ -46,11 +46,11 @@ fn label_place(e: u64) -> u32
 fn good_label(e: u64, len: usize) -> bool
     ensures { λ r. ⌜ r ≡ label-good len e ⌝ }
 {
+    if e == 0 {
+        return true;
+    }
     if e / 4294967296 != 0 {
         return false;
-    }
-    if e % 4294967296 == 0 {
-        return true;
     }
     let p = size(label_place(e));
     if len < p {

@@ -1,7 +1,6 @@
 pub mod Digits
 pub mod Tests
 pub mod Pushes
-pub mod Asked
 pub mod Parts
 pub mod Ones
 pub mod Sizes

@@ -1,16 +1,11 @@
 -- What the functions ask before they place a part, and the copies of states and observations by one choice.
-use mathlib.Core.Bool.{Bool, true, false, cond}
+use mathlib.Core.Bool.{Bool, true, false}
 use mathlib.Core.List.{List, [], _∷_, _++_}
-use Prim.Native.Nat.{ℕ, _*_}
-use lib.Dec.{eqb}
+use Prim.Native.Nat.{ℕ}
 use lib.IntN.{pos}
 use Rattle.isa.specs.Instr.{Instr, R, ADD}
 use Rattle.refusal.specs.Answer.{Answer, accepted, refused}
-use Rattle.refusal.specs.Number.{number-of}
-use Rattle.refusal.specs.declared.Refusal.the-variants.{Twice, Full}
 use Rattle.assembler.specs.Item.{Item, jump, label}
-use Rattle.assembler.specs.State.{fits}
-use Rattle.assembler.specs.declared.Asm.{Asm}
 use Rattle.accesses.specs.Code.{li-code}
 use Rattle.assembler.specs.declared.Kind.the-variants.{Beq, Bne}
 use Rattle.order.specs.declared.Frame.the-variants.{Indirect}
@@ -20,11 +15,6 @@ use Rattle.framing.specs.Items.{code, mv, opening, at-self, at-main, count-down
 abbrev pub is-accepted : Answer (Unit {0}) → Bool
 is-accepted (accepted x) = true
 is-accepted (refused n place) = false
-
--- a fault, a label already set, no room; 0 for none of them
-unfoldable pub trouble : (fault : ℕ) → (taken : Bool) → (words jumps size : ℕ) → Asm → ℕ
-trouble fault taken words jumps size asm =
-    cond (eqb fault 0) (cond taken (number-of Twice) (cond (fits size asm words jumps) 0 (number-of Full))) fault
 
 -- n of them by the loop
 unfoldable pub looped : (out : Bool) → (states n : ℕ) → List Item

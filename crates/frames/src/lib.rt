@@ -8,10 +8,9 @@ ghost use lib.IntN.{pos};
 ghost use lib.ListN.{length};
 ghost use Rattle.order.specs.Count.{cells};
 ghost use Rattle.isa.specs.Instr.{I, FLD};
-ghost use Rattle.assembler.specs.Bytes.{room};
 ghost use Rattle.assembler.specs.Constant.{align16};
 ghost use Rattle.assembler.specs.Label.{is-set};
-ghost use Rattle.assembler.specs.State.{state, outcome, told, fits};
+ghost use Rattle.assembler.specs.State.{state, outcome, told};
 ghost use Rattle.assembler.specs.Put.{words, jumps, verdict, settled, put};
 ghost use Rattle.accesses.specs.Code.{li-code, sub-stack-code, allocate-stack-code};
 ghost use Rattle.accesses.specs.Plans.{answer-of, pushes-from, plan-of};
@@ -19,7 +18,7 @@ ghost use Rattle.order.specs.Mask.{is-preserved, save-cell, saved as saved-of};
 ghost use Rattle.framing.specs.Items.{code, mv, opening, closing, times-over, states-from, save, reload, saves, reloads, prologue-fast, prologue-indirect, epilogue-indirect, prologue as prologue-items, epilogue as epilogue-items};
 ghost use Rattle.framing.specs.Fault.{prologue-fault, epilogue-fault};
 ghost use Rattle.framing.specs.Copies.{copy-first, copy-each, copy-label, copies as copies-of};
-ghost use Rattle.frames.specs.Whole.{is-accepted, trouble as trouble-of, looped as looped-of, entry};
+ghost use Rattle.frames.specs.Whole.{is-accepted, looped as looped-of, entry};
 use assembler::Answer;
 use assembler::Asm;
 use assembler::Done;
@@ -56,49 +55,7 @@ const STACK: u32 = 21;
 
 // ---- all or nothing
 
-// How many bytes of a buffer count.
-fn room_of(n: usize) -> usize
-    ensures { λ r. ⌜ (r ≡ room n) × (r ≤ 65536) ⌝ }
-{
-    if n < 65536 { n } else { 65536 }
-}
-
-// Whether so many words and jumps more have room.
-fn has_room(n: usize, asm: Asm, words: usize, count: usize) -> bool
-    requires { ⌜ (words ≤ 1024) × (count ≤ 16) ⌝ }
-    ensures { λ b. ⌜ b ≡ fits n asm words count ⌝ }
-{
-    let r = room_of(n);
-    let len = asm.len;
-    if r < len {
-        return false;
-    }
-    if r - len < 4 * words {
-        return false;
-    }
-    let j = asm.jumps;
-    if 4096 < j {
-        return false;
-    }
-    j + count <= 4096
-}
-
-// What the whole is refused for, 0 for nothing: its counts, a label already set, no room.
-fn trouble(fault: u8, taken: bool, words: usize, count: usize, n: usize, asm: Asm) -> u8
-    requires { ⌜ (fault ≤ 12) × (words ≤ 1024) × (count ≤ 16) ⌝ }
-    ensures { λ k. ⌜ (k ≡ trouble-of fault taken words count n asm) × (k ≤ 12) ⌝ }
-{
-    if fault != 0 {
-        return fault;
-    }
-    if taken {
-        return 4;
-    }
-    let fit = has_room(n, asm, words, count);
-    if fit { 0 } else { 7 }
-}
-
-// Asked before a part is placed whose items have so many words and jumps; nothing changes. A plan without words has the number.
+// Asked before a part is placed whose items have so many words and jumps; nothing changes.
 fn begin(
     fault: u8,
     taken: bool,
@@ -109,15 +66,10 @@ fn begin(
     jumps: &mut [u32; 20480],
     asm: Asm,
 ) -> Done
-    requires { ⌜ (fault ≤ 12) × (words ≤ 1024) × (count ≤ 16) ⌝ }
+    requires { ⌜ fault ≤ 12 ⌝ }
     ensures { λ r. ⌜ outcome r (now (labels .exit)) (now (jumps .exit)) (now (buf .exit)) ≡ settled (verdict fault taken words count (length (now (buf .entry))) asm) (state asm (now (labels .entry)) (now (jumps .entry)) (now (buf .entry))) (state asm (now (labels .entry)) (now (jumps .entry)) (now (buf .entry))) ⌝ }
 {
-    let p = Plan {
-        n: 0,
-        fault: trouble(fault, taken, words, count, buf.len(), asm),
-        w: [0u32; 12],
-    };
-    assembler::place(p, Tail::Nothing, 0, buf, labels, jumps, asm)
+    assembler::ask(fault, taken, words, count, buf.len(), asm)
 }
 
 fn accepted(d: Done) -> bool

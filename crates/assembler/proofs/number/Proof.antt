@@ -28,9 +28,7 @@ returns-5 c =
     (v-twice _ _ _ _ _ _ (d .before .before .before .if1 .left) (d .before .before .if2 .left) (d .before .if3 .left) (sym (d .is-sound .ensures .0) ∙ c .before .before .if4 .taken) (c .before .if5 .left) (c .if6 .taken), search needs, λ e. absurd (omega arith))
 
 has-room-requires : tie.Need-has-room-requires
-has-room-requires c κs =
-    let h = c .before .before .before .is-sound .ensures .1 (c .before .before .if4 .taken) in
-    omega (arith, h)
+has-room-requires c κs = search needs
 
 returns-6 : tie.Need-returns-6
 returns-6 c =

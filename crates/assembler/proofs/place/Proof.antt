@@ -36,7 +36,7 @@ number-requires : tie.Need-number-requires
 number-requires c κs =
     let e = c .first-fault .ensures in
     let t : c .before .fault-of-tail .result ≤ 12 = omega (arith, c .before .fault-of-tail .ensures .1) in
-    (rw e (earlier-small _ _ 12 (c .before .before .known .ensures .1) t), omega arith, omega arith)
+    rw e (earlier-small _ _ 12 (c .before .before .known .ensures .1) t)
 
 refused-with-requires : tie.Need-refused-with-requires
 refused-with-requires c κs = search needs

@@ -1,22 +1,25 @@
+use mathlib.Core.Path.{_≡_, ap, _∙_}
+use mathlib.Core.Bool.{cond}
+use Prim.Native.Nat.{ℕ}
+use borrow.Author.Tests.{le-leb}
 use borrow.Author.Needs.{needs}
-use lib.ListN.{replicate}
-use Rattle.frames.proofs.Asked.{asked}
+use denote.Ref.{now}
+use lib.Dec.{leb}
+use lib.ListN.{length}
+use Rattle.assembler.specs.State.{state}
+use Rattle.assembler.specs.Put.{verdict, settled}
 use Rattle.frames.proofs.begin.Statement.{statement}
 use Rattle.frames.proofs.begin.Tie as tie
 
-trouble-requires : tie.Need-trouble-requires
-trouble-requires c κs = search needs
-
-place-requires : tie.Need-place-requires
-place-requires c κs = search needs
-
-same-length : tie.Need-same-length
-same-length c = search needs
+ask-requires : tie.Need-ask-requires
+ask-requires c κs = search needs
 
 returns : tie.Need-returns
 returns c =
-    let k = c .before .before .before .before .before .before .trouble .ensures in
-    asked _ _ _ _ _ (replicate 12 0) _ _ (k .0) (k .1) (c .before .before .place .ensures)
+    let a = c .before .before .args in
+    let s = state (a .asm) (now (a .labels)) (now (a .jumps)) (now (a .buf)) in
+    let f : cond (leb (a .fault) 12) (a .fault) 2 ≡ a .fault = rw (le-leb (a .fault) 12 (c .before .before .pre)) in
+    c .ask .ensures (now (a .labels)) (now (a .jumps)) (now (a .buf)) ∙ ap (λ (k : ℕ). settled (verdict k (a .taken) (a .words) (a .count) (length (now (a .buf))) (a .asm)) s s) f
 
 pub begin-spec : {M : Type 1} → statement M
-begin-spec = tie.close (tie.spec trouble-requires place-requires same-length returns)
+begin-spec = tie.close (tie.spec ask-requires returns)
