@@ -1,42 +1,57 @@
 -- Bounds, the mask's bits, and the head. Assumes nothing.
 use mathlib.Core.Path.{_≡_, refl, sym, ap, _∙_}
-use mathlib.Core.Bool.{Bool, true, false, _||_, not, cond}
+use mathlib.Core.Bool.{Bool, true, false, _&&_, _||_, not}
 use mathlib.Core.List.{List, [], _∷_, _++_}
 use Prim.Native.Nat.{ℕ, zero, suc, _+_, _*_, _/_, _%_, _^_, _<_, _≤_}
-use native.Mathlib.Nat.{div-div-eq-div-mul, div-add-mod, div-one, mul-assoc, mul-mod-right, mod-one, pow-zero, pow-succ'}
+use native.Mathlib.Nat.{div-div-eq-div-mul, div-add-mod, div-one, mul-assoc, mul-mod-right, mod-one, mod-eq-of-lt, pow-zero, pow-succ'}
 use lib.Pow.{pow-add}
 use native.Mathlib.Omega.{arith}
-use borrow.Author.Tests.{lt-ltb, le-ltb, ne-eqb, eqb-true, eqb-false}
+use borrow.Author.Tests.{ltb-true, ne-eqb, eqb-true, eqb-false}
 use lib.Dec.{eqb}
 use Rattle.order.specs.Mask.{in-mask}
-use Rattle.refusal.specs.Answer.{accepted, refused}
+use Rattle.refusal.specs.Answer.{Answer, accepted, refused}
+use Rattle.refusal.specs.declared.Refusal.{Refusal}
+use Rattle.refusal.specs.declared.Refusal.the-variants.{Register, Value as Valued, Count}
 use Rattle.order.specs.declared.Frame.{Frame}
 use Rattle.order.specs.declared.Head.{Head}
+use Rattle.order.specs.declared.Order.{Order}
 use Rattle.text.specs.declared.Number.{Number}
-use Rattle.text.specs.declared.Number.the-variants.{Value}
+use Rattle.text.specs.declared.Number.the-variants.{Value, TooBig}
 use Rattle.form.specs.declared.Form.the-variants as Form
-use Rattle.deck.specs.Judge.{below, value, bounded, count, mask, any, saves, counts-hold, head-of, head, judged}
-use Rattle.deck.specs.declared.Bounded.the-variants.{Is, Beyond}
+use Rattle.deck.specs.Judge.{Content, demand, below, value, are-below, low-of, any, saves, counts-hold, head-of, head, order, judged}
 
-pub is-below : (k : ℕ) (n : Number) (x : ℕ) → bounded k n ≡ Is x → (below k n ≡ true) × (value n ≡ x)
-is-below k n x e = go (below k n) refl e
-  where
-    go : (t : Bool) → below k n ≡ t → cond t (Is (value n)) Beyond ≡ Is x → (below k n ≡ true) × (value n ≡ x)
-    go true h e = (h, cc)
-    go false h e = absurd (let z : _≡_ {A = ℕ} 0 1 = cc in omega arith)
+-- ---- numbers below a bound
 
-pub is-beyond : (k : ℕ) (n : Number) → bounded k n ≡ Beyond → below k n ≡ false
-is-beyond k n e = go (below k n) refl e
-  where
-    go : (t : Bool) → below k n ≡ t → cond t (Is (value n)) Beyond ≡ Beyond → below k n ≡ false
-    go true h e = absurd (let z : _≡_ {A = ℕ} 0 1 = cc in omega arith)
-    go false h e = h
+both : (t u : Bool) → t && u ≡ true → (t ≡ true) × (u ≡ true)
+both true u e = (refl, e)
+both false u e = absurd (let z : _≡_ {A = ℕ} 0 1 = cc in omega arith)
 
-pub bounded-is : (k : ℕ) (n : Number) (v : ℕ) → n ≡ Value v → v < k → Is v ≡ bounded k n
-bounded-is k n v e h = rw (e, lt-ltb v k h)
+pub low-is : (k : ℕ) (n : Number) → k ≤ 4294967296 → below k n ≡ true → low-of n ≡ value n
+low-is k (Value v) h e = mod-eq-of-lt (let g = ltb-true v k e in omega arith)
+low-is k TooBig h e = refl
 
-pub bounded-not : (k : ℕ) (n : Number) (v : ℕ) → n ≡ Value v → k ≤ v → Beyond ≡ bounded k n
-bounded-not k n v e h = rw (e, le-ltb v k h)
+-- what stands behind a test may take it as true
+under : (t : Bool) (r : Refusal) (a b : Answer Content) → (t ≡ true → a ≡ b) → demand t r a ≡ demand t r b
+under true r a b f = f refl
+under false r a b f = refl
+
+module _ (k : ℕ) (h : k ≤ 4294967296) (a b c d : Number) (e : are-below k a b c d ≡ true) where
+  pub lows : (low-of a ≡ value a) × (low-of b ≡ value b) × (low-of c ≡ value c) × (low-of d ≡ value d)
+  lows =
+      let p = both (below k a) (below k b && (below k c && below k d)) e in
+      let q = both (below k b) (below k c && below k d) (p .1) in
+      let r = both (below k c) (below k d) (q .1) in
+      (low-is k a h (p .0), low-is k b h (q .0), low-is k c h (r .0), low-is k d h (r .1))
+
+-- an order's operands by their lowest bits
+module _ (f : (a b c d : ℕ) → Order) (a b c d : Number) {v w x y : ℕ} {r : Answer Content} (ev : v ≡ low-of a) (ew : w ≡ low-of b) (ex : x ≡ low-of c) (ey : y ≡ low-of d) where
+  pub of-four : r ≡ demand (are-below 32 a b c d) Register (accepted (order (f v w x y))) → r ≡ demand (are-below 32 a b c d) Register (accepted (order (f (value a) (value b) (value c) (value d))))
+  of-four er =
+      er ∙ under (are-below 32 a b c d) Register _ _ (λ e. let l = lows 32 (omega arith) a b c d e in rw (ev, ew, ex, ey, l .0, l .1, l .2, l .3))
+
+  pub of-last : (k : ℕ) (q : Refusal) → k ≤ 4294967296 → r ≡ demand (are-below 32 (Value 0) a b c) Register (demand (below k d) q (accepted (order (f v w x y)))) → r ≡ demand (are-below 32 (Value 0) a b c) Register (demand (below k d) q (accepted (order (f (value a) (value b) (value c) (value d)))))
+  of-last k q h er =
+      er ∙ under (are-below 32 (Value 0) a b c) Register _ _ (λ e. under (below k d) q _ _ (λ g. let l = lows 32 (omega arith) (Value 0) a b c e in rw (ev, ew, ex, ey, l .1, l .2, l .3, low-is k d h g)))
 
 -- ---- the mask
 
@@ -113,11 +128,31 @@ module _ (m : ℕ) where
 
 -- ---- the head
 
-module _ (f : Frame) (c s o l m : Number) (h : Head) (e : head-of f c s o l m ≡ h) (em : mask m ≡ true) (ec : count c ≡ true) (es : count s ≡ true) (eo : count o ≡ true) (el : count l ≡ true) where
-  pub head-good : counts-hold h ≡ true → accepted (head h) ≡ judged (Form.Head f c s o l m)
-  unfolding judged
-  head-good g = rw (em, ec, es, eo, el, e, g)
+grouped : (p q r s t : Bool) → p && (q && (r && (s && t))) ≡ (p && (q && (r && s))) && t
+grouped true true true s t = refl
+grouped true true false s t = refl
+grouped true false r s t = refl
+grouped false q r s t = refl
 
-  pub head-bad : counts-hold h ≡ false → refused 9 0 ≡ judged (Form.Head f c s o l m)
+module _ (f : Frame) (c s o l m : Number) where
+  pub no-mask : below 4294967296 m ≡ false → refused 2 0 ≡ judged (Form.Head f c s o l m)
   unfolding judged
-  head-bad g = rw (em, ec, es, eo, el, e, g)
+  no-mask e = rw e
+
+  module _ (em : below 4294967296 m ≡ true) where
+    parted : judged (Form.Head f c s o l m) ≡ demand (are-below 4097 c s o l && counts-hold (head-of f c s o l m)) Count (accepted (head (head-of f c s o l m)))
+    unfolding judged
+    parted = rw (em, grouped (below 4097 c) (below 4097 s) (below 4097 o) (below 4097 l) (counts-hold (head-of f c s o l m)))
+
+    pub no-count : are-below 4097 c s o l ≡ false → refused 9 0 ≡ judged (Form.Head f c s o l m)
+    no-count e = rw (parted, e)
+
+    module _ (ec : are-below 4097 c s o l ≡ true) (h : Head) (eh : h ≡ record { frame = f; cap = low-of c; states = low-of s; obs = low-of o; last = low-of l; mask = low-of m }) where
+      whole : h ≡ head-of f c s o l m
+      whole = let e = lows 4097 (omega arith) c s o l ec in eh ∙ rw (e .0, e .1, e .2, e .3, low-is 4294967296 m (omega arith) em)
+
+      pub head-good : counts-hold h ≡ true → accepted (head h) ≡ judged (Form.Head f c s o l m)
+      head-good g = rw (parted, ec, ← whole, g)
+
+      pub head-bad : counts-hold h ≡ false → refused 9 0 ≡ judged (Form.Head f c s o l m)
+      head-bad g = rw (parted, ec, ← whole, g)

@@ -26,8 +26,6 @@ use Rattle.form.specs.declared.Form.{Form}
 use Rattle.form.specs.declared.Form.the-variants as Form
 use Rattle.deck.specs.declared.Judged.{Judged}
 use Rattle.deck.specs.declared.Judged.the-variants as Judged
-use Rattle.deck.specs.declared.Bounded.{Bounded}
-use Rattle.deck.specs.declared.Bounded.the-variants as Bounded
 
 -- ---- answers
 
@@ -155,5 +153,9 @@ line-judged first f = cond (Bool·beq (heads f) first) (judged f) (refused (numb
 
 -- ---- the parts of the judge
 
-abbrev pub bounded : ℕ → Number → Bounded
-bounded k n = cond (below k n) (Bounded.Is (value n)) Bounded.Beyond
+-- four numbers below one bound
+abbrev pub are-below : ℕ → (a b c d : Number) → Bool
+are-below k a b c d = below k a && (below k b && (below k c && below k d))
+
+abbrev pub low-of : Number → ℕ
+low-of n = value n % 2 ^ 32

@@ -1,29 +1,26 @@
 // Document 01, "The deck file" and "Numbers of refusal": what a line says, or why it is refused.
 ghost use mathlib.Core.Path.{_≡_};
 ghost use mathlib.Core.Bool.{false};
-ghost use Prim.Native.Nat.{_<_, _≤_, _^_};
+ghost use Prim.Native.Nat.{_<_, _≤_};
 ghost use lib.Dec.{eqb};
 ghost use Rattle.refusal.specs.Answer.{accepted};
+ghost use Rattle.refusal.specs.declared.Refusal.the-variants.{Register, Count};
 ghost use Rattle.order.specs.Count.{cell-count as count-of, index-holds};
 ghost use Rattle.packed.specs.Packed.{place-at, unpacked};
 ghost use Rattle.text.specs.Fields.{split, fields-from};
 ghost use Rattle.form.specs.Read.{read-fields};
 ghost use Rattle.form.specs.Form.{form-of, formed};
-ghost use Rattle.deck.specs.Judge.{order, told, judged, heads, line-judged, bounded, saves, counts-hold, frame-holds};
+ghost use Rattle.deck.specs.Judge.{order, told, demand, below as is-below, are-below, low-of, register, judged, heads, line-judged, saves, counts-hold, frame-holds};
 ghost use Rattle.deck.specs.Packing.{registers-of, bound-of, Joins, Packs, Stands, Says};
 use form::Flag;
 use form::Form;
 use form::Kind;
 use form::Where;
-use order::Binary;
 use order::Constant;
 use order::Frame;
-use order::Fused;
 use order::Head;
 use order::Order;
 use order::Place;
-use order::Scratched;
-use order::Unary;
 use refusal::Refusal;
 use text::Number;
 
@@ -34,23 +31,37 @@ pub enum Judged {
     Refused(Refusal),
 }
 
-enum Bounded {
-    Is(u32),
-    Beyond,
+// A number below a bound.
+fn below(n: Number, bound: u64) -> bool
+    ensures { λ r. ⌜ r ≡ is-below bound n ⌝ }
+{
+    match n {
+        Number::Value(v) => v < bound,
+        Number::TooBig => false,
+    }
 }
 
-// A number below a bound.
-fn below(n: Number, bound: u64) -> Bounded
-    requires { ⌜ bound ≤ 4294967296 ⌝ }
-    ensures { λ r. ⌜ r ≡ bounded bound n ⌝ }
+// Four numbers below one bound.
+fn all_below(a: Number, b: Number, c: Number, d: Number, bound: u64) -> bool
+    ensures { λ r. ⌜ r ≡ are-below bound a b c d ⌝ }
 {
-    let Number::Value(v) = n else {
-        return Bounded::Beyond;
-    };
-    if v < bound {
-        Bounded::Is(v as u32)
-    } else {
-        Bounded::Beyond
+    if below(a, bound) {
+        if below(b, bound) {
+            if below(c, bound) {
+                return below(d, bound);
+            }
+        }
+    }
+    false
+}
+
+// A number's lowest 32 bits: the number, where it is below a bound.
+fn low(n: Number) -> u32
+    ensures { λ r. ⌜ r ≡ low-of n ⌝ }
+{
+    match n {
+        Number::Value(v) => (v % 0x100000000) as u32,
+        Number::TooBig => 0,
     }
 }
 
@@ -109,28 +120,19 @@ fn judge_head(
 ) -> Judged
     ensures { λ r. ⌜ told r ≡ judged (Form.Head f cap states obs last mask) ⌝ }
 {
-    let Bounded::Is(m) = below(mask, 0x100000000) else {
+    if !below(mask, 0x100000000) {
         return Judged::Refused(Refusal::Value);
-    };
-    let Bounded::Is(c) = below(cap, 4097) else {
+    }
+    if !all_below(cap, states, obs, last, 4097) {
         return Judged::Refused(Refusal::Count);
-    };
-    let Bounded::Is(s) = below(states, 4097) else {
-        return Judged::Refused(Refusal::Count);
-    };
-    let Bounded::Is(o) = below(obs, 4097) else {
-        return Judged::Refused(Refusal::Count);
-    };
-    let Bounded::Is(l) = below(last, 4097) else {
-        return Judged::Refused(Refusal::Count);
-    };
+    }
     let h = Head {
         frame: f,
-        cap: c,
-        states: s,
-        obs: o,
-        last: l,
-        mask: m,
+        cap: low(cap),
+        states: low(states),
+        obs: low(obs),
+        last: low(last),
+        mask: low(mask),
     };
     if counted(h) {
         Judged::Head(h)
@@ -141,139 +143,36 @@ fn judge_head(
 
 // ---- orders
 
-fn judge_unary(u: Unary, d: Number, s: Number) -> Judged
-    ensures { λ r. ⌜ told r ≡ judged (Form.Unary u d s) ⌝ }
+// An order of up to four registers; 0 stands for one that it does not have.
+fn of_registers(o: Order, a: Number, b: Number, c: Number, d: Number) -> Judged
+    ensures { λ r. ⌜ told r ≡ demand (are-below 32 a b c d) Register (accepted (order o)) ⌝ }
 {
-    let Bounded::Is(a) = below(d, 32) else {
-        return Judged::Refused(Refusal::Register);
-    };
-    let Bounded::Is(b) = below(s, 32) else {
-        return Judged::Refused(Refusal::Register);
-    };
-    Judged::Order(Order::Unary(u, a, b))
-}
-
-fn judge_scratched(u: Scratched, d: Number, s: Number, t: Number) -> Judged
-    ensures { λ r. ⌜ told r ≡ judged (Form.Scratched u d s t) ⌝ }
-{
-    let Bounded::Is(a) = below(d, 32) else {
-        return Judged::Refused(Refusal::Register);
-    };
-    let Bounded::Is(b) = below(s, 32) else {
-        return Judged::Refused(Refusal::Register);
-    };
-    let Bounded::Is(c) = below(t, 32) else {
-        return Judged::Refused(Refusal::Register);
-    };
-    Judged::Order(Order::Scratched(u, a, b, c))
-}
-
-fn judge_binary(u: Binary, d: Number, s: Number, t: Number) -> Judged
-    ensures { λ r. ⌜ told r ≡ judged (Form.Binary u d s t) ⌝ }
-{
-    let Bounded::Is(a) = below(d, 32) else {
-        return Judged::Refused(Refusal::Register);
-    };
-    let Bounded::Is(b) = below(s, 32) else {
-        return Judged::Refused(Refusal::Register);
-    };
-    let Bounded::Is(c) = below(t, 32) else {
-        return Judged::Refused(Refusal::Register);
-    };
-    Judged::Order(Order::Binary(u, a, b, c))
-}
-
-fn judge_fused(u: Fused, d: Number, s: Number, t: Number, v: Number) -> Judged
-    ensures { λ r. ⌜ told r ≡ judged (Form.Fused u d s t v) ⌝ }
-{
-    let Bounded::Is(a) = below(d, 32) else {
-        return Judged::Refused(Refusal::Register);
-    };
-    let Bounded::Is(b) = below(s, 32) else {
-        return Judged::Refused(Refusal::Register);
-    };
-    let Bounded::Is(c) = below(t, 32) else {
-        return Judged::Refused(Refusal::Register);
-    };
-    let Bounded::Is(e) = below(v, 32) else {
-        return Judged::Refused(Refusal::Register);
-    };
-    Judged::Order(Order::Fused(u, a, b, c, e))
-}
-
-fn judge_ifelse(d: Number, s: Number, t: Number, i: Number) -> Judged
-    ensures { λ r. ⌜ told r ≡ judged (Form.Ifelse d s t i) ⌝ }
-{
-    let Bounded::Is(a) = below(d, 32) else {
-        return Judged::Refused(Refusal::Register);
-    };
-    let Bounded::Is(b) = below(s, 32) else {
-        return Judged::Refused(Refusal::Register);
-    };
-    let Bounded::Is(c) = below(t, 32) else {
-        return Judged::Refused(Refusal::Register);
-    };
-    let Bounded::Is(e) = below(i, 4096) else {
-        return Judged::Refused(Refusal::Count);
-    };
-    Judged::Order(Order::Ifelse(a, b, c, e))
-}
-
-fn judge_load_const(d: Number, k: Number) -> Judged
-    ensures { λ r. ⌜ told r ≡ judged (Form.LoadConst d k) ⌝ }
-{
-    let Bounded::Is(a) = below(d, 32) else {
-        return Judged::Refused(Refusal::Register);
-    };
-    let Bounded::Is(b) = below(k, 1008) else {
-        return Judged::Refused(Refusal::Count);
-    };
-    Judged::Order(Order::LoadConst(a, b))
-}
-
-fn judge_load(d: Number, p: Place, i: Number) -> Judged
-    ensures { λ r. ⌜ told r ≡ judged (Form.Load d p i) ⌝ }
-{
-    let Bounded::Is(a) = below(d, 32) else {
-        return Judged::Refused(Refusal::Register);
-    };
-    let Bounded::Is(b) = below(i, 4096) else {
-        return Judged::Refused(Refusal::Count);
-    };
-    Judged::Order(Order::Load(a, p, b))
-}
-
-fn judge_save(s: Number, p: Place, i: Number) -> Judged
-    ensures { λ r. ⌜ told r ≡ judged (Form.Save s p i) ⌝ }
-{
-    let Bounded::Is(a) = below(s, 32) else {
-        return Judged::Refused(Refusal::Register);
-    };
-    let Bounded::Is(b) = below(i, 4096) else {
-        return Judged::Refused(Refusal::Count);
-    };
-    Judged::Order(Order::Save(a, p, b))
-}
-
-fn judge_branch(c: Number, l: Number, e: bool) -> Judged
-    ensures { λ r. ⌜ told r ≡ judged (Form.BranchIf c l e) ⌝ }
-{
-    let Bounded::Is(a) = below(c, 32) else {
-        return Judged::Refused(Refusal::Register);
-    };
-    let Bounded::Is(b) = below(l, 1024) else {
-        return Judged::Refused(Refusal::Label);
-    };
-    Judged::Order(Order::BranchIf(a, b, e))
-}
-
-fn judge_label(l: Number) -> Judged
-    ensures { λ r. ⌜ told r ≡ judged (Form.SetLabel l) ⌝ }
-{
-    match below(l, 1024) {
-        Bounded::Is(a) => Judged::Order(Order::SetLabel(a)),
-        Bounded::Beyond => Judged::Refused(Refusal::Label),
+    if all_below(a, b, c, d, 32) {
+        Judged::Order(o)
+    } else {
+        Judged::Refused(Refusal::Register)
     }
+}
+
+// An order whose last field has a bound of its own.
+fn with_last(o: Order, registers: bool, last: Number, bound: u64, why: Refusal) -> Judged
+    ensures { λ r. ⌜ told r ≡ demand registers Register (demand (is-below bound last) why (accepted (order o))) ⌝ }
+{
+    if !registers {
+        return Judged::Refused(Refusal::Register);
+    }
+    if below(last, bound) {
+        Judged::Order(o)
+    } else {
+        Judged::Refused(why)
+    }
+}
+
+// An order of a register and an index.
+fn indexed(o: Order, d: Number, i: Number, bound: u64) -> Judged
+    ensures { λ r. ⌜ told r ≡ demand (register d) Register (demand (is-below bound i) Count (accepted (order o))) ⌝ }
+{
+    with_last(o, below(d, 32), i, bound, Refusal::Count)
 }
 
 // A whole number of magnitude at most 2^53, as a float.
@@ -296,18 +195,31 @@ fn judge_float(minus: bool, n: Number) -> Judged
 pub fn judge(form: Form) -> Judged
     ensures { λ r. ⌜ told r ≡ judged form ⌝ }
 {
+    let no = Number::Value(0);
     match form {
         Form::Head(f, c, s, o, l, m) => judge_head(f, c, s, o, l, m),
-        Form::Unary(u, d, s) => judge_unary(u, d, s),
-        Form::Scratched(u, d, s, t) => judge_scratched(u, d, s, t),
-        Form::Binary(u, d, s, t) => judge_binary(u, d, s, t),
-        Form::Fused(u, d, s, t, v) => judge_fused(u, d, s, t, v),
-        Form::Ifelse(d, s, t, i) => judge_ifelse(d, s, t, i),
-        Form::LoadConst(d, k) => judge_load_const(d, k),
-        Form::Load(d, p, i) => judge_load(d, p, i),
-        Form::Save(s, p, i) => judge_save(s, p, i),
-        Form::BranchIf(c, l, e) => judge_branch(c, l, e),
-        Form::SetLabel(l) => judge_label(l),
+        Form::Unary(u, d, s) => of_registers(Order::Unary(u, low(d), low(s)), no, no, d, s),
+        Form::Scratched(u, d, s, t) => {
+            of_registers(Order::Scratched(u, low(d), low(s), low(t)), no, d, s, t)
+        }
+        Form::Binary(u, d, s, t) => {
+            of_registers(Order::Binary(u, low(d), low(s), low(t)), no, d, s, t)
+        }
+        Form::Fused(u, d, s, t, v) => {
+            of_registers(Order::Fused(u, low(d), low(s), low(t), low(v)), d, s, t, v)
+        }
+        Form::Ifelse(d, s, t, i) => {
+            let o = Order::Ifelse(low(d), low(s), low(t), low(i));
+            with_last(o, all_below(no, d, s, t, 32), i, 4096, Refusal::Count)
+        }
+        Form::LoadConst(d, k) => indexed(Order::LoadConst(low(d), low(k)), d, k, 1008),
+        Form::Load(d, p, i) => indexed(Order::Load(low(d), p, low(i)), d, i, 4096),
+        Form::Save(s, p, i) => indexed(Order::Save(low(s), p, low(i)), s, i, 4096),
+        Form::BranchIf(c, l, e) => {
+            let o = Order::BranchIf(low(c), low(l), e);
+            with_last(o, below(c, 32), l, 1024, Refusal::Label)
+        }
+        Form::SetLabel(l) => with_last(Order::SetLabel(low(l)), true, l, 1024, Refusal::Label),
         Form::Float(minus, n) => judge_float(minus, n),
         Form::Bits(n) => Judged::Constant(Constant::Bits(n)),
         Form::Malformed => Judged::Refused(Refusal::Line),

@@ -1,5 +1,5 @@
 -- Forms, field by field. Assumes nothing.
-use mathlib.Core.Path.{_≡_, refl, sym, ap, ap₂, _∙_}
+use mathlib.Core.Path.{_≡_, refl, sym, _∙_}
 use mathlib.Core.Bool.{Bool, true, false}
 use mathlib.Core.Option.{Option, some, none, Option·map}
 use mathlib.Core.List.{List, [], _∷_}
@@ -9,7 +9,7 @@ use borrow.Author.Tests.{le-ltb, ltb-true, ltb-false, eq-eqb, ne-eqb}
 use lib.Dec.{ltb}
 use lib.IntN.{ℤ, pos, negsuc}
 use lib.ListN.{length, getD, take, drop, replicate}
-use Rattle.text.specs.Digits.{sized, numeral, read-decimal, read-integer, read-word, integer, word}
+use Rattle.text.specs.Digits.{sized, numeral, read-integer, read-word, integer, word}
 use Rattle.text.specs.Fields.{split, fields-from, end-from, next-from, first-decimal}
 use Rattle.text.specs.declared.Number.{Number}
 use Rattle.text.specs.declared.Numeral.{Numeral}
@@ -25,7 +25,7 @@ use Rattle.order.specs.declared.Binary.{Binary}
 use Rattle.order.specs.declared.Fused.{Fused}
 use Rattle.form.specs.Line.{Sort, number, integer as integer-sort, word as word-sort, place, flag, Values, place-name, flag-name, sorts}
 use Rattle.form.specs.Read.{first, all-places, all-flags, kind-of, both, read-field, read-values, with-values, read-kind, read-fields, read}
-use Rattle.form.specs.Form.{formed, form-of, named, shaped, shaped′, cons, read-numbers, numbers, before, first-of, only, placed, cell, flagged}
+use Rattle.form.specs.Form.{formed, form-of, named, shaped, shaped′, behind, numbers, read-numbers, zeros, of-numbers, first-of, only, placed, cell, flagged}
 use Rattle.form.specs.declared.Kind.{Kind}
 use Rattle.form.specs.declared.Kind.the-variants as Kind
 use Rattle.form.specs.declared.Form.{Form}
@@ -58,146 +58,89 @@ module _ (s : List ℕ) (a : ℕ) where
   pub first-is : first-of number (fields-from s a) ≡ first-decimal (fields-from s a)
   first-is = by-field (first-of number) first-decimal (λ _. refl) (λ x. refl)
 
-  step-numbers : (k : ℕ) → read-numbers (suc k) (fields-from s a) ≡ cons (first-decimal (fields-from s a)) (read-numbers k (fields-from s (next-from s a)))
-  unfolding read-numbers
-  step-numbers k = by-field (read-numbers (suc k)) (λ fs. cons (first-decimal fs) (read-numbers k (fields-from s (next-from s a)))) (λ _. refl) (λ x. refl)
+-- two ways to go on from a field or from none
+agree : {A X : Type 0} (f g : Option A → X) → f none ≡ g none → ((a : A) → f (some a) ≡ g (some a)) → (o : Option A) → f o ≡ g o
+agree f g n j none = n
+agree f g n j (some a) = j a
 
-  -- ---- numbers, one after the other
+-- ---- numbers, one after the other
 
-  pub none-left : length s < a → numbers (some []) ≡ numbers (read-numbers 0 (fields-from s a))
-  unfolding read-numbers
-  none-left h = rw (no-field s a h)
+module _ (k : ℕ) (q : Numbers) where
+  abbrev onward : Option ℕ → Option (Values (replicate k number)) → Numbers
+  onward none p = Numbers.Malformed
+  onward (some n) p = numbers k (behind q (sized n)) p
 
-  pub some-left : a ≤ length s → Numbers.Malformed ≡ numbers (read-numbers 0 (fields-from s a))
-  unfolding read-numbers
-  some-left h = rw (field-is s a h)
+  parted : (o : Option ℕ) (p : Option (Values (replicate k number))) → numbers (suc k) q (both o p) ≡ onward o p
+  parted none p = refl
+  parted (some n) none = refl
+  parted (some n) (some vs) = refl
 
-both-read : (o : Option ℕ) (q : Option (List ℕ)) → before (numeral o) (numbers q) ≡ numbers (cons o q)
-both-read none q = refl
-both-read (some n) none = refl
-both-read (some n) (some ns) = refl
+  one-more : (s : List ℕ) (a : ℕ) → read-numbers (suc k) q (fields-from s a) ≡ onward (first-decimal (fields-from s a)) (read-values (replicate k number) (fields-from s (next-from s a)))
+  one-more s a = rw (step s a number (replicate k number), first-is s a) (parted (first-decimal (fields-from s a)) (read-values (replicate k number) (fields-from s (next-from s a))))
 
--- the number in the field at a, and the k from the next place on
-pub one-more : (k : ℕ) (s : List ℕ) (a : ℕ) {x : Numeral} {n : ℕ} {r : Numbers} → x ≡ numeral (first-decimal (fields-from s a)) → n ≡ next-from s a → r ≡ numbers (read-numbers k (fields-from s n)) → before x r ≡ numbers (read-numbers (suc k) (fields-from s a))
-one-more k s a ex en er =
-    ap₂ before ex (er ∙ ap (λ (m : ℕ). numbers (read-numbers k (fields-from s m))) en)
-    ∙ both-read (first-decimal (fields-from s a)) (read-numbers k (fields-from s (next-from s a)))
-    ∙ ap numbers (sym (step-numbers s a k))
+module _ (s : List ℕ) (a : ℕ) (q : Numbers) where
+  pub goes-on : (k : ℕ) {x : Numeral} {b : ℕ} (n : Number) → 0 < k → x ≡ numeral (first-decimal (fields-from s a)) → b ≡ next-from s a → x ≡ Numeral.Is n → read-numbers k q (fields-from s a) ≡ read-numbers (k - 1) (behind q n) (fields-from s b)
+  goes-on zero n h ex eb e = absurd (omega arith)
+  goes-on (suc k) n h ex eb e =
+      let z : suc k - 1 ≡ k = omega arith in
+      rw (z, eb) (one-more k q s a ∙ go (first-decimal (fields-from s a)) (sym ex ∙ e))
+    where
+      go : (o : Option ℕ) → numeral o ≡ Numeral.Is n → onward k q o (read-values (replicate k number) (fields-from s (next-from s a))) ≡ read-numbers k (behind q n) (fields-from s (next-from s a))
+      go none e = absurd (let z : _≡_ {A = ℕ} 0 1 = cc in omega arith)
+      go (some m) e = let z : sized m ≡ n = cc in rw z
 
--- numbers as values
-abbrev tuple : (k i : ℕ) → List ℕ → Values (replicate k number)
-tuple zero i ns = tt
-tuple (suc k) i ns = (getD ns i 0, tuple k (suc i) ns)
+  pub stops : (k : ℕ) {x : Numeral} → 0 < k → x ≡ numeral (first-decimal (fields-from s a)) → x ≡ Numeral.Malformed → read-numbers k q (fields-from s a) ≡ Numbers.Malformed
+  stops zero h ex e = absurd (omega arith)
+  stops (suc k) h ex e = one-more k q s a ∙ go (first-decimal (fields-from s a)) (sym ex ∙ e)
+    where
+      go : (o : Option ℕ) → numeral o ≡ Numeral.Malformed → onward k q o (read-values (replicate k number) (fields-from s (next-from s a))) ≡ Numbers.Malformed
+      go none e = refl
+      go (some m) e = absurd (let z : _≡_ {A = ℕ} 0 1 = cc in omega arith)
 
-shift : (k i n : ℕ) (ns : List ℕ) → tuple k (suc i) (n ∷ ns) ≡ tuple k i ns
-shift zero i n ns = refl
-shift (suc k) i n ns = ap (λ (t : Values (replicate k number)). (getD ns i 0, t)) (shift k (suc i) n ns)
+  pub none-left : (k : ℕ) → k ≤ 0 → length s < a → read-numbers k q (fields-from s a) ≡ q
+  unfolding read-values
+  none-left zero g h = rw (no-field s a h)
+  none-left (suc k) g h = absurd (omega arith)
 
-numbers-values : (k : ℕ) (fs : List (List ℕ)) → read-values (replicate k number) fs ≡ Option·map (tuple k 0) (read-numbers k fs)
-unfolding read-values read-numbers
-numbers-values zero [] = refl
-numbers-values zero (f ∷ fs) = refl
-numbers-values (suc k) [] = refl
-numbers-values (suc k) (f ∷ fs) = rw (numbers-values k fs) (go (read-decimal f) (read-numbers k fs))
-  where
-    go : (o : Option ℕ) (q : Option (List ℕ)) → both o (Option·map (tuple k 0) q) ≡ Option·map (tuple (suc k) 0) (cons o q)
-    go none q = refl
-    go (some n) none = refl
-    go (some n) (some ns) = ap (λ (t : Values (replicate k number)). some (n, t)) (sym (shift k 0 n ns))
-
--- what the numbers came from
-told : (o : Option (List ℕ)) (a b c d e : Number) → numbers o ≡ Numbers.Are a b c d e
-    → (ns : List ℕ) × (o ≡ some ns) × (sized (getD ns 0 0) ≡ a) × (sized (getD ns 1 0) ≡ b) × (sized (getD ns 2 0) ≡ c) × (sized (getD ns 3 0) ≡ d) × (sized (getD ns 4 0) ≡ e)
-told none a b c d e h = absurd (let z : _≡_ {A = ℕ} 0 1 = cc in omega arith)
-told (some ns) a b c d e h = (ns, refl, cc, cc, cc, cc, cc)
-
-not-told : (o : Option (List ℕ)) → numbers o ≡ Numbers.Malformed → o ≡ none
-not-told none h = refl
-not-told (some ns) h = absurd (let z : _≡_ {A = ℕ} 0 1 = cc in omega arith)
+  pub some-left : (k : ℕ) → k ≤ 0 → a ≤ length s → read-numbers k q (fields-from s a) ≡ Numbers.Malformed
+  unfolding read-values
+  some-left zero g h = rw (field-is s a h)
+  some-left (suc k) g h = absurd (omega arith)
 
 -- ---- kinds that have numbers only
 
 module _ (fs : List (List ℕ)) where
-  pub no-head : (f : Frame) → numbers (read-numbers 5 fs) ≡ Numbers.Malformed → Form.Malformed ≡ shaped (Kind.Head f) fs
+  pub is-head : (f : Frame) → of-numbers (read-numbers 5 zeros fs) (Kind.Head f) ≡ shaped (Kind.Head f) fs
   unfolding shaped
-  no-head f h = rw (numbers-values 5 fs, not-told (read-numbers 5 fs) h)
+  is-head f = agree (λ o. of-numbers (numbers 5 zeros o) (Kind.Head f)) (shaped′ (Kind.Head f)) refl (λ vs. refl) (read-values (replicate 5 number) fs)
 
-  pub no-unary : (u : Unary) → numbers (read-numbers 2 fs) ≡ Numbers.Malformed → Form.Malformed ≡ shaped (Kind.Unary u) fs
+  pub is-unary : (u : Unary) → of-numbers (read-numbers 2 zeros fs) (Kind.Unary u) ≡ shaped (Kind.Unary u) fs
   unfolding shaped
-  no-unary u h = rw (numbers-values 2 fs, not-told (read-numbers 2 fs) h)
+  is-unary u = agree (λ o. of-numbers (numbers 2 zeros o) (Kind.Unary u)) (shaped′ (Kind.Unary u)) refl (λ vs. refl) (read-values (replicate 2 number) fs)
 
-  pub no-scratched : (u : Scratched) → numbers (read-numbers 3 fs) ≡ Numbers.Malformed → Form.Malformed ≡ shaped (Kind.Scratched u) fs
+  pub is-scratched : (u : Scratched) → of-numbers (read-numbers 3 zeros fs) (Kind.Scratched u) ≡ shaped (Kind.Scratched u) fs
   unfolding shaped
-  no-scratched u h = rw (numbers-values 3 fs, not-told (read-numbers 3 fs) h)
+  is-scratched u = agree (λ o. of-numbers (numbers 3 zeros o) (Kind.Scratched u)) (shaped′ (Kind.Scratched u)) refl (λ vs. refl) (read-values (replicate 3 number) fs)
 
-  pub no-binary : (u : Binary) → numbers (read-numbers 3 fs) ≡ Numbers.Malformed → Form.Malformed ≡ shaped (Kind.Binary u) fs
+  pub is-binary : (u : Binary) → of-numbers (read-numbers 3 zeros fs) (Kind.Binary u) ≡ shaped (Kind.Binary u) fs
   unfolding shaped
-  no-binary u h = rw (numbers-values 3 fs, not-told (read-numbers 3 fs) h)
+  is-binary u = agree (λ o. of-numbers (numbers 3 zeros o) (Kind.Binary u)) (shaped′ (Kind.Binary u)) refl (λ vs. refl) (read-values (replicate 3 number) fs)
 
-  pub no-fused : (u : Fused) → numbers (read-numbers 4 fs) ≡ Numbers.Malformed → Form.Malformed ≡ shaped (Kind.Fused u) fs
+  pub is-fused : (u : Fused) → of-numbers (read-numbers 4 zeros fs) (Kind.Fused u) ≡ shaped (Kind.Fused u) fs
   unfolding shaped
-  no-fused u h = rw (numbers-values 4 fs, not-told (read-numbers 4 fs) h)
+  is-fused u = agree (λ o. of-numbers (numbers 4 zeros o) (Kind.Fused u)) (shaped′ (Kind.Fused u)) refl (λ vs. refl) (read-values (replicate 4 number) fs)
 
-  pub no-ifelse : numbers (read-numbers 4 fs) ≡ Numbers.Malformed → Form.Malformed ≡ shaped Kind.Ifelse fs
+  pub is-ifelse : of-numbers (read-numbers 4 zeros fs) Kind.Ifelse ≡ shaped Kind.Ifelse fs
   unfolding shaped
-  no-ifelse h = rw (numbers-values 4 fs, not-told (read-numbers 4 fs) h)
+  is-ifelse = agree (λ o. of-numbers (numbers 4 zeros o) Kind.Ifelse) (shaped′ Kind.Ifelse) refl (λ vs. refl) (read-values (replicate 4 number) fs)
 
-  pub no-load-const : numbers (read-numbers 2 fs) ≡ Numbers.Malformed → Form.Malformed ≡ shaped Kind.LoadConst fs
+  pub is-load-const : of-numbers (read-numbers 2 zeros fs) Kind.LoadConst ≡ shaped Kind.LoadConst fs
   unfolding shaped
-  no-load-const h = rw (numbers-values 2 fs, not-told (read-numbers 2 fs) h)
+  is-load-const = agree (λ o. of-numbers (numbers 2 zeros o) Kind.LoadConst) (shaped′ Kind.LoadConst) refl (λ vs. refl) (read-values (replicate 2 number) fs)
 
-  pub no-label : numbers (read-numbers 1 fs) ≡ Numbers.Malformed → Form.Malformed ≡ shaped Kind.SetLabel fs
+  pub is-label : of-numbers (read-numbers 1 zeros fs) Kind.SetLabel ≡ shaped Kind.SetLabel fs
   unfolding shaped
-  no-label h = rw (numbers-values 1 fs, not-told (read-numbers 1 fs) h)
-
-module _ (fs : List (List ℕ)) (a b c d e : Number) where
-  pub is-head : (f : Frame) → numbers (read-numbers 5 fs) ≡ Numbers.Are a b c d e → Form.Head f a b c d e ≡ shaped (Kind.Head f) fs
-  unfolding shaped
-  is-head f h =
-      let t = told (read-numbers 5 fs) a b c d e h in
-      rw (numbers-values 5 fs, t .1) (cc)
-
-  pub is-unary : (u : Unary) → numbers (read-numbers 2 fs) ≡ Numbers.Are a b c d e → Form.Unary u a b ≡ shaped (Kind.Unary u) fs
-  unfolding shaped
-  is-unary u h =
-      let t = told (read-numbers 2 fs) a b c d e h in
-      rw (numbers-values 2 fs, t .1) (cc)
-
-  pub is-scratched : (u : Scratched) → numbers (read-numbers 3 fs) ≡ Numbers.Are a b c d e → Form.Scratched u a b c ≡ shaped (Kind.Scratched u) fs
-  unfolding shaped
-  is-scratched u h =
-      let t = told (read-numbers 3 fs) a b c d e h in
-      rw (numbers-values 3 fs, t .1) (cc)
-
-  pub is-binary : (u : Binary) → numbers (read-numbers 3 fs) ≡ Numbers.Are a b c d e → Form.Binary u a b c ≡ shaped (Kind.Binary u) fs
-  unfolding shaped
-  is-binary u h =
-      let t = told (read-numbers 3 fs) a b c d e h in
-      rw (numbers-values 3 fs, t .1) (cc)
-
-  pub is-fused : (u : Fused) → numbers (read-numbers 4 fs) ≡ Numbers.Are a b c d e → Form.Fused u a b c d ≡ shaped (Kind.Fused u) fs
-  unfolding shaped
-  is-fused u h =
-      let t = told (read-numbers 4 fs) a b c d e h in
-      rw (numbers-values 4 fs, t .1) (cc)
-
-  pub is-ifelse : numbers (read-numbers 4 fs) ≡ Numbers.Are a b c d e → Form.Ifelse a b c d ≡ shaped Kind.Ifelse fs
-  unfolding shaped
-  is-ifelse h =
-      let t = told (read-numbers 4 fs) a b c d e h in
-      rw (numbers-values 4 fs, t .1) (cc)
-
-  pub is-load-const : numbers (read-numbers 2 fs) ≡ Numbers.Are a b c d e → Form.LoadConst a b ≡ shaped Kind.LoadConst fs
-  unfolding shaped
-  is-load-const h =
-      let t = told (read-numbers 2 fs) a b c d e h in
-      rw (numbers-values 2 fs, t .1) (cc)
-
-  pub is-label : numbers (read-numbers 1 fs) ≡ Numbers.Are a b c d e → Form.SetLabel a ≡ shaped Kind.SetLabel fs
-  unfolding shaped
-  is-label h =
-      let t = told (read-numbers 1 fs) a b c d e h in
-      rw (numbers-values 1 fs, t .1) (cc)
+  is-label = agree (λ o. of-numbers (numbers 1 zeros o) Kind.SetLabel) (shaped′ Kind.SetLabel) refl (λ vs. refl) (read-values (replicate 1 number) fs)
 
 -- ---- the last field
 
@@ -289,42 +232,42 @@ module _ (s : List ℕ) (a : ℕ) where
 
 -- ---- a cell
 
-abbrev cell-of : (o : Option ℕ) (p : Option Place) (q : Option (List ℕ)) → Cell
-cell-of o p q = cell (both o (both p (Option·map (tuple 1 0) q)))
+abbrev cell-of : (o : Option ℕ) (p : Option Place) (q : Option (Values (number ∷ []))) → Cell
+cell-of o p q = cell (both o (both p q))
 
-cell-x : (o : Option ℕ) (p : Option Place) (q : Option (List ℕ)) → numeral o ≡ Numeral.Malformed → Cell.Malformed ≡ cell-of o p q
+cell-x : (o : Option ℕ) (p : Option Place) (q : Option (Values (number ∷ []))) → numeral o ≡ Numeral.Malformed → Cell.Malformed ≡ cell-of o p q
 cell-x none p q e = refl
 cell-x (some n) p q e = absurd (let z : _≡_ {A = ℕ} 0 1 = cc in omega arith)
 
-cell-w : (o : Option ℕ) (p : Option Place) (q : Option (List ℕ)) → placed p ≡ Where.Malformed → Cell.Malformed ≡ cell-of o p q
+cell-w : (o : Option ℕ) (p : Option Place) (q : Option (Values (number ∷ []))) → placed p ≡ Where.Malformed → Cell.Malformed ≡ cell-of o p q
 cell-w none p q e = refl
 cell-w (some n) none q e = refl
 cell-w (some n) (some p) q e = absurd (let z : _≡_ {A = ℕ} 0 1 = cc in omega arith)
 
-cell-r : (o : Option ℕ) (p : Option Place) (q : Option (List ℕ)) → numbers q ≡ Numbers.Malformed → Cell.Malformed ≡ cell-of o p q
+cell-r : (o : Option ℕ) (p : Option Place) (q : Option (Values (number ∷ []))) → numbers 1 zeros q ≡ Numbers.Malformed → Cell.Malformed ≡ cell-of o p q
 cell-r none p q e = refl
 cell-r (some n) none q e = refl
 cell-r (some n) (some p) none e = refl
-cell-r (some n) (some p) (some ns) e = absurd (let z : _≡_ {A = ℕ} 0 1 = cc in omega arith)
+cell-r (some n) (some p) (some vs) e = absurd (let z : _≡_ {A = ℕ} 0 1 = cc in omega arith)
 
-cell-all : (o : Option ℕ) (p : Option Place) (q : Option (List ℕ)) (m : Number) (w : Place) (b c d e f : Number) → numeral o ≡ Numeral.Is m → placed p ≡ Where.Is w → numbers q ≡ Numbers.Are b c d e f → Cell.Is m w b ≡ cell-of o p q
+cell-all : (o : Option ℕ) (p : Option Place) (q : Option (Values (number ∷ []))) (m : Number) (w : Place) (b c d e f : Number) → numeral o ≡ Numeral.Is m → placed p ≡ Where.Is w → numbers 1 zeros q ≡ Numbers.Are b c d e f → Cell.Is m w f ≡ cell-of o p q
 cell-all none p q m w b c d e f g h i = absurd (let z : _≡_ {A = ℕ} 0 1 = cc in omega arith)
 cell-all (some n) none q m w b c d e f g h i = absurd (let z : _≡_ {A = ℕ} 0 1 = cc in omega arith)
 cell-all (some n) (some p) none m w b c d e f g h i = absurd (let z : _≡_ {A = ℕ} 0 1 = cc in omega arith)
-cell-all (some n) (some p) (some ns) m w b c d e f g h i = cc
+cell-all (some n) (some p) (some vs) m w b c d e f g h i = cc
 
-module _ (s : List ℕ) (a : ℕ) (x : Numeral) (j : ℕ) (y : Where) (k : ℕ) (r : Numbers) (ex : x ≡ numeral (first-decimal (fields-from s a))) (ej : j ≡ next-from s a) (ey : y ≡ placed (first-of place (fields-from s j))) (ek : k ≡ next-from s j) (er : r ≡ numbers (read-numbers 1 (fields-from s k))) where
+module _ (s : List ℕ) (a : ℕ) (x : Numeral) (j : ℕ) (y : Where) (k : ℕ) (r : Numbers) (ex : x ≡ numeral (first-decimal (fields-from s a))) (ej : j ≡ next-from s a) (ey : y ≡ placed (first-of place (fields-from s j))) (ek : k ≡ next-from s j) (er : r ≡ read-numbers 1 zeros (fields-from s k)) where
   abbrev o : Option ℕ
   o = first-decimal (fields-from s a)
 
   abbrev p : Option Place
   p = first-of place (fields-from s j)
 
-  abbrev q : Option (List ℕ)
-  q = read-numbers 1 (fields-from s k)
+  abbrev q : Option (Values (number ∷ []))
+  q = read-values (number ∷ []) (fields-from s k)
 
   in-steps : cell (read-values (number ∷ place ∷ number ∷ []) (fields-from s a)) ≡ cell-of o p q
-  in-steps = rw (step s a number (place ∷ number ∷ []), first-is s a, ← ej, step s j place (number ∷ []), ← ek, numbers-values 1 (fields-from s k))
+  in-steps = rw (step s a number (place ∷ number ∷ []), first-is s a, ← ej, step s j place (number ∷ []), ← ek)
 
   pub cell-no-number : x ≡ Numeral.Malformed → Cell.Malformed ≡ cell (read-values (number ∷ place ∷ number ∷ []) (fields-from s a))
   cell-no-number e = cell-x o p q (sym ex ∙ e) ∙ sym in-steps
@@ -335,7 +278,7 @@ module _ (s : List ℕ) (a : ℕ) (x : Numeral) (j : ℕ) (y : Where) (k : ℕ) 
   pub cell-no-index : r ≡ Numbers.Malformed → Cell.Malformed ≡ cell (read-values (number ∷ place ∷ number ∷ []) (fields-from s a))
   cell-no-index e = cell-r o p q (sym er ∙ e) ∙ sym in-steps
 
-  pub cell-is : (m : Number) (w : Place) (b c d e f : Number) → x ≡ Numeral.Is m → y ≡ Where.Is w → r ≡ Numbers.Are b c d e f → Cell.Is m w b ≡ cell (read-values (number ∷ place ∷ number ∷ []) (fields-from s a))
+  pub cell-is : (m : Number) (w : Place) (b c d e f : Number) → x ≡ Numeral.Is m → y ≡ Where.Is w → r ≡ Numbers.Are b c d e f → Cell.Is m w f ≡ cell (read-values (number ∷ place ∷ number ∷ []) (fields-from s a))
   cell-is m w b c d e f g h i = cell-all o p q m w b c d e f (sym ex ∙ g) (sym ey ∙ h) (sym er ∙ i) ∙ sym in-steps
 
 module _ (fs : List (List ℕ)) where

@@ -4,10 +4,10 @@ use mathlib.Core.Option.{Option, some, none, Option·map}
 use mathlib.Core.List.{List, [], _∷_}
 use Prim.Native.Nat.{ℕ, zero, suc}
 use lib.IntN.{ℤ, pos, negsuc}
-use lib.ListN.{getD}
-use Rattle.text.specs.Digits.{read-decimal, sized}
-use Rattle.text.specs.declared.Numeral.{Numeral}
-use Rattle.text.specs.declared.Numeral.the-variants as Numeral
+use lib.ListN.{replicate}
+use Rattle.text.specs.Digits.{sized}
+use Rattle.text.specs.declared.Number.{Number}
+use Rattle.text.specs.declared.Number.the-variants as Number
 use Rattle.order.specs.declared.Place.{Place}
 use Rattle.form.specs.Line.{Sort, number, place, Value, Values, sorts, Line}
 use Rattle.form.specs.Read.{read, read-field, read-values}
@@ -71,28 +71,42 @@ abbrev pub named : Option Kind → Named
 named none = Named.Unknown
 named (some k) = Named.Is k
 
--- exactly k numbers
-abbrev pub cons : Option ℕ → Option (List ℕ) → Option (List ℕ)
-cons none q = none
-cons (some n) none = none
-cons (some n) (some ns) = some (n ∷ ns)
+-- one number more behind four of five
+abbrev pub behind : Numbers → Number → Numbers
+behind Numbers.Malformed n = Numbers.Malformed
+behind (Numbers.Are v w x y z) n = Numbers.Are w x y z n
 
-unfoldable pub read-numbers : ℕ → List (List ℕ) → Option (List ℕ)
-read-numbers zero [] = some []
-read-numbers zero (f ∷ fs) = none
-read-numbers (suc k) [] = none
-read-numbers (suc k) (f ∷ fs) = cons (read-decimal f) (read-numbers k fs)
+abbrev pub all-behind : (k : ℕ) → Numbers → Values (replicate k number) → Numbers
+all-behind zero q vs = q
+all-behind (suc k) q vs = all-behind k (behind q (sized (vs .0))) (vs .1)
 
--- the first five of them, 0 where there are fewer
-abbrev pub numbers : Option (List ℕ) → Numbers
-numbers none = Numbers.Malformed
-numbers (some ns) = Numbers.Are (sized (getD ns 0 0)) (sized (getD ns 1 0)) (sized (getD ns 2 0)) (sized (getD ns 3 0)) (sized (getD ns 4 0))
+abbrev pub numbers : (k : ℕ) → Numbers → Option (Values (replicate k number)) → Numbers
+numbers k q none = Numbers.Malformed
+numbers k q (some vs) = all-behind k q vs
 
--- a number before others; the last of those is dropped
-abbrev pub before : Numeral → Numbers → Numbers
-before Numeral.Malformed r = Numbers.Malformed
-before (Numeral.Is n) Numbers.Malformed = Numbers.Malformed
-before (Numeral.Is n) (Numbers.Are b c d e f) = Numbers.Are n b c d e
+-- exactly k numbers, behind those of q
+abbrev pub read-numbers : (k : ℕ) → Numbers → List (List ℕ) → Numbers
+read-numbers k q fs = numbers k q (read-values (replicate k number) fs)
+
+abbrev pub zeros : Numbers
+zeros = Numbers.Are (Number.Value 0) (Number.Value 0) (Number.Value 0) (Number.Value 0) (Number.Value 0)
+
+-- a line of a kind that has numbers only
+abbrev pub of-numbers : Numbers → Kind → Form
+of-numbers Numbers.Malformed k = Form.Malformed
+of-numbers (Numbers.Are v w x y z) (Kind.Head f) = Form.Head f v w x y z
+of-numbers (Numbers.Are v w x y z) (Kind.Unary u) = Form.Unary u y z
+of-numbers (Numbers.Are v w x y z) (Kind.Scratched u) = Form.Scratched u x y z
+of-numbers (Numbers.Are v w x y z) (Kind.Binary u) = Form.Binary u x y z
+of-numbers (Numbers.Are v w x y z) (Kind.Fused u) = Form.Fused u w x y z
+of-numbers (Numbers.Are v w x y z) Kind.Ifelse = Form.Ifelse w x y z
+of-numbers (Numbers.Are v w x y z) Kind.LoadConst = Form.LoadConst y z
+of-numbers (Numbers.Are v w x y z) Kind.Load = Form.Malformed
+of-numbers (Numbers.Are v w x y z) Kind.Save = Form.Malformed
+of-numbers (Numbers.Are v w x y z) Kind.BranchIf = Form.Malformed
+of-numbers (Numbers.Are v w x y z) Kind.SetLabel = Form.SetLabel z
+of-numbers (Numbers.Are v w x y z) Kind.Float = Form.Malformed
+of-numbers (Numbers.Are v w x y z) Kind.Bits = Form.Malformed
 
 -- the value of the first of the fields
 abbrev pub first-of : (q : Sort) → List (List ℕ) → Option (Value q)

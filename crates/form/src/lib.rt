@@ -5,7 +5,7 @@ ghost use Rattle.text.specs.Fields.{split, same, fields-from, next-from};
 ghost use Rattle.form.specs.Line.{name, place-name, flag-name, number, place, flag};
 ghost use Rattle.form.specs.Kinds.{numbered, or-number, later-at, kind-at};
 ghost use Rattle.form.specs.Read.{first, names-two, names-three, names-four, names-five, names-six, names-longer, kind-of, all-places, all-flags, read-values, read-fields};
-ghost use Rattle.form.specs.Form.{form-of, formed, shaped, named, numbers, read-numbers, before, first-of, only, placed, cell, flagged};
+ghost use Rattle.form.specs.Form.{form-of, formed, shaped, named, zeros, read-numbers, of-numbers, first-of, only, placed, cell, flagged};
 use order::Binary;
 use order::Frame;
 use order::Fused;
@@ -58,7 +58,7 @@ pub enum Named {
     Unknown,
 }
 
-// Up to five number fields; those that a line does not have are 0.
+// The last five number fields; where there are fewer, 0 stands in front.
 pub enum Numbers {
     Are(Number, Number, Number, Number, Number),
     Malformed,
@@ -229,150 +229,59 @@ fn kind_named(s: &[u8]) -> Named
 
 // ---- forms: the fields behind the name start at a
 
-// A number before others.
-fn joined(x: Numeral, rest: Numbers) -> Numbers
-    ensures { λ r. ⌜ r ≡ before x rest ⌝ }
+// So many number fields, to the line's end.
+fn read_numbers(s: &[u8], a: usize, count: u64) -> Numbers
+    ensures { λ r. ⌜ r ≡ read-numbers count zeros (fields-from (now (s .entry)) a) ⌝ }
 {
-    let Numeral::Is(first) = x else {
-        return Numbers::Malformed;
-    };
-    let Numbers::Are(b, c, d, e, _) = rest else {
-        return Numbers::Malformed;
-    };
-    Numbers::Are(first, b, c, d, e)
-}
-
-// Exactly so many number fields, to the line's end.
-fn no_number(s: &[u8], a: usize) -> Numbers
-    ensures { λ r. ⌜ r ≡ numbers (read-numbers 0 (fields-from (now (s .entry)) a)) ⌝ }
-{
-    if s.len() < a {
-        return Numbers::Are(
-            Number::Value(0),
-            Number::Value(0),
-            Number::Value(0),
-            Number::Value(0),
-            Number::Value(0),
-        );
+    let mut at = a;
+    let mut left = count;
+    let mut v = Number::Value(0);
+    let mut w = Number::Value(0);
+    let mut x = Number::Value(0);
+    let mut y = Number::Value(0);
+    let mut z = Number::Value(0);
+    while left > 0 {
+        let field = text::number_at(s, at);
+        let numeral = field.numeral;
+        let Numeral::Is(n) = numeral else {
+            return Numbers::Malformed;
+        };
+        v = w;
+        w = x;
+        x = y;
+        y = z;
+        z = n;
+        at = field.next;
+        left -= 1;
+    }
+    if s.len() < at {
+        return Numbers::Are(v, w, x, y, z);
     }
     Numbers::Malformed
 }
 
-fn one_number(s: &[u8], a: usize) -> Numbers
-    ensures { λ r. ⌜ r ≡ numbers (read-numbers 1 (fields-from (now (s .entry)) a)) ⌝ }
+// A line of a kind that has numbers only, so many of them.
+fn form_numbers(k: Kind, s: &[u8], a: usize, count: u64) -> Form
+    ensures { λ r. ⌜ r ≡ of-numbers (read-numbers count zeros (fields-from (now (s .entry)) a)) k ⌝ }
 {
-    let x = text::number_at(s, a);
-    let rest = no_number(s, x.next);
-    let n = x.numeral;
-    joined(n, rest)
-}
-
-fn two_numbers(s: &[u8], a: usize) -> Numbers
-    ensures { λ r. ⌜ r ≡ numbers (read-numbers 2 (fields-from (now (s .entry)) a)) ⌝ }
-{
-    let x = text::number_at(s, a);
-    let rest = one_number(s, x.next);
-    let n = x.numeral;
-    joined(n, rest)
-}
-
-fn three_numbers(s: &[u8], a: usize) -> Numbers
-    ensures { λ r. ⌜ r ≡ numbers (read-numbers 3 (fields-from (now (s .entry)) a)) ⌝ }
-{
-    let x = text::number_at(s, a);
-    let rest = two_numbers(s, x.next);
-    let n = x.numeral;
-    joined(n, rest)
-}
-
-fn four_numbers(s: &[u8], a: usize) -> Numbers
-    ensures { λ r. ⌜ r ≡ numbers (read-numbers 4 (fields-from (now (s .entry)) a)) ⌝ }
-{
-    let x = text::number_at(s, a);
-    let rest = three_numbers(s, x.next);
-    let n = x.numeral;
-    joined(n, rest)
-}
-
-fn five_numbers(s: &[u8], a: usize) -> Numbers
-    ensures { λ r. ⌜ r ≡ numbers (read-numbers 5 (fields-from (now (s .entry)) a)) ⌝ }
-{
-    let x = text::number_at(s, a);
-    let rest = four_numbers(s, x.next);
-    let n = x.numeral;
-    joined(n, rest)
-}
-
-fn form_head(f: Frame, s: &[u8], a: usize) -> Form
-    ensures { λ r. ⌜ r ≡ shaped (Kind.Head f) (fields-from (now (s .entry)) a) ⌝ }
-{
-    let Numbers::Are(cap, states, obs, last, mask) = five_numbers(s, a) else {
+    let Numbers::Are(v, w, x, y, z) = read_numbers(s, a, count) else {
         return Form::Malformed;
     };
-    Form::Head(f, cap, states, obs, last, mask)
-}
-
-fn form_unary(u: Unary, s: &[u8], a: usize) -> Form
-    ensures { λ r. ⌜ r ≡ shaped (Kind.Unary u) (fields-from (now (s .entry)) a) ⌝ }
-{
-    let Numbers::Are(d, x, _, _, _) = two_numbers(s, a) else {
-        return Form::Malformed;
-    };
-    Form::Unary(u, d, x)
-}
-
-fn form_scratched(u: Scratched, s: &[u8], a: usize) -> Form
-    ensures { λ r. ⌜ r ≡ shaped (Kind.Scratched u) (fields-from (now (s .entry)) a) ⌝ }
-{
-    let Numbers::Are(d, x, t, _, _) = three_numbers(s, a) else {
-        return Form::Malformed;
-    };
-    Form::Scratched(u, d, x, t)
-}
-
-fn form_binary(u: Binary, s: &[u8], a: usize) -> Form
-    ensures { λ r. ⌜ r ≡ shaped (Kind.Binary u) (fields-from (now (s .entry)) a) ⌝ }
-{
-    let Numbers::Are(d, x, y, _, _) = three_numbers(s, a) else {
-        return Form::Malformed;
-    };
-    Form::Binary(u, d, x, y)
-}
-
-fn form_fused(u: Fused, s: &[u8], a: usize) -> Form
-    ensures { λ r. ⌜ r ≡ shaped (Kind.Fused u) (fields-from (now (s .entry)) a) ⌝ }
-{
-    let Numbers::Are(d, x, y, z, _) = four_numbers(s, a) else {
-        return Form::Malformed;
-    };
-    Form::Fused(u, d, x, y, z)
-}
-
-fn form_ifelse(s: &[u8], a: usize) -> Form
-    ensures { λ r. ⌜ r ≡ shaped Kind.Ifelse (fields-from (now (s .entry)) a) ⌝ }
-{
-    let Numbers::Are(d, x, y, i, _) = four_numbers(s, a) else {
-        return Form::Malformed;
-    };
-    Form::Ifelse(d, x, y, i)
-}
-
-fn form_load_const(s: &[u8], a: usize) -> Form
-    ensures { λ r. ⌜ r ≡ shaped Kind.LoadConst (fields-from (now (s .entry)) a) ⌝ }
-{
-    let Numbers::Are(d, k, _, _, _) = two_numbers(s, a) else {
-        return Form::Malformed;
-    };
-    Form::LoadConst(d, k)
-}
-
-fn form_label(s: &[u8], a: usize) -> Form
-    ensures { λ r. ⌜ r ≡ shaped Kind.SetLabel (fields-from (now (s .entry)) a) ⌝ }
-{
-    let Numbers::Are(n, _, _, _, _) = one_number(s, a) else {
-        return Form::Malformed;
-    };
-    Form::SetLabel(n)
+    match k {
+        Kind::Head(f) => Form::Head(f, v, w, x, y, z),
+        Kind::Unary(u) => Form::Unary(u, y, z),
+        Kind::Scratched(u) => Form::Scratched(u, x, y, z),
+        Kind::Binary(u) => Form::Binary(u, x, y, z),
+        Kind::Fused(u) => Form::Fused(u, w, x, y, z),
+        Kind::Ifelse => Form::Ifelse(w, x, y, z),
+        Kind::LoadConst => Form::LoadConst(y, z),
+        Kind::Load => Form::Malformed,
+        Kind::Save => Form::Malformed,
+        Kind::BranchIf => Form::Malformed,
+        Kind::SetLabel => Form::SetLabel(z),
+        Kind::Float => Form::Malformed,
+        Kind::Bits => Form::Malformed,
+    }
 }
 
 pub fn read_place(s: &[u8]) -> Where
@@ -414,7 +323,7 @@ fn read_cell(s: &[u8], a: usize) -> Cell
 {
     let x = text::number_at(s, a);
     let y = place_at(s, x.next);
-    let Numbers::Are(i, _, _, _, _) = one_number(s, y.next) else {
+    let Numbers::Are(_, _, _, _, i) = read_numbers(s, y.next, 1) else {
         return Cell::Malformed;
     };
     let n = x.numeral;
@@ -519,17 +428,17 @@ fn form_kind(k: Kind, s: &[u8], a: usize) -> Form
     ensures { λ r. ⌜ r ≡ shaped k (fields-from (now (s .entry)) a) ⌝ }
 {
     match k {
-        Kind::Head(f) => form_head(f, s, a),
-        Kind::Unary(u) => form_unary(u, s, a),
-        Kind::Scratched(u) => form_scratched(u, s, a),
-        Kind::Binary(u) => form_binary(u, s, a),
-        Kind::Fused(u) => form_fused(u, s, a),
-        Kind::Ifelse => form_ifelse(s, a),
-        Kind::LoadConst => form_load_const(s, a),
+        Kind::Head(_) => form_numbers(k, s, a, 5),
+        Kind::Unary(_) => form_numbers(k, s, a, 2),
+        Kind::Scratched(_) => form_numbers(k, s, a, 3),
+        Kind::Binary(_) => form_numbers(k, s, a, 3),
+        Kind::Fused(_) => form_numbers(k, s, a, 4),
+        Kind::Ifelse => form_numbers(k, s, a, 4),
+        Kind::LoadConst => form_numbers(k, s, a, 2),
         Kind::Load => form_load(s, a),
         Kind::Save => form_save(s, a),
         Kind::BranchIf => form_branch(s, a),
-        Kind::SetLabel => form_label(s, a),
+        Kind::SetLabel => form_numbers(k, s, a, 1),
         Kind::Float => form_float(s, a),
         Kind::Bits => form_bits(s, a),
     }

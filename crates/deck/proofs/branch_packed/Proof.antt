@@ -6,71 +6,17 @@ use borrow.Author.Needs.{needs}
 use Rattle.deck.proofs.branch_packed.Statement.{statement}
 use Rattle.deck.proofs.branch_packed.Tie as tie
 
-field-end-requires : tie.Need-field-end-requires
-field-end-requires c κs = search needs
-
 returns : tie.Need-returns
 returns c = λ h. absurd (omega arith)
-
-sub-short-number : tie.Need-sub-short-number
-sub-short-number c = search needs
-
-part-short-number-start : tie.Need-part-short-number-start
-part-short-number-start c = search needs
-
-part-short-number-end : tie.Need-part-short-number-end
-part-short-number-end c = search needs
-
-short-number-requires : tie.Need-short-number-requires
-short-number-requires c κs = search needs
-
-add-b : tie.Need-add-b
-add-b c = search needs
-
-field-end-requires-2 : tie.Need-field-end-requires-2
-field-end-requires-2 c κs = search needs
 
 returns-2 : tie.Need-returns-2
 returns-2 c = λ h. absurd (omega arith)
 
-sub-short-number-2 : tie.Need-sub-short-number-2
-sub-short-number-2 c = search needs
-
-part-short-number-start-2 : tie.Need-part-short-number-start-2
-part-short-number-start-2 c = search needs
-
-part-short-number-end-2 : tie.Need-part-short-number-end-2
-part-short-number-end-2 c = search needs
-
-short-number-requires-2 : tie.Need-short-number-requires-2
-short-number-requires-2 c κs = search needs
-
 returns-3 : tie.Need-returns-3
 returns-3 c = λ h. absurd (omega arith)
 
-add-last-flag : tie.Need-add-last-flag
-add-last-flag c = search needs
-
-last-flag-requires : tie.Need-last-flag-requires
-last-flag-requires c κs = search needs
-
-enum-known-other : tie.Need-enum-known-other
-enum-known-other c = search needs
-
-enum-told : tie.Need-enum-told
-enum-told c = search needs
-
 returns-4 : tie.Need-returns-4
 returns-4 c = λ h. absurd (omega arith)
-
-branch-number-requires : tie.Need-branch-number-requires
-branch-number-requires c κs = search needs
-
-packed-requires : tie.Need-packed-requires
-packed-requires c κs = search needs
-
-packed-requires-2 : tie.Need-packed-requires-2
-packed-requires-2 c κs = search needs
 
 returns-5 : tie.Need-returns-5
 returns-5 c =
@@ -89,26 +35,26 @@ pub branch-packed-spec : {M : Type 1} → statement M
 branch-packed-spec =
     tie.close
     (tie.spec
-    field-end-requires
+    (λ c κs. search needs)
     returns
-    sub-short-number
-    part-short-number-start
-    part-short-number-end
-    short-number-requires
-    add-b
-    field-end-requires-2
+    (λ c. search needs)
+    (λ c. search needs)
+    (λ c. search needs)
+    (λ c κs. search needs)
+    (λ c. search needs)
+    (λ c κs. search needs)
     returns-2
-    sub-short-number-2
-    part-short-number-start-2
-    part-short-number-end-2
-    short-number-requires-2
+    (λ c. search needs)
+    (λ c. search needs)
+    (λ c. search needs)
+    (λ c κs. search needs)
     returns-3
-    add-last-flag
-    last-flag-requires
-    enum-known-other
-    enum-told
+    (λ c. search needs)
+    (λ c κs. search needs)
+    (λ c. search needs)
+    (λ c. search needs)
     returns-4
-    branch-number-requires
-    packed-requires
-    packed-requires-2
+    (λ c κs. search needs)
+    (λ c κs. search needs)
+    (λ c κs. search needs)
     returns-5)

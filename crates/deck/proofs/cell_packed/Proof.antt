@@ -6,71 +6,14 @@ use borrow.Author.Needs.{needs}
 use Rattle.deck.proofs.cell_packed.Statement.{statement}
 use Rattle.deck.proofs.cell_packed.Tie as tie
 
-field-end-requires : tie.Need-field-end-requires
-field-end-requires c κs = search needs
-
 returns : tie.Need-returns
 returns c = λ h. absurd (omega arith)
-
-sub-short-number : tie.Need-sub-short-number
-sub-short-number c = search needs
-
-part-short-number-start : tie.Need-part-short-number-start
-part-short-number-start c = search needs
-
-part-short-number-end : tie.Need-part-short-number-end
-part-short-number-end c = search needs
-
-short-number-requires : tie.Need-short-number-requires
-short-number-requires c κs = search needs
-
-add-b : tie.Need-add-b
-add-b c = search needs
-
-field-end-requires-2 : tie.Need-field-end-requires-2
-field-end-requires-2 c κs = search needs
 
 returns-2 : tie.Need-returns-2
 returns-2 c = λ h. absurd (omega arith)
 
-sub-read-place : tie.Need-sub-read-place
-sub-read-place c = search needs
-
-part-read-place-start : tie.Need-part-read-place-start
-part-read-place-start c = search needs
-
-part-read-place-end : tie.Need-part-read-place-end
-part-read-place-end c = search needs
-
-read-place-requires : tie.Need-read-place-requires
-read-place-requires c κs = search needs
-
-enum-known-p : tie.Need-enum-known-p
-enum-known-p c = search needs
-
-enum-told : tie.Need-enum-told
-enum-told c = search needs
-
 returns-3 : tie.Need-returns-3
 returns-3 c = λ h. absurd (omega arith)
-
-add-last-below : tie.Need-add-last-below
-add-last-below c = search needs
-
-last-below-requires : tie.Need-last-below-requires
-last-below-requires c κs = search needs
-
-place-number-requires : tie.Need-place-number-requires
-place-number-requires c κs = search needs
-
-add-packed : tie.Need-add-packed
-add-packed c = search needs
-
-packed-requires : tie.Need-packed-requires
-packed-requires c κs = search needs
-
-packed-requires-2 : tie.Need-packed-requires-2
-packed-requires-2 c κs = search needs
 
 returns-4 : tie.Need-returns-4
 returns-4 c =
@@ -90,26 +33,26 @@ pub cell-packed-spec : {M : Type 1} → statement M
 cell-packed-spec =
     tie.close
     (tie.spec
-    field-end-requires
+    (λ c κs. search needs)
     returns
-    sub-short-number
-    part-short-number-start
-    part-short-number-end
-    short-number-requires
-    add-b
-    field-end-requires-2
+    (λ c. search needs)
+    (λ c. search needs)
+    (λ c. search needs)
+    (λ c κs. search needs)
+    (λ c. search needs)
+    (λ c κs. search needs)
     returns-2
-    sub-read-place
-    part-read-place-start
-    part-read-place-end
-    read-place-requires
-    enum-known-p
-    enum-told
+    (λ c. search needs)
+    (λ c. search needs)
+    (λ c. search needs)
+    (λ c κs. search needs)
+    (λ c. search needs)
+    (λ c. search needs)
     returns-3
-    add-last-below
-    last-below-requires
-    place-number-requires
-    add-packed
-    packed-requires
-    packed-requires-2
+    (λ c. search needs)
+    (λ c κs. search needs)
+    (λ c κs. search needs)
+    (λ c. search needs)
+    (λ c κs. search needs)
+    (λ c κs. search needs)
     returns-4)

@@ -3,20 +3,11 @@ use borrow.Author.Needs.{needs}
 use Rattle.deck.proofs.judge_float.Statement.{statement}
 use Rattle.deck.proofs.judge_float.Tie as tie
 
-enum-known-n : tie.Need-enum-known-n
-enum-known-n c = search needs
-
-enum-told : tie.Need-enum-told
-enum-told c = search needs
-
 returns : tie.Need-returns
 returns c = too-big _ _ (c .enum-told .given .1)
 
 returns-2 : tie.Need-returns-2
 returns-2 c = too-great _ _ _ (c .before .before .n .given .1) (c .if1 .taken)
-
-cast-t7 : tie.Need-cast-t7
-cast-t7 c = search needs
 
 sub-t8 : tie.Need-sub-t8
 sub-t8 c = fits _ (c .before .if1 .left)
@@ -26,9 +17,6 @@ int-to-float-t9 c = negated-in _ (c .before .before .if1 .left)
 
 returns-3 : tie.Need-returns-3
 returns-3 c = negated-is _ (c .before .before .if1 .left) _ _ (c .before .before .before .before .n .given .1) (c .before .if2 .taken)
-
-cast-t11 : tie.Need-cast-t11
-cast-t11 c = search needs
 
 int-to-float-t12 : tie.Need-int-to-float-t12
 int-to-float-t12 c = plain-in _ (c .before .before .if1 .left)
@@ -40,14 +28,14 @@ pub judge-float-spec : {M : Type 1} → statement M
 judge-float-spec =
     tie.close
     (tie.spec
-    enum-known-n
-    enum-told
+    (λ c. search needs)
+    (λ c. search needs)
     returns
     returns-2
-    cast-t7
+    (λ c. search needs)
     sub-t8
     int-to-float-t9
     returns-3
-    cast-t11
+    (λ c. search needs)
     int-to-float-t12
     returns-4)

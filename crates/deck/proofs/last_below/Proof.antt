@@ -8,18 +8,6 @@ use Rattle.deck.proofs.last_below.Tie as tie
 returns : tie.Need-returns
 returns c = λ h. absurd (omega arith)
 
-sub-short-number : tie.Need-sub-short-number
-sub-short-number c = search needs
-
-part-short-number-start : tie.Need-part-short-number-start
-part-short-number-start c = search needs
-
-part-short-number-end : tie.Need-part-short-number-end
-part-short-number-end c = search needs
-
-short-number-requires : tie.Need-short-number-requires
-short-number-requires c κs = search needs
-
 returns-2 : tie.Need-returns-2
 returns-2 c =
     let n = c .before in
@@ -35,9 +23,9 @@ last-below-spec =
     tie.close
     (tie.spec
     returns
-    sub-short-number
-    part-short-number-start
-    part-short-number-end
-    short-number-requires
+    (λ c. search needs)
+    (λ c. search needs)
+    (λ c. search needs)
+    (λ c κs. search needs)
     returns-2
     returns-3)

@@ -14,23 +14,8 @@ abbrev μ-loop : tie.MeasureT-loop
 loop-holds : tie.Need-loop-holds Inv-loop μ-loop
 loop-holds c = let b = c .before in starts (now (b .args .s)) (b .args .a) (b .args .registers) (b .args .bound) (b .pre .0)
 
-field-end-requires : tie.Need-field-end-requires Inv-loop μ-loop
-field-end-requires c κs = search needs
-
 returns : tie.Need-returns Inv-loop μ-loop
 returns c = λ h. absurd (omega arith)
-
-sub-short-number : tie.Need-sub-short-number Inv-loop μ-loop
-sub-short-number c = search needs
-
-part-short-number-start : tie.Need-part-short-number-start Inv-loop μ-loop
-part-short-number-start c = search needs
-
-part-short-number-end : tie.Need-part-short-number-end Inv-loop μ-loop
-part-short-number-end c = search needs
-
-short-number-requires : tie.Need-short-number-requires Inv-loop μ-loop
-short-number-requires c κs = search needs
 
 returns-2 : tie.Need-returns-2 Inv-loop μ-loop
 returns-2 c = λ h. absurd (omega arith)
@@ -53,15 +38,6 @@ mul-scale c =
     let b = product (l .left) (l .scale) (c .before .short-number .result) (l .inv .1) (omega arith) in
     record { fits = omega (arith, l .inv .2, room-most (l .left)) }
 
-add-at : tie.Need-add-at Inv-loop μ-loop
-add-at c = search needs
-
-sub-left : tie.Need-sub-left Inv-loop μ-loop
-sub-left c = search needs
-
-loop-less : tie.Need-loop-less Inv-loop μ-loop
-loop-less c = search needs
-
 loop-again : tie.Need-loop-again Inv-loop μ-loop
 loop-again c =
     let n = c .before in
@@ -69,9 +45,6 @@ loop-again c =
     let l = n .before .before .before .before .before in
     let a = l .before .before .args in
     goes-on (now (a .s)) (a .a) (a .registers) (a .bound) (l .loop .at) (l .loop .left) (l .loop .scale) (l .loop .sum) (f .result) (n .short-number .result) (l .loop .inv) (n .before .before .before .before .loop-test .taken) (f .ensures .0) (f .ensures .1) (n .before .before .if1 .left) (n .short-number .ensures) (c .if2 .left)
-
-last-below-requires : tie.Need-last-below-requires Inv-loop μ-loop
-last-below-requires c κs = search needs
 
 returns-3 : tie.Need-returns-3 Inv-loop μ-loop
 returns-3 c = λ h. absurd (omega arith)
@@ -105,21 +78,21 @@ numbers-spec =
     Inv-loop
     μ-loop
     loop-holds
-    field-end-requires
+    (λ c κs. search needs)
     returns
-    sub-short-number
-    part-short-number-start
-    part-short-number-end
-    short-number-requires
+    (λ c. search needs)
+    (λ c. search needs)
+    (λ c. search needs)
+    (λ c κs. search needs)
     returns-2
     mul-sum
     add-sum
     mul-scale
-    add-at
-    sub-left
-    loop-less
+    (λ c. search needs)
+    (λ c. search needs)
+    (λ c. search needs)
     loop-again
-    last-below-requires
+    (λ c κs. search needs)
     returns-3
     mul-result
     add-result

@@ -10,20 +10,11 @@ use Rattle.deck.proofs.quick.Tie as tie
 returns : tie.Need-returns
 returns c = λ h. absurd (omega arith)
 
-sub-e : tie.Need-sub-e
-sub-e c = search needs
-
-shared-slice-read-if2 : tie.Need-shared-slice-read-if2
-shared-slice-read-if2 c = search needs
-
 returns-2 : tie.Need-returns-2
 returns-2 c = λ h. absurd (omega arith)
 
 slice-aggregate-quick-body : tie.Need-slice-aggregate-quick-body
 slice-aggregate-quick-body c = sym (length-take-le _ _ (omega arith))
-
-quick-body-requires : tie.Need-quick-body-requires
-quick-body-requires c κs = search needs
 
 returns-3 : tie.Need-returns-3
 returns-3 c =
@@ -35,9 +26,9 @@ quick-spec =
     tie.close
     (tie.spec
     returns
-    sub-e
-    shared-slice-read-if2
+    (λ c. search needs)
+    (λ c. search needs)
     returns-2
     slice-aggregate-quick-body
-    quick-body-requires
+    (λ c κs. search needs)
     returns-3)

@@ -7,22 +7,13 @@ use borrow.Author.Needs.{needs}
 use Rattle.deck.proofs.quick_body.Statement.{statement}
 use Rattle.deck.proofs.quick_body.Tie as tie
 
-field-end-requires : tie.Need-field-end-requires
-field-end-requires c κs = search needs
-
 slice-aggregate-kind-number : tie.Need-slice-aggregate-kind-number
 slice-aggregate-kind-number c = sym (length-take-le _ _ (c .before .field-end .ensures .2 (omega arith)))
-
-kind-number-requires : tie.Need-kind-number-requires
-kind-number-requires c κs = search needs
 
 add-packed-kind : tie.Need-add-packed-kind
 add-packed-kind c =
     let h = c .before .before .field-end .ensures .2 (omega arith) in
     record { fits = omega arith }
-
-packed-kind-requires : tie.Need-packed-kind-requires
-packed-kind-requires c κs = search needs
 
 returns : tie.Need-returns
 returns c =
@@ -34,9 +25,9 @@ pub quick-body-spec : {M : Type 1} → statement M
 quick-body-spec =
     tie.close
     (tie.spec
-    field-end-requires
+    (λ c κs. search needs)
     slice-aggregate-kind-number
-    kind-number-requires
+    (λ c κs. search needs)
     add-packed-kind
-    packed-kind-requires
+    (λ c κs. search needs)
     returns)

@@ -7,29 +7,14 @@ use borrow.Author.Needs.{needs}
 use Rattle.form.proofs.form_body.Statement.{statement}
 use Rattle.form.proofs.form_body.Tie as tie
 
-field-end-requires : tie.Need-field-end-requires
-field-end-requires c κs = search needs
-
 slice-aggregate-kind-named : tie.Need-slice-aggregate-kind-named
 slice-aggregate-kind-named c = sym (length-take-le _ _ (c .before .field-end .ensures .2 (omega arith)))
-
-kind-named-requires : tie.Need-kind-named-requires
-kind-named-requires c κs = search needs
-
-enum-known-k : tie.Need-enum-known-k
-enum-known-k c = search needs
 
 add-form-kind : tie.Need-add-form-kind
 add-form-kind c =
     let f = c .before .before .before .before .before in
     let h = f .field-end .ensures .2 (omega arith) in
     record { fits = omega arith }
-
-form-kind-requires : tie.Need-form-kind-requires
-form-kind-requires c κs = search needs
-
-enum-told : tie.Need-enum-told
-enum-told c = search needs
 
 returns : tie.Need-returns
 returns c =
@@ -47,12 +32,12 @@ pub form-body-spec : {M : Type 1} → statement M
 form-body-spec =
     tie.close
     (tie.spec
-    field-end-requires
+    (λ c κs. search needs)
     slice-aggregate-kind-named
-    kind-named-requires
-    enum-known-k
+    (λ c κs. search needs)
+    (λ c. search needs)
     add-form-kind
-    form-kind-requires
-    enum-told
+    (λ c κs. search needs)
+    (λ c. search needs)
     returns
     returns-2)

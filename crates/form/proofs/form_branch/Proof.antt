@@ -4,21 +4,6 @@ use borrow.Author.Needs.{needs}
 use Rattle.form.proofs.form_branch.Statement.{statement}
 use Rattle.form.proofs.form_branch.Tie as tie
 
-number-at-requires : tie.Need-number-at-requires
-number-at-requires c κs = search needs
-
-number-at-requires-2 : tie.Need-number-at-requires-2
-number-at-requires-2 c κs = search needs
-
-last-flag-requires : tie.Need-last-flag-requires
-last-flag-requires c κs = search needs
-
-enum-known-b : tie.Need-enum-known-b
-enum-known-b c = search needs
-
-enum-told : tie.Need-enum-told
-enum-told c = search needs
-
 returns : tie.Need-returns
 returns c =
     let z = c .before .before in
@@ -27,12 +12,6 @@ returns c =
     let a = x .before .before .args in
     branch-no-flag (now (a .s)) (a .a) _ _ _ _ _ (x .number-at .ensures .0) (x .number-at .ensures .1) (y .number-at2 .ensures .0) (y .number-at2 .ensures .1) (z .last-flag .ensures) (c .enum-told .given .1)
 
-enum-known-n : tie.Need-enum-known-n
-enum-known-n c = search needs
-
-enum-told-2 : tie.Need-enum-told-2
-enum-told-2 c = search needs
-
 returns-2 : tie.Need-returns-2
 returns-2 c =
     let z = c .before .before .before .before .before in
@@ -40,12 +19,6 @@ returns-2 c =
     let x = y .before in
     let a = x .before .before .args in
     branch-no-register (now (a .s)) (a .a) _ _ _ _ _ (x .number-at .ensures .0) (x .number-at .ensures .1) (y .number-at2 .ensures .0) (y .number-at2 .ensures .1) (z .last-flag .ensures) (c .enum-told2 .given .1)
-
-enum-known-m : tie.Need-enum-known-m
-enum-known-m c = search needs
-
-enum-told-3 : tie.Need-enum-told-3
-enum-told-3 c = search needs
 
 returns-3 : tie.Need-returns-3
 returns-3 c =
@@ -67,16 +40,16 @@ pub form-branch-spec : {M : Type 1} → statement M
 form-branch-spec =
     tie.close
     (tie.spec
-    number-at-requires
-    number-at-requires-2
-    last-flag-requires
-    enum-known-b
-    enum-told
+    (λ c κs. search needs)
+    (λ c κs. search needs)
+    (λ c κs. search needs)
+    (λ c. search needs)
+    (λ c. search needs)
     returns
-    enum-known-n
-    enum-told-2
+    (λ c. search needs)
+    (λ c. search needs)
     returns-2
-    enum-known-m
-    enum-told-3
+    (λ c. search needs)
+    (λ c. search needs)
     returns-3
     returns-4)

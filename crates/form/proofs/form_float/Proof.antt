@@ -5,32 +5,11 @@ use borrow.Author.Needs.{needs}
 use Rattle.form.proofs.form_float.Statement.{statement}
 use Rattle.form.proofs.form_float.Tie as tie
 
-field-end-requires : tie.Need-field-end-requires
-field-end-requires c κs = search needs
-
 returns : tie.Need-returns
 returns c =
     let f = c .before in
     let a = f .before .before .args in
     float-not-last (now (a .s)) (a .a) _ (f .field-end .ensures .0) (f .field-end .ensures .1) (f .field-end .ensures .2) (c .if1 .taken)
-
-sub-read-integer : tie.Need-sub-read-integer
-sub-read-integer c = search needs
-
-part-read-integer-start : tie.Need-part-read-integer-start
-part-read-integer-start c = search needs
-
-part-read-integer-end : tie.Need-part-read-integer-end
-part-read-integer-end c = search needs
-
-read-integer-requires : tie.Need-read-integer-requires
-read-integer-requires c κs = search needs
-
-enum-known-minus : tie.Need-enum-known-minus
-enum-known-minus c = search needs
-
-enum-told : tie.Need-enum-told
-enum-told c = search needs
 
 returns-2 : tie.Need-returns-2
 returns-2 c =
@@ -48,13 +27,13 @@ pub form-float-spec : {M : Type 1} → statement M
 form-float-spec =
     tie.close
     (tie.spec
-    field-end-requires
+    (λ c κs. search needs)
     returns
-    sub-read-integer
-    part-read-integer-start
-    part-read-integer-end
-    read-integer-requires
-    enum-known-minus
-    enum-told
+    (λ c. search needs)
+    (λ c. search needs)
+    (λ c. search needs)
+    (λ c κs. search needs)
+    (λ c. search needs)
+    (λ c. search needs)
     returns-2
     returns-3)

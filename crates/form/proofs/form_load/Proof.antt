@@ -6,15 +6,6 @@ use borrow.Author.Needs.{needs}
 use Rattle.form.proofs.form_load.Statement.{statement}
 use Rattle.form.proofs.form_load.Tie as tie
 
-read-cell-requires : tie.Need-read-cell-requires
-read-cell-requires c κs = search needs
-
-enum-known-d : tie.Need-enum-known-d
-enum-known-d c = search needs
-
-enum-told : tie.Need-enum-told
-enum-told c = search needs
-
 returns : tie.Need-returns
 returns c =
     let a = c .before .before .before .before .before .args in
@@ -26,4 +17,4 @@ returns-2 c =
     load-bad (fields-from (now (a .s)) (a .a)) (sym (c .before .before .read-cell .ensures) ∙ c .enum-told .given .1)
 
 pub form-load-spec : {M : Type 1} → statement M
-form-load-spec = tie.close (tie.spec read-cell-requires enum-known-d enum-told returns returns-2)
+form-load-spec = tie.close (tie.spec (λ c κs. search needs) (λ c. search needs) (λ c. search needs) returns returns-2)

@@ -3,32 +3,17 @@ use borrow.Author.Needs.{needs}
 use Rattle.form.proofs.kind_at.Statement.{statement}
 use Rattle.form.proofs.kind_at.Tie as tie
 
-unary-at-requires : tie.Need-unary-at-requires
-unary-at-requires c κs = search needs
-
 returns : tie.Need-returns
 returns c = rw (unary-kind _ (c .before .if1 .taken), c .unary-at .ensures)
-
-scratched-at-requires : tie.Need-scratched-at-requires
-scratched-at-requires c κs = search needs
 
 returns-2 : tie.Need-returns-2
 returns-2 c = rw (scratched-kind _ (c .before .before .if1 .left) (c .before .if2 .taken), c .scratched-at .ensures)
 
-binary-at-requires : tie.Need-binary-at-requires
-binary-at-requires c κs = search needs
-
 returns-3 : tie.Need-returns-3
 returns-3 c = rw (binary-kind _ (c .before .before .if2 .left) (c .before .if3 .taken), c .binary-at .ensures)
 
-fused-at-requires : tie.Need-fused-at-requires
-fused-at-requires c κs = search needs
-
 returns-4 : tie.Need-returns-4
 returns-4 c = rw (fused-kind _ (c .before .before .if3 .left) (c .before .if4 .taken), c .fused-at .ensures)
-
-later-at-requires : tie.Need-later-at-requires
-later-at-requires c κs = search needs
 
 returns-5 : tie.Need-returns-5
 returns-5 c = rw (later-kind _ (c .before .if4 .left)) (c .later-at .ensures)
@@ -36,4 +21,4 @@ returns-5 c = rw (later-kind _ (c .before .if4 .left)) (c .later-at .ensures)
 pub kind-at-spec : {M : Type 1} → statement M
 kind-at-spec =
     tie.close
-    (tie.spec unary-at-requires returns scratched-at-requires returns-2 binary-at-requires returns-3 fused-at-requires returns-4 later-at-requires returns-5)
+    (tie.spec (λ c κs. search needs) returns (λ c κs. search needs) returns-2 (λ c κs. search needs) returns-3 (λ c κs. search needs) returns-4 (λ c κs. search needs) returns-5)

@@ -5,38 +5,20 @@ use borrow.Author.Needs.{needs}
 use Rattle.form.proofs.kind_number.Statement.{statement}
 use Rattle.form.proofs.kind_number.Tie as tie
 
-two-requires : tie.Need-two-requires
-two-requires c κs = search needs
-
 returns : tie.Need-returns
 returns c = c .two .ensures ∙ sym (ap numbered (of-two _ (c .before .if1 .taken)))
-
-three-requires : tie.Need-three-requires
-three-requires c κs = search needs
 
 returns-2 : tie.Need-returns-2
 returns-2 c = c .three .ensures ∙ sym (ap numbered (of-three _ (c .before .if2 .taken)))
 
-four-requires : tie.Need-four-requires
-four-requires c κs = search needs
-
 returns-3 : tie.Need-returns-3
 returns-3 c = c .four .ensures ∙ sym (ap numbered (of-four _ (c .before .if3 .taken)))
-
-five-requires : tie.Need-five-requires
-five-requires c κs = search needs
 
 returns-4 : tie.Need-returns-4
 returns-4 c = c .five .ensures ∙ sym (ap numbered (of-five _ (c .before .if4 .taken)))
 
-six-requires : tie.Need-six-requires
-six-requires c κs = search needs
-
 returns-5 : tie.Need-returns-5
 returns-5 c = c .six .ensures ∙ sym (ap numbered (of-six _ (c .before .if5 .taken)))
-
-longer-requires : tie.Need-longer-requires
-longer-requires c κs = search needs
 
 returns-6 : tie.Need-returns-6
 returns-6 c =
@@ -47,15 +29,15 @@ pub kind-number-spec : {M : Type 1} → statement M
 kind-number-spec =
     tie.close
     (tie.spec
-    two-requires
+    (λ c κs. search needs)
     returns
-    three-requires
+    (λ c κs. search needs)
     returns-2
-    four-requires
+    (λ c κs. search needs)
     returns-3
-    five-requires
+    (λ c κs. search needs)
     returns-4
-    six-requires
+    (λ c κs. search needs)
     returns-5
-    longer-requires
+    (λ c κs. search needs)
     returns-6)

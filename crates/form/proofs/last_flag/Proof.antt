@@ -5,26 +5,11 @@ use borrow.Author.Needs.{needs}
 use Rattle.form.proofs.last_flag.Statement.{statement}
 use Rattle.form.proofs.last_flag.Tie as tie
 
-field-end-requires : tie.Need-field-end-requires
-field-end-requires c κs = search needs
-
 returns : tie.Need-returns
 returns c =
     let f = c .before in
     let a = f .before .before .args in
     flag-not-last (now (a .s)) (a .a) _ (f .field-end .ensures .0) (f .field-end .ensures .1) (f .field-end .ensures .2) (c .if1 .taken)
-
-sub-read-flag : tie.Need-sub-read-flag
-sub-read-flag c = search needs
-
-part-read-flag-start : tie.Need-part-read-flag-start
-part-read-flag-start c = search needs
-
-part-read-flag-end : tie.Need-part-read-flag-end
-part-read-flag-end c = search needs
-
-read-flag-requires : tie.Need-read-flag-requires
-read-flag-requires c κs = search needs
 
 returns-2 : tie.Need-returns-2
 returns-2 c =
@@ -36,10 +21,10 @@ pub last-flag-spec : {M : Type 1} → statement M
 last-flag-spec =
     tie.close
     (tie.spec
-    field-end-requires
+    (λ c κs. search needs)
     returns
-    sub-read-flag
-    part-read-flag-start
-    part-read-flag-end
-    read-flag-requires
+    (λ c. search needs)
+    (λ c. search needs)
+    (λ c. search needs)
+    (λ c κs. search needs)
     returns-2)

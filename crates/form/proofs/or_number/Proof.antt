@@ -7,9 +7,6 @@ use Rattle.form.proofs.or_number.Tie as tie
 returns : tie.Need-returns
 returns c = rw (ne-eqb _ 35 (c .if1 .taken))
 
-same-requires : tie.Need-same-requires
-same-requires c κs = search needs
-
 returns-2 : tie.Need-returns-2
 returns-2 c = rw (eq-eqb _ 35 (c .before .before .if1 .left), sym (c .before .same .ensures) ∙ c .if2 .taken)
 
@@ -17,4 +14,4 @@ returns-3 : tie.Need-returns-3
 returns-3 c = rw (eq-eqb _ 35 (c .before .before .if1 .left), sym (c .before .same .ensures) ∙ c .if2 .left)
 
 pub or-number-spec : {M : Type 1} → statement M
-or-number-spec = tie.close (tie.spec returns same-requires returns-2 returns-3)
+or-number-spec = tie.close (tie.spec returns (λ c κs. search needs) returns-2 returns-3)

@@ -10,22 +10,10 @@ use Rattle.form.proofs.place_at.Tie as tie
 returns : tie.Need-returns
 returns c = (no-place _ _ (c .if1 .taken), sym (next-none _ _ (c .if1 .taken)))
 
-field-end-requires : tie.Need-field-end-requires
-field-end-requires c κs = search needs
-
-sub-read-place : tie.Need-sub-read-place
-sub-read-place c = search needs
-
-part-read-place-start : tie.Need-part-read-place-start
-part-read-place-start c = search needs
-
 part-read-place-end : tie.Need-part-read-place-end
 part-read-place-end c =
     let h = c .field-end .ensures .2 (c .before .if1 .left) in
     search needs
-
-read-place-requires : tie.Need-read-place-requires
-read-place-requires c κs = search needs
 
 add-t5 : tie.Need-add-t5
 add-t5 c =
@@ -44,10 +32,10 @@ place-at-spec =
     tie.close
     (tie.spec
     returns
-    field-end-requires
-    sub-read-place
-    part-read-place-start
+    (λ c κs. search needs)
+    (λ c. search needs)
+    (λ c. search needs)
     part-read-place-end
-    read-place-requires
+    (λ c κs. search needs)
     add-t5
     returns-2)

@@ -10,20 +10,11 @@ use Rattle.form.proofs.read_form.Tie as tie
 returns : tie.Need-returns
 returns c = no-line _ (c .if1 .taken)
 
-sub-e : tie.Need-sub-e
-sub-e c = search needs
-
-shared-slice-read-if2 : tie.Need-shared-slice-read-if2
-shared-slice-read-if2 c = search needs
-
 returns-2 : tie.Need-returns-2
 returns-2 c = no-newline _ _ refl (c .if2 .taken)
 
 slice-aggregate-form-body : tie.Need-slice-aggregate-form-body
 slice-aggregate-form-body c = sym (length-take-le _ _ (omega arith))
-
-form-body-requires : tie.Need-form-body-requires
-form-body-requires c κs = search needs
 
 returns-3 : tie.Need-returns-3
 returns-3 c =
@@ -35,9 +26,9 @@ read-form-spec =
     tie.close
     (tie.spec
     returns
-    sub-e
-    shared-slice-read-if2
+    (λ c. search needs)
+    (λ c. search needs)
     returns-2
     slice-aggregate-form-body
-    form-body-requires
+    (λ c κs. search needs)
     returns-3)
