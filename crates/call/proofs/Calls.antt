@@ -3,7 +3,7 @@ use mathlib.Core.Path.{_≡_, refl, sym, subst}
 use mathlib.Core.Bool.{Bool, true, false, _&&_, cond}
 use mathlib.Core.List.{List, [], _∷_, flatMap}
 use mathlib.Core.Option.{some}
-use Prim.Native.Nat.{ℕ, zero, suc, _+_, _-_, _*_, _^_, _≤_, _<_}
+use Prim.Native.Nat.{ℕ, zero, suc, _+_, _-_, _^_, _≤_, _<_}
 use native.Mathlib.Omega.{arith}
 use borrow.Author.Tests.{le-leb, lt-leb, lt-ltb}
 use lib.Dec.{T, eqb, ltb, leb, ltb→lt}
@@ -11,7 +11,7 @@ use lib.ListN.{length, getD, getElem?}
 use Rattle.machine.specs.Word.{w64, upd, dist, load8, store8}
 use Rattle.machine.specs.Floats.{Floats}
 use Rattle.machine.specs.Binary64.{binary64}
-use Rattle.machine.specs.State.{State}
+use Rattle.machine.specs.State.{State, Sound}
 use Rattle.machine.specs.Step.{Loaded, Run}
 use Rattle.machine.proofs.Effects.{and-l, and-r}
 use Rattle.order.specs.declared.Place.the-variants.{Mem, Param}
@@ -87,6 +87,43 @@ upd-small f k v h g r = by (eqb r k)
     by true = h
     by false = g r
 
+-- ---- a machine with code at 0x10000, ra 0x20000 and sp 0x80000
+
+module _ (bs : List ℕ) (f : ℕ → ℕ) where
+  abbrev pub machine : State
+  machine =
+      record {
+        pc = 0x10000;
+        x = upd (upd (λ r. 0) 1 0x20000) 2 0x80000;
+        f = f;
+        rm = 0;
+        mem = with-bytes 0x10000 bs (λ x. 0);
+      }
+
+  pub machine-sound : Bytes bs → ((r : ℕ) → f r < 2 ^ 64) → Sound machine
+  machine-sound b small =
+      record {
+        pc = omega arith;
+        x = upd-small (upd (λ r. 0) 1 0x20000) 2 0x80000 (omega arith) (upd-small (λ r. 0) 1 0x20000 (omega arith) (λ r. omega arith));
+        f = small;
+        rm = omega arith;
+        mem = with-small 0x10000 bs (λ x. 0) b (λ x. omega arith);
+      }
+
+  -- a fast frame of k states, no cap and no mask
+  pub machine-terms : (k n : ℕ) → k ≤ 8 → n ≤ 65536 → Terms (record { frame = Fast; cap = 0; states = k; obs = 0; last = 0; mask = 0 }) n machine
+  unfolding upd
+  machine-terms k n h l =
+      record {
+        code-aligned = refl;
+        ra-aligned = refl;
+        ra-outside = λ w. omega (arith, w .1);
+        sp-aligned = refl;
+        separate = omega arith;
+        state-cells = λ h. absurd h;
+        obs-cells = λ h. absurd h;
+      }
+
 -- ---- document 01's sample: `fast,0,1,0,0,0`
 
 abbrev pub sample : Program
@@ -107,44 +144,17 @@ sample-good =
       room = rw sample-length (omega arith);
     }
 
--- code at 0x10000, ra 0x20000, sp 0x80000; f10 is the state
+-- f10 is the state
 module _ (Q : Floats) (f : ℕ → ℕ) (small : (r : ℕ) → f r < 2 ^ 64) where
   abbrev pub first : State
-  first =
-      record {
-        pc = 0x10000;
-        x = upd (upd (λ r. 0) 1 0x20000) 2 0x80000;
-        f = f;
-        rm = 0;
-        mem = with-bytes 0x10000 (bytes (routine-words sample)) (λ x. 0);
-      }
-
-  first-terms : Terms (sample .head) 84 first
-  unfolding upd
-  first-terms =
-      record {
-        code-aligned = refl;
-        ra-aligned = refl;
-        ra-outside = λ w. omega (arith, w .1);
-        sp-aligned = refl;
-        separate = omega arith;
-        state-cells = λ h. absurd h;
-        obs-cells = λ h. absurd h;
-      }
+  first = machine (bytes (routine-words sample)) f
 
   pub first-called : Called sample first
   first-called =
       record {
-        sound =
-            record {
-              pc = omega arith;
-              x = upd-small (upd (λ r. 0) 1 0x20000) 2 0x80000 (omega arith) (upd-small (λ r. 0) 1 0x20000 (omega arith) (λ r. omega arith));
-              f = small;
-              rm = omega arith;
-              mem = with-small 0x10000 (bytes (routine-words sample)) (λ x. 0) (words-small (routine-words sample)) (λ x. omega arith);
-            };
+        sound = machine-sound (bytes (routine-words sample)) f (words-small (routine-words sample)) small;
         code = loaded 0x10000 (bytes (routine-words sample)) (λ x. 0) (omega (arith, length-bytes (routine-words sample), resolved-length (place sample) 0 (items sample), sample-length));
-        terms = subst (λ (n : ℕ). Terms (sample .head) n first) (sym sample-length) first-terms;
+        terms = subst (λ (n : ℕ). Terms (sample .head) n first) (sym sample-length) (machine-terms (bytes (routine-words sample)) f 1 84 (omega arith) (omega arith));
       }
 
   first-returns : Returned Q sample first 0 (start (sample .head) first)

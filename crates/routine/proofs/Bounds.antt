@@ -1,12 +1,13 @@
 -- The record that is accepted is within its bounds. Assumes nothing.
-use mathlib.Core.Path.{_≡_, refl, sym, ap, _∙_}
-use mathlib.Core.Bool.{Bool, true, false, _&&_}
+use mathlib.Core.Path.{_≡_, sym, ap, _∙_}
+use mathlib.Core.Bool.{true, _&&_}
 use mathlib.Core.List.{List}
 use Prim.Native.Nat.{ℕ, _%_, _≤_}
 use native.Mathlib.Omega.{arith}
 use borrow.Author.Tests.{leb-true}
 use lib.Dec.{leb, eqb}
 use lib.ListN.{length}
+use Rattle.isa.proofs.Validity.{both}
 use Rattle.refusal.specs.Answer.{accepted}
 use Rattle.assembler.specs.Item.{Item}
 use Rattle.assembler.specs.Bytes.{room}
@@ -20,10 +21,6 @@ use Rattle.finish.specs.declared.Finished.{Finished}
 use Rattle.laid.proofs.All.{accepts, zero-then, zero-else}
 use Rattle.laid.proofs.Both.{moved}
 use Rattle.laid.proofs.Finished.{finish-accepts}
-
-both : (a b : Bool) → (a && b) ≡ true → (a ≡ true) × (b ≡ true)
-both true b e = (refl, e)
-both false b e = let z : _≡_ {A = ℕ} 0 1 = cc in absurd (omega arith)
 
 pub sound-bounds : (n : ℕ) (a : Asm) → sound n a ≡ true → (a .len ≤ 65536) × (a .jumps ≤ 4096)
 unfolding sound

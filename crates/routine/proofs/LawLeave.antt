@@ -10,13 +10,13 @@ use lib.ListN.{length, replicate, length-map}
 use Rattle.refusal.specs.Answer.{Answer}
 use Rattle.order.specs.declared.Head.{Head}
 use Rattle.order.specs.declared.Constant.{Constant}
-use Rattle.assembler.specs.Item.{Item, label}
+use Rattle.assembler.specs.Item.{Item}
 use Rattle.assembler.specs.Bytes.{room}
 use Rattle.assembler.specs.Constant.{constant-bits, constant-items, constant-fault}
 use Rattle.assembler.specs.State.{State}
 use Rattle.assembler.specs.Put.{jumps, labels, among, put}
 use Rattle.assembler.proofs.Items.{jumps-append, labels-append}
-use Rattle.framing.specs.Items.{prologue, epilogue, saves, reloads}
+use Rattle.framing.specs.Items.{epilogue, reloads}
 use Rattle.framing.specs.Fault.{epilogue-holds, epilogue-fault}
 use Rattle.laid.specs.Laid.{Laid}
 use Rattle.call.specs.Program.{Program, constants}

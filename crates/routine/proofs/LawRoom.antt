@@ -14,7 +14,6 @@ use Rattle.assembler.specs.Label.{is-set}
 use Rattle.assembler.specs.State.{State, sound, fits}
 use Rattle.assembler.specs.Put.{words, jumps, labels, among, twice, verdict, put-number}
 use Rattle.assembler.specs.Resolved.{label-place}
-use Rattle.assembler.proofs.Tests.{no}
 use Rattle.assembler.proofs.Items.{jumps-append}
 use Rattle.assembler.proofs.Writes.{length-written}
 use Rattle.laid.specs.Laid.{Laid, Labelled, entry}

@@ -7,18 +7,14 @@ use native.Mathlib.Numerals.{add-one}
 use native.Mathlib.Omega.{arith}
 use borrow.Author.Tests.{le-leb, lt-leb, lt-ltb}
 use lib.ListN.{length}
-use Rattle.order.specs.Count.{index-holds, cell-count}
+use Rattle.order.specs.Count.{index-holds}
 use Rattle.refusal.specs.Answer.{refused}
 use Rattle.refusal.specs.Number.{number-of}
 use Rattle.refusal.specs.declared.Refusal.{Refusal}
 use Rattle.refusal.specs.declared.Refusal.the-variants.{Line, Full, Count, Unsaved}
 use Rattle.order.specs.declared.Head.{Head}
 use Rattle.order.specs.declared.Order.{Order}
-use Rattle.order.specs.declared.Order.the-variants as O
-use Rattle.order.specs.declared.Place.{Place}
-use Rattle.order.specs.declared.Place.the-variants.{Mem, Stack, Param}
 use Rattle.order.specs.declared.Frame.{Frame}
-use Rattle.order.specs.declared.Frame.the-variants.{Fast, Indirect}
 use Rattle.order.specs.declared.Constant.{Constant}
 use Rattle.text.specs.Lines.{lines-of}
 use Rattle.form.specs.Form.{form-of}

@@ -4,8 +4,8 @@ use mathlib.Core.Bool.{Bool, true, false, not, _&&_, _||_, cond}
 use mathlib.Core.List.{List, [], _∷_, _++_}
 use mathlib.Core.Option.{Option, some, none}
 use Prim.Native.Nat.{ℕ, zero, suc, _+_, _-_}
-use lib.Dec.{eqb, ltb, leb}
-use lib.IntN.{ℤ, subℕ}
+use lib.Dec.{ltb, leb}
+use lib.IntN.{subℕ}
 use lib.ListN.{length, drop, replicate}
 use Rattle.order.specs.Count.{index-holds}
 use Rattle.isa.specs.Instr.{holds, offset}

@@ -1,5 +1,5 @@
 -- The routine over lent memory: lines, frames, constants and finishing, one after the other. That this is `Routine`'s answer and buffer is proved.
-use mathlib.Core.Bool.{Bool, true, false, cond}
+use mathlib.Core.Bool.{true, false, cond}
 use mathlib.Core.List.{List, [], _∷_, _++_}
 use Prim.Native.Nat.{ℕ, suc}
 use lib.Dec.{ltb, leb}
@@ -19,7 +19,7 @@ use Rattle.assembler.specs.Bytes.{room}
 use Rattle.assembler.specs.Constant.{constant-items, constant-fault}
 use Rattle.assembler.specs.State.{State, Outcome}
 use Rattle.assembler.specs.Put.{put}
-use Rattle.finish.specs.Finish.{Ending, finish}
+use Rattle.finish.specs.Finish.{finish}
 use Rattle.orders.specs.Emitted.{emitted}
 use Rattle.framing.specs.Items.{prologue, epilogue, saves, reloads}
 use Rattle.framing.specs.Fault.{prologue-fault, epilogue-fault}

@@ -7,45 +7,21 @@ use borrow.Author.Needs.{needs}
 use Rattle.routine.proofs.close.Statement.{statement}
 use Rattle.routine.proofs.close.Tie as tie
 
-apply-jumps-requires : tie.Need-apply-jumps-requires
-apply-jumps-requires c κs = search needs
-
-enum-known-w : tie.Need-enum-known-w
-enum-known-w c = search needs
-
-refused-requires : tie.Need-refused-requires
-refused-requires c κs = search needs
-
-same-length : tie.Need-same-length
-same-length c = search needs
-
 returns : tie.Need-returns
 returns c =
     let f = c .before .before .before .before .before .before .before .apply-jumps in
     let a = c .before .before .before .before .before .before .before .before .before .before .before .before .args in
     rw (c .refused .ensures) (close-stops (a .head) (a .at) (a .n) (state (a .asm) (now (a .labels)) (now (a .jumps)) (now (a .buf))) (f .result) _ _ _ (f .ensures) _ _ (c .before .before .w .given .1))
 
-enum-told : tie.Need-enum-told
-enum-told c = search needs
-
 cast-t17 : tie.Need-cast-t17
 cast-t17 c =
     let f = c .before .before .before .before .before .before .apply-jumps in
     omega (arith, finish-bounds _ (f .result) _ _ _ (f .ensures) (c .before .enum-told .given .1))
 
-cast-t18 : tie.Need-cast-t18
-cast-t18 c = search needs
-
-cast-t19 : tie.Need-cast-t19
-cast-t19 c = search needs
-
 cast-t20 : tie.Need-cast-t20
 cast-t20 c =
     let f = c .before .before .before .before .before .before .before .apply-jumps in
     omega (arith, finish-bounds _ (f .result) _ _ _ (f .ensures) (c .before .before .enum-told .given .1))
-
-same-length-2 : tie.Need-same-length-2
-same-length-2 c = search needs
 
 returns-2 : tie.Need-returns-2
 returns-2 c =
@@ -57,15 +33,15 @@ pub close-spec : {M : Type 1} → statement M
 close-spec =
     tie.close
     (tie.spec
-    apply-jumps-requires
-    enum-known-w
-    refused-requires
-    same-length
+    (λ c κs. search needs)
+    (λ c. search needs)
+    (λ c κs. search needs)
+    (λ c. search needs)
     returns
-    enum-told
+    (λ c. search needs)
     cast-t17
-    cast-t18
-    cast-t19
+    (λ c. search needs)
+    (λ c. search needs)
     cast-t20
-    same-length-2
+    (λ c. search needs)
     returns-2)

@@ -9,32 +9,8 @@ use Rattle.routine.proofs.constant_at.Tie as tie
 returns : tie.Need-returns
 returns c = behind-file (now (c .before .before .args .file)) (c .before .before .args .place) (c .if1 .taken)
 
-line-end-requires : tie.Need-line-end-requires
-line-end-requires c κs = search needs
-
-sub-read-line : tie.Need-sub-read-line
-sub-read-line c = search needs
-
-part-read-line-start : tie.Need-part-read-line-start
-part-read-line-start c = search needs
-
 part-read-line-end : tie.Need-part-read-line-end
 part-read-line-end c = c .line-end .ensures .1 (c .before .if1 .left) .1
-
-read-line-requires : tie.Need-read-line-requires
-read-line-requires c κs = search needs
-
-enum-known-j : tie.Need-enum-known-j
-enum-known-j c = search needs
-
-enum-told : tie.Need-enum-told
-enum-told c = search needs
-
-enum-told-2 : tie.Need-enum-told-2
-enum-told-2 c = search needs
-
-enum-told-3 : tie.Need-enum-told-3
-enum-told-3 c = search needs
 
 returns-2 : tie.Need-returns-2
 returns-2 c =
@@ -69,15 +45,15 @@ constant-at-spec =
     tie.close
     (tie.spec
     returns
-    line-end-requires
-    sub-read-line
-    part-read-line-start
+    (λ c κs. search needs)
+    (λ c. search needs)
+    (λ c. search needs)
     part-read-line-end
-    read-line-requires
-    enum-known-j
-    enum-told
-    enum-told-2
-    enum-told-3
+    (λ c κs. search needs)
+    (λ c. search needs)
+    (λ c. search needs)
+    (λ c. search needs)
+    (λ c. search needs)
     returns-2
     returns-3
     returns-4

@@ -6,18 +6,6 @@ use borrow.Author.Needs.{needs}
 use Rattle.routine.proofs.emit.Statement.{statement}
 use Rattle.routine.proofs.emit.Tie as tie
 
-cell-within-requires : tie.Need-cell-within-requires
-cell-within-requires c κs = search needs
-
-keeps-saved-requires : tie.Need-keeps-saved-requires
-keeps-saved-requires c κs = search needs
-
-emit-requires : tie.Need-emit-requires
-emit-requires c κs = search needs
-
-same-length : tie.Need-same-length
-same-length c = search needs
-
 returns : tie.Need-returns
 returns c =
     let i = c .before .before .before .before .before .before .before .before in
@@ -39,10 +27,10 @@ pub emit-spec : {M : Type 1} → statement M
 emit-spec =
     tie.close
     (tie.spec
-    cell-within-requires
-    keeps-saved-requires
-    emit-requires
-    same-length
+    (λ c κs. search needs)
+    (λ c κs. search needs)
+    (λ c κs. search needs)
+    (λ c. search needs)
     returns
     returns-2
     returns-3)

@@ -5,30 +5,12 @@ use borrow.Author.Needs.{needs}
 use Rattle.routine.proofs.enter.Statement.{statement}
 use Rattle.routine.proofs.enter.Tie as tie
 
-prologue-requires : tie.Need-prologue-requires
-prologue-requires c κs = search needs
-
-enum-told : tie.Need-enum-told
-enum-told c = search needs
-
-same-length : tie.Need-same-length
-same-length c = search needs
-
 returns : tie.Need-returns
 returns c =
     λ f.
     let d = c .before .before .before .before .prologue in
     let a = c .before .before .before .before .before .before .before .before .before .args in
     enter-stops (a .head) (state (a .asm) (now (a .labels)) (now (a .jumps)) (now (a .buf))) (d .result) (d .last .1 .1 .1 .0) (d .last .1 .1 .1 .1 .0) (d .last .1 .1 .0) (d .ensures) f _ _ (c .enum-told .given .1)
-
-enum-told-2 : tie.Need-enum-told-2
-enum-told-2 c = search needs
-
-save-used-registers-requires : tie.Need-save-used-registers-requires
-save-used-registers-requires c κs = search needs
-
-same-length-2 : tie.Need-same-length-2
-same-length-2 c = search needs
 
 returns-2 : tie.Need-returns-2
 returns-2 c =
@@ -41,11 +23,11 @@ pub enter-spec : {M : Type 1} → statement M
 enter-spec =
     tie.close
     (tie.spec
-    prologue-requires
-    enum-told
-    same-length
+    (λ c κs. search needs)
+    (λ c. search needs)
+    (λ c. search needs)
     returns
-    enum-told-2
-    save-used-registers-requires
-    same-length-2
+    (λ c. search needs)
+    (λ c κs. search needs)
+    (λ c. search needs)
     returns-2)

@@ -7,9 +7,6 @@ use Rattle.routine.proofs.is_free.Tie as tie
 returns : tie.Need-returns
 returns c = free-below (c .before .args .mask) (c .before .args .r) (c .if1 .taken)
 
-is-in-requires : tie.Need-is-in-requires
-is-in-requires c κs = search needs
-
 returns-2 : tie.Need-returns-2
 returns-2 c =
     let a = c .before .before .before .args in
@@ -19,9 +16,6 @@ returns-3 : tie.Need-returns-3
 returns-3 c =
     let a = c .before .before .before .args in
     free-between (a .mask) (a .r) (c .before .if2 .left) (c .if3 .taken)
-
-is-in-requires-2 : tie.Need-is-in-requires-2
-is-in-requires-2 c κs = search needs
 
 returns-4 : tie.Need-returns-4
 returns-4 c =
@@ -36,4 +30,4 @@ returns-5 c =
 pub is-free-spec : {M : Type 1} → statement M
 is-free-spec =
     tie.close
-    (tie.spec returns is-in-requires returns-2 returns-3 is-in-requires-2 returns-4 returns-5)
+    (tie.spec returns (λ c κs. search needs) returns-2 returns-3 (λ c κs. search needs) returns-4 returns-5)

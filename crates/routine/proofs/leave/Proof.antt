@@ -20,43 +20,13 @@ Inv-loop file places n head line buf₀ labels₀ jumps₀ asm₀ at k₀ buf la
 abbrev μ-loop : tie.MeasureT-loop
 μ-loop file places n head line buf₀ labels₀ jumps₀ asm₀ at k₀ buf labels jumps asm k = n - k
 
-enum-known-v : tie.Need-enum-known-v Inv-loop μ-loop
-enum-known-v c = search needs
-
-refused-requires : tie.Need-refused-requires Inv-loop μ-loop
-refused-requires c κs = search needs
-
 returns : tie.Need-returns Inv-loop μ-loop
 returns c =
     let a = c .before .before .before .before .before .before .before .args in
     rw (c .refused .ensures) (sym (halts (a .u) (now (a .labels)) (now (a .jumps)) (now (a .buf)) (a .line) _ _ _ (c .before .before .v .given .1)))
 
-enum-told : tie.Need-enum-told Inv-loop μ-loop
-enum-told c = search needs
-
 loop-holds : tie.Need-loop-holds Inv-loop μ-loop
 loop-holds c = (search needs, refl, refl)
-
-mul-constant-at : tie.Need-mul-constant-at Inv-loop μ-loop
-mul-constant-at c = search needs
-
-element-copy-out-constant-at : tie.Need-element-copy-out-constant-at Inv-loop μ-loop
-element-copy-out-constant-at c = search needs
-
-constant-at-requires : tie.Need-constant-at-requires Inv-loop μ-loop
-constant-at-requires c κs = search needs
-
-cast-append-const : tie.Need-cast-append-const Inv-loop μ-loop
-cast-append-const c = search needs
-
-append-const-requires : tie.Need-append-const-requires Inv-loop μ-loop
-append-const-requires c κs = search needs
-
-enum-known-w : tie.Need-enum-known-w Inv-loop μ-loop
-enum-known-w c = search needs
-
-refused-requires-2 : tie.Need-refused-requires-2 Inv-loop μ-loop
-refused-requires-2 c κs = search needs
 
 same-length : tie.Need-same-length Inv-loop μ-loop
 same-length c = c .before .before .before .before .before .before .buf .given ∙ c .before .before .before .before .before .before .before .before .before .before .before .before .before .before .loop .inv .1
@@ -72,15 +42,6 @@ returns-2 c =
     let d = c .before .before .before .before .before .before .before .append-const in
     let e = rw (c .before .before .before .before .before .before .before .before .before .before .before .constant-at .ensures) at (d .ensures) in
     rw (c .refused2 .ensures) (sym (leave-goes (a .head) (a .line) (a .n) (constants-at f (take (a .n) ps)) (a .u) (now (a .labels)) (now (a .jumps)) (now (a .buf)) (c .before .before .before .before .before .before .before .before .before .before .before .before .before .before .before .enum-told .given .1) (places-length f ps (a .n) h) ∙ l .inv .2 ∙ constants-stop (a .line) (l .k) (constants-at f (drop (l .k) (take (a .n) ps))) (constants-at f (drop (l .k + 1) (take (a .n) ps))) _ (place-next f ps (a .n) h (l .k) (c .before .before .before .before .before .before .before .before .before .before .before .before .before .loop-test .taken)) _ (d .result) _ _ _ e _ _ _ (c .before .before .w .given .1) ∙ halts (d .result) _ _ _ (a .line) _ _ _ (c .before .before .w .given .1)))
-
-enum-told-2 : tie.Need-enum-told-2 Inv-loop μ-loop
-enum-told-2 c = search needs
-
-add-k : tie.Need-add-k Inv-loop μ-loop
-add-k c = search needs
-
-loop-less : tie.Need-loop-less Inv-loop μ-loop
-loop-less c = search needs
 
 loop-again : tie.Need-loop-again Inv-loop μ-loop
 loop-again c =
@@ -116,23 +77,23 @@ leave-spec =
     (tie.spec
     Inv-loop
     μ-loop
-    enum-known-v
-    refused-requires
+    (λ c. search needs)
+    (λ c κs. search needs)
     returns
-    enum-told
+    (λ c. search needs)
     loop-holds
-    mul-constant-at
-    element-copy-out-constant-at
-    constant-at-requires
-    cast-append-const
-    append-const-requires
-    enum-known-w
-    refused-requires-2
+    (λ c. search needs)
+    (λ c. search needs)
+    (λ c κs. search needs)
+    (λ c. search needs)
+    (λ c κs. search needs)
+    (λ c. search needs)
+    (λ c κs. search needs)
     same-length
     returns-2
-    enum-told-2
-    add-k
-    loop-less
+    (λ c. search needs)
+    (λ c. search needs)
+    (λ c. search needs)
     loop-again
     close-requires
     same-length-2

@@ -30,26 +30,8 @@ loop-holds : tie.Need-loop-holds Inv-loop μ-loop
 unfolding constants-at
 loop-holds c = (search needs, search needs, search needs, search needs, refl, refl)
 
-line-end-requires : tie.Need-line-end-requires Inv-loop μ-loop
-line-end-requires c κs = search needs
-
-sub-quick : tie.Need-sub-quick Inv-loop μ-loop
-sub-quick c = search needs
-
-part-quick-start : tie.Need-part-quick-start Inv-loop μ-loop
-part-quick-start c = search needs
-
 part-quick-end : tie.Need-part-quick-end Inv-loop μ-loop
 part-quick-end c = c .line-end .ensures .1 (c .before .loop-test .taken) .1
-
-quick-requires : tie.Need-quick-requires Inv-loop μ-loop
-quick-requires c κs = search needs
-
-add-n : tie.Need-add-n Inv-loop μ-loop
-add-n c = search needs
-
-write-order-requires : tie.Need-write-order-requires Inv-loop μ-loop
-write-order-requires c κs = search needs
 
 loop-less : tie.Need-loop-less Inv-loop μ-loop
 loop-less c = omega (arith, c .before .before .before .before .before .before .before .line-end .ensures .1 (c .before .before .before .before .before .before .before .before .loop-test .taken))
@@ -68,29 +50,11 @@ loop-again c =
     let d : Done = record { asm = record { len = w .result; jumps = l .asm .jumps; closed = l .asm .closed }; answer = Accepted } in
     (search needs, search needs, search needs, search needs, c .before .before .buf .given ∙ l .inv .4, l .inv .5 ∙ line-goes (a .head) (l .n) cs _ (lines-of (drop (e .result) f)) _ (g .2) (state (l .asm) (l .labels) (l .jumps) (l .buf)) (Order o) (sym (c .before .before .before .before .before .quick .ensures (t .0))) o refl d (l .labels) (l .jumps) (w .last .1 .1 .0) (sym (t .1 (l .n + 1) (l .labels) (l .jumps))) refl)
 
-sub-line-says : tie.Need-sub-line-says Inv-loop μ-loop
-sub-line-says c = search needs
-
-part-line-says-start : tie.Need-part-line-says-start Inv-loop μ-loop
-part-line-says-start c = search needs
-
 part-line-says-end : tie.Need-part-line-says-end Inv-loop μ-loop
 part-line-says-end c = c .before .before .before .before .before .before .before .line-end .ensures .1 (c .before .before .before .before .before .before .before .before .loop-test .taken) .1
 
 line-says-requires : tie.Need-line-says-requires Inv-loop μ-loop
 line-says-requires c κs = c .before .before .before .before .before .before .quick .ensures
-
-enum-known-j : tie.Need-enum-known-j Inv-loop μ-loop
-enum-known-j c = search needs
-
-emit-requires : tie.Need-emit-requires Inv-loop μ-loop
-emit-requires c κs = search needs
-
-enum-known-w : tie.Need-enum-known-w Inv-loop μ-loop
-enum-known-w c = search needs
-
-refused-requires : tie.Need-refused-requires Inv-loop μ-loop
-refused-requires c κs = search needs
 
 same-length : tie.Need-same-length Inv-loop μ-loop
 same-length c = c .before .before .before .before .before .before .buf2 .given ∙ c .before .before .before .before .before .before .before .before .before .before .before .before .before .before .before .before .before .before .buf .given ∙ c .before .before .before .before .before .before .before .before .before .before .before .before .before .before .before .before .before .before .before .before .before .before .before .before .before .loop .inv .4
@@ -111,9 +75,6 @@ returns c =
     let d = c .before .before .before .before .before .before .before .emit in
     rw (c .refused .ensures) (line-stops (a .head) (l .n) cs _ (lines-of (drop (e .result) f)) _ (g .2) s (r .result) (r .ensures) _ (c .before .before .before .before .before .before .before .before .before .before .before .before .j .given .1) (d .result) _ _ _ (d .ensures) _ _ (c .before .before .w .given .1) ∙ sym i)
 
-enum-told : tie.Need-enum-told Inv-loop μ-loop
-enum-told c = search needs
-
 loop-less-2 : tie.Need-loop-less-2 Inv-loop μ-loop
 loop-less-2 c = omega (arith, c .before .before .before .before .before .before .before .before .before .before .before .before .before .before .before .before .before .before .before .before .before .line-end .ensures .1 (c .before .before .before .before .before .before .before .before .before .before .before .before .before .before .before .before .before .before .before .before .before .before .loop-test .taken))
 
@@ -133,12 +94,6 @@ loop-again-2 c =
     let d = c .before .before .before .before .before .emit in
     (search needs, search needs, search needs, search needs, c .before .before .before .before .buf2 .given ∙ c .before .before .before .before .before .before .before .before .before .before .before .before .before .before .before .before .buf .given ∙ l .inv .4, i ∙ line-goes (a .head) (l .n) cs _ (lines-of (drop (e .result) f)) _ (g .2) s (r .result) (r .ensures) _ (c .before .before .before .before .before .before .before .before .before .before .j .given .1) (d .result) _ _ _ (d .ensures) (c .enum-told .given .1))
 
-enum-told-2 : tie.Need-enum-told-2 Inv-loop μ-loop
-enum-told-2 c = search needs
-
-refused-requires-2 : tie.Need-refused-requires-2 Inv-loop μ-loop
-refused-requires-2 c κs = search needs
-
 same-length-2 : tie.Need-same-length-2 Inv-loop μ-loop
 same-length-2 c = c .before .before .before .before .before .before .before .before .buf .given ∙ c .before .before .before .before .before .before .before .before .before .before .before .before .before .before .before .loop .inv .4
 
@@ -157,18 +112,6 @@ returns-2 c =
     let s = state (l .asm) (l .labels) (l .jumps) (w .last .1 .1 .0) in
     let y : length cs ≡ 1008 = places-length f (l .places) (l .k) (omega arith) ∙ c .before .if2 .taken in
     rw (c .refused2 .ensures) (line-full (a .head) (l .n) cs _ (lines-of (drop (e .result) f)) _ (g .2) s (r .result) (r .ensures) _ (c .before .before .enum-told2 .given .1) y ∙ sym i)
-
-cast-places : tie.Need-cast-places Inv-loop μ-loop
-cast-places c = search needs
-
-mul-places : tie.Need-mul-places Inv-loop μ-loop
-mul-places c = search needs
-
-array-write-places : tie.Need-array-write-places Inv-loop μ-loop
-array-write-places c = search needs
-
-add-k : tie.Need-add-k Inv-loop μ-loop
-add-k c = search needs
 
 loop-less-3 : tie.Need-loop-less-3 Inv-loop μ-loop
 loop-less-3 c = omega (arith, c .before .before .before .before .before .before .before .before .before .before .before .before .line-end .ensures .1 (c .before .before .before .before .before .before .before .before .before .before .before .before .before .loop-test .taken))
@@ -190,12 +133,6 @@ loop-again-3 c =
     let y : length cs < 1008 = omega (arith, places-length f (l .places) (l .k) (omega arith)) in
     (search needs, search needs, search needs, simp length-set (l .inv .3), c .before .before .before .before .before .before .before .buf .given ∙ l .inv .4, i ∙ line-constant (a .head) (l .n) cs _ (lines-of (drop (e .result) f)) _ (g .2) s (r .result) (r .ensures) _ j y ∙ rw (place-kept f (l .places) (l .k) (l .at) _ (omega arith) (rw j at (said-at f (l .at) _ _ (g .2) (r .result) (r .ensures)))))
 
-enum-told-3 : tie.Need-enum-told-3 Inv-loop μ-loop
-enum-told-3 c = search needs
-
-refused-requires-3 : tie.Need-refused-requires-3 Inv-loop μ-loop
-refused-requires-3 c κs = search needs
-
 same-length-3 : tie.Need-same-length-3 Inv-loop μ-loop
 same-length-3 c = c .before .before .before .before .before .before .before .buf .given ∙ c .before .before .before .before .before .before .before .before .before .before .before .before .before .before .loop .inv .4
 
@@ -214,12 +151,6 @@ returns-3 c =
     let s = state (l .asm) (l .labels) (l .jumps) (w .last .1 .1 .0) in
     rw (c .refused3 .ensures) (line-head (a .head) (l .n) cs _ (lines-of (drop (e .result) f)) _ (g .2) s (r .result) (r .ensures) _ (c .before .enum-told3 .given .1) ∙ sym i)
 
-enum-known-j-2 : tie.Need-enum-known-j-2 Inv-loop μ-loop
-enum-known-j-2 c = search needs
-
-refused-requires-4 : tie.Need-refused-requires-4 Inv-loop μ-loop
-refused-requires-4 c κs = search needs
-
 same-length-4 : tie.Need-same-length-4 Inv-loop μ-loop
 same-length-4 c = c .before .before .before .before .before .before .before .before .buf .given ∙ c .before .before .before .before .before .before .before .before .before .before .before .before .before .before .before .loop .inv .4
 
@@ -237,9 +168,6 @@ returns-4 c =
     let i = rw (← u) at (l .inv .5) in
     let s = state (l .asm) (l .labels) (l .jumps) (w .last .1 .1 .0) in
     rw (c .refused4 .ensures) (line-refused (a .head) (l .n) cs _ (lines-of (drop (e .result) f)) _ (g .2) s (r .result) (r .ensures) _ (c .before .before .j2 .given .1) ∙ sym i)
-
-unwind-requires : tie.Need-unwind-requires Inv-loop μ-loop
-unwind-requires c κs = search needs
 
 leave-requires : tie.Need-leave-requires Inv-loop μ-loop
 leave-requires c κs = (c .before .before .before .before .before .before .before .before .before .before .before .loop .inv .2, c .before .before .before .before .before .before .before .before .before .before .before .loop .inv .3, c .before .before .before .before .before .before .unwind .ensures .1)
@@ -263,47 +191,47 @@ lines-spec =
     Inv-loop
     μ-loop
     loop-holds
-    line-end-requires
-    sub-quick
-    part-quick-start
+    (λ c κs. search needs)
+    (λ c. search needs)
+    (λ c. search needs)
     part-quick-end
-    quick-requires
-    add-n
-    write-order-requires
+    (λ c κs. search needs)
+    (λ c. search needs)
+    (λ c κs. search needs)
     loop-less
     loop-again
-    sub-line-says
-    part-line-says-start
+    (λ c. search needs)
+    (λ c. search needs)
     part-line-says-end
     line-says-requires
-    enum-known-j
-    emit-requires
-    enum-known-w
-    refused-requires
+    (λ c. search needs)
+    (λ c κs. search needs)
+    (λ c. search needs)
+    (λ c κs. search needs)
     same-length
     returns
-    enum-told
+    (λ c. search needs)
     loop-less-2
     loop-again-2
-    enum-told-2
-    refused-requires-2
+    (λ c. search needs)
+    (λ c κs. search needs)
     same-length-2
     returns-2
-    cast-places
-    mul-places
-    array-write-places
-    add-k
+    (λ c. search needs)
+    (λ c. search needs)
+    (λ c. search needs)
+    (λ c. search needs)
     loop-less-3
     loop-again-3
-    enum-told-3
-    refused-requires-3
+    (λ c. search needs)
+    (λ c κs. search needs)
     same-length-3
     returns-3
-    enum-known-j-2
-    refused-requires-4
+    (λ c. search needs)
+    (λ c κs. search needs)
     same-length-4
     returns-4
-    unwind-requires
+    (λ c κs. search needs)
     leave-requires
     same-length-5
     returns-5)

@@ -5,31 +5,10 @@ use borrow.Author.Needs.{needs}
 use Rattle.routine.proofs.packed_keeps.Statement.{statement}
 use Rattle.routine.proofs.packed_keeps.Tie as tie
 
-register-requires : tie.Need-register-requires
-register-requires c κs = search needs
-
-unary-at-requires : tie.Need-unary-at-requires
-unary-at-requires c κs = search needs
-
-register-requires-2 : tie.Need-register-requires-2
-register-requires-2 c κs = search needs
-
-unary-free-requires : tie.Need-unary-free-requires
-unary-free-requires c κs = search needs
-
 returns : tie.Need-returns
 returns c =
     let a = c .before .before .before .before .before .args in
     keeps-unary (a .mask) (a .q % 32) (a .q / 32) (c .before .before .before .if1 .taken) (rw (c .before .before .unary-at .ensures, c .before .before .before .before .register .ensures .0, c .before .register2 .ensures .0) at (c .unary-free .ensures))
-
-register-requires-3 : tie.Need-register-requires-3
-register-requires-3 c κs = search needs
-
-is-free-requires : tie.Need-is-free-requires
-is-free-requires c κs = search needs
-
-is-free-requires-2 : tie.Need-is-free-requires-2
-is-free-requires-2 c κs = search needs
 
 returns-2 : tie.Need-returns-2
 returns-2 c =
@@ -43,22 +22,10 @@ returns-3 c =
     let t = rw (c .before .before .register3 .ensures .0) at (sym (c .before .is-free .ensures) ∙ c .if3 .left) in
     loses-scratched (a .mask) (a .q % 32) (a .q / 32) (c .before .before .before .before .if1 .left) (c .before .before .before .if2 .taken) t
 
-is-free-requires-3 : tie.Need-is-free-requires-3
-is-free-requires-3 c κs = search needs
-
 returns-4 : tie.Need-returns-4
 returns-4 c =
     let a = c .before .before .before .before .before .args in
     keeps-one (a .mask) (a .q % 32) (a .q / 32) (c .before .before .if2 .left) (c .before .if4 .taken) (rw (c .before .before .before .before .register .ensures .0) at (c .is-free3 .ensures))
-
-place-at-requires : tie.Need-place-at-requires
-place-at-requires c κs = search needs
-
-index-requires : tie.Need-index-requires
-index-requires c κs = search needs
-
-is-open-requires : tie.Need-is-open-requires
-is-open-requires c κs = search needs
 
 returns-5 : tie.Need-returns-5
 returns-5 c =
@@ -74,20 +41,20 @@ pub packed-keeps-spec : {M : Type 1} → statement M
 packed-keeps-spec =
     tie.close
     (tie.spec
-    register-requires
-    unary-at-requires
-    register-requires-2
-    unary-free-requires
+    (λ c κs. search needs)
+    (λ c κs. search needs)
+    (λ c κs. search needs)
+    (λ c κs. search needs)
     returns
-    register-requires-3
-    is-free-requires
-    is-free-requires-2
+    (λ c κs. search needs)
+    (λ c κs. search needs)
+    (λ c κs. search needs)
     returns-2
     returns-3
-    is-free-requires-3
+    (λ c κs. search needs)
     returns-4
-    place-at-requires
-    index-requires
-    is-open-requires
+    (λ c κs. search needs)
+    (λ c κs. search needs)
+    (λ c κs. search needs)
     returns-5
     returns-6)

@@ -9,9 +9,6 @@ returns c =
     let a = c .before .args in
     within-registers (a .head) (a .q % 32) (a .q / 32) (c .if1 .taken)
 
-index-requires : tie.Need-index-requires
-index-requires c κs = search needs
-
 returns-2 : tie.Need-returns-2
 returns-2 c =
     let a = c .before .before .before .before .args in
@@ -22,34 +19,10 @@ returns-3 c =
     let a = c .before .before .before .args in
     within-const (a .head) (a .q % 32) (a .q / 32) (c .before .before .if1 .left) (c .before .if2 .left) (c .if3 .taken)
 
-index-requires-2 : tie.Need-index-requires-2
-index-requires-2 c κs = search needs
-
-cast-result : tie.Need-cast-result
-cast-result c = search needs
-
-place-at-requires : tie.Need-place-at-requires
-place-at-requires c κs = search needs
-
-cell-count-requires : tie.Need-cell-count-requires
-cell-count-requires c κs = search needs
-
 returns-4 : tie.Need-returns-4
 returns-4 c =
     let a = c .before .before .before .before .before .before .before .args in
     rw (c .before .before .index2 .ensures .0, c .cell-count .ensures, c .before .place-at .ensures) (within-load (a .head) (a .q % 32) (a .q / 32) (c .before .before .before .before .if3 .left) (c .before .before .before .if4 .taken))
-
-index-requires-3 : tie.Need-index-requires-3
-index-requires-3 c κs = search needs
-
-cast-result-2 : tie.Need-cast-result-2
-cast-result-2 c = search needs
-
-place-at-requires-2 : tie.Need-place-at-requires-2
-place-at-requires-2 c κs = search needs
-
-cell-count-requires-2 : tie.Need-cell-count-requires-2
-cell-count-requires-2 c κs = search needs
 
 returns-5 : tie.Need-returns-5
 returns-5 c =
@@ -66,17 +39,17 @@ packed-within-spec =
     tie.close
     (tie.spec
     returns
-    index-requires
+    (λ c κs. search needs)
     returns-2
     returns-3
-    index-requires-2
-    cast-result
-    place-at-requires
-    cell-count-requires
+    (λ c κs. search needs)
+    (λ c. search needs)
+    (λ c κs. search needs)
+    (λ c κs. search needs)
     returns-4
-    index-requires-3
-    cast-result-2
-    place-at-requires-2
-    cell-count-requires-2
+    (λ c κs. search needs)
+    (λ c. search needs)
+    (λ c κs. search needs)
+    (λ c κs. search needs)
     returns-5
     returns-6)

@@ -12,47 +12,20 @@ use borrow.Author.Needs.{needs}
 use Rattle.routine.proofs.read_file.Statement.{statement}
 use Rattle.routine.proofs.read_file.Tie as tie
 
-refused-requires : tie.Need-refused-requires
-refused-requires c κs = search needs
-
 returns : tie.Need-returns
 returns c =
     let a = c .before .before .before .before .args in
     rw (c .refused .ensures) (file-long (now (a .file)) (state (a .asm) (now (a .labels)) (now (a .jumps)) (now (a .buf))) (c .before .if1 .taken))
-
-refused-requires-2 : tie.Need-refused-requires-2
-refused-requires-2 c κs = search needs
 
 returns-2 : tie.Need-returns-2
 returns-2 c =
     let a = c .before .before .before .before .before .args in
     rw (c .refused2 .ensures) (file-empty (now (a .file)) (state (a .asm) (now (a .labels)) (now (a .jumps)) (now (a .buf))) (c .before .before .if1 .left) (empty-lines (now (a .file)) (c .before .if2 .taken)))
 
-line-end-requires : tie.Need-line-end-requires
-line-end-requires c κs = search needs
-
 slice-aggregate-read-line : tie.Need-slice-aggregate-read-line
 slice-aggregate-read-line c =
     let e = c .before .line-end in
     sym (length-take-le (e .result) (now (c .before .before .before .before .before .before .args .file)) (e .ensures .1 (omega (arith, c .before .before .if2 .left)) .1))
-
-read-line-requires : tie.Need-read-line-requires
-read-line-requires c κs = search needs
-
-enum-known-j : tie.Need-enum-known-j
-enum-known-j c = search needs
-
-enter-requires : tie.Need-enter-requires
-enter-requires c κs = search needs
-
-enum-known-w : tie.Need-enum-known-w
-enum-known-w c = search needs
-
-refused-requires-3 : tie.Need-refused-requires-3
-refused-requires-3 c κs = search needs
-
-same-length : tie.Need-same-length
-same-length c = search needs
 
 returns-3 : tie.Need-returns-3
 returns-3 c =
@@ -65,34 +38,10 @@ returns-3 c =
     let d = c .before .before .before .before .before .before .enter in
     rw (c .refused3 .ensures) (sym (sym (first-head (now (a .file)) s (c .before .before .before .before .before .before .before .before .before .before .before .before .before .before .before .before .before .if1 .left) (take (e .result) (now (a .file))) (lines-of (drop (e .result) (now (a .file)))) (g .2 ∙ rw z) (r .result) (r .ensures) _ (c .before .before .before .before .before .before .before .before .before .before .before .j .given .1)) ∙ d .ensures _ ∙ halts (d .result) _ _ _ 1 _ _ _ (c .before .before .w .given .1)))
 
-enum-told : tie.Need-enum-told
-enum-told c = search needs
-
 lines-requires : tie.Need-lines-requires
 lines-requires c κs =
     let e = c .before .before .before .before .before .before .before .before .before .before .before .before .before .before .before .before .line-end in
     (c .before .before .before .before .before .before .before .before .before .before .before .before .before .before .before .before .before .before .if1 .left, e .ensures .1 (omega (arith, c .before .before .before .before .before .before .before .before .before .before .before .before .before .before .before .before .before .if2 .left)) .1)
-
-enum-told-2 : tie.Need-enum-told-2
-enum-told-2 c = search needs
-
-refused-requires-4 : tie.Need-refused-requires-4
-refused-requires-4 c κs = search needs
-
-enum-told-3 : tie.Need-enum-told-3
-enum-told-3 c = search needs
-
-refused-requires-5 : tie.Need-refused-requires-5
-refused-requires-5 c κs = search needs
-
-enum-known-j-2 : tie.Need-enum-known-j-2
-enum-known-j-2 c = search needs
-
-refused-requires-6 : tie.Need-refused-requires-6
-refused-requires-6 c κs = search needs
-
-same-length-2 : tie.Need-same-length-2
-same-length-2 c = search needs
 
 returns-4 : tie.Need-returns-4
 returns-4 c =
@@ -139,28 +88,28 @@ pub read-file-spec : {M : Type 1} → statement M
 read-file-spec =
     tie.close
     (tie.spec
-    refused-requires
+    (λ c κs. search needs)
     returns
-    refused-requires-2
+    (λ c κs. search needs)
     returns-2
-    line-end-requires
+    (λ c κs. search needs)
     slice-aggregate-read-line
-    read-line-requires
-    enum-known-j
-    enter-requires
-    enum-known-w
-    refused-requires-3
-    same-length
+    (λ c κs. search needs)
+    (λ c. search needs)
+    (λ c κs. search needs)
+    (λ c. search needs)
+    (λ c κs. search needs)
+    (λ c. search needs)
     returns-3
-    enum-told
+    (λ c. search needs)
     lines-requires
-    enum-told-2
-    refused-requires-4
-    enum-told-3
-    refused-requires-5
-    enum-known-j-2
-    refused-requires-6
-    same-length-2
+    (λ c. search needs)
+    (λ c κs. search needs)
+    (λ c. search needs)
+    (λ c κs. search needs)
+    (λ c. search needs)
+    (λ c κs. search needs)
+    (λ c. search needs)
     returns-4
     returns-5
     returns-6

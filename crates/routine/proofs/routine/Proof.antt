@@ -8,12 +8,6 @@ use borrow.Author.Needs.{needs}
 use Rattle.routine.proofs.routine.Statement.{statement}
 use Rattle.routine.proofs.routine.Tie as tie
 
-routine-in-requires : tie.Need-routine-in-requires
-routine-in-requires c κs = search needs
-
-same-length : tie.Need-same-length
-same-length c = search needs
-
 returns : tie.Need-returns
 returns c =
     let r = c .before .before .routine-in in
@@ -22,4 +16,4 @@ returns c =
     (ap (λ (m : Made). m .answer) (r .ensures) ∙ p .0, ap (λ (m : Made). m .state .buf) (r .ensures) ∙ p .1)
 
 pub routine-spec : {M : Type 1} → statement M
-routine-spec = tie.close (tie.spec routine-in-requires same-length returns)
+routine-spec = tie.close (tie.spec (λ c κs. search needs) (λ c. search needs) returns)

@@ -4,38 +4,8 @@ use borrow.Author.Needs.{needs}
 use Rattle.routine.proofs.unary_free.Statement.{statement}
 use Rattle.routine.proofs.unary_free.Tie as tie
 
-enum-told : tie.Need-enum-told
-enum-told c = search needs
-
 returns : tie.Need-returns
 returns c = rw (c .before .enum-told .given .1) (fmov-same (c .before .before .before .args .mask) (c .before .before .before .args .d) (c .before .before .before .args .s) (c .if1 .taken))
-
-is-free-requires : tie.Need-is-free-requires
-is-free-requires c κs = search needs
-
-enum-told-2 : tie.Need-enum-told-2
-enum-told-2 c = search needs
-
-is-free-requires-2 : tie.Need-is-free-requires-2
-is-free-requires-2 c κs = search needs
-
-enum-told-3 : tie.Need-enum-told-3
-enum-told-3 c = search needs
-
-is-free-requires-3 : tie.Need-is-free-requires-3
-is-free-requires-3 c κs = search needs
-
-enum-told-4 : tie.Need-enum-told-4
-enum-told-4 c = search needs
-
-is-free-requires-4 : tie.Need-is-free-requires-4
-is-free-requires-4 c κs = search needs
-
-enum-told-5 : tie.Need-enum-told-5
-enum-told-5 c = search needs
-
-is-free-requires-5 : tie.Need-is-free-requires-5
-is-free-requires-5 c κs = search needs
 
 returns-2 : tie.Need-returns-2
 returns-2 c =
@@ -66,17 +36,17 @@ pub unary-free-spec : {M : Type 1} → statement M
 unary-free-spec =
     tie.close
     (tie.spec
-    enum-told
+    (λ c. search needs)
     returns
-    is-free-requires
-    enum-told-2
-    is-free-requires-2
-    enum-told-3
-    is-free-requires-3
-    enum-told-4
-    is-free-requires-4
-    enum-told-5
-    is-free-requires-5
+    (λ c κs. search needs)
+    (λ c. search needs)
+    (λ c κs. search needs)
+    (λ c. search needs)
+    (λ c κs. search needs)
+    (λ c. search needs)
+    (λ c κs. search needs)
+    (λ c. search needs)
+    (λ c κs. search needs)
     returns-2
     returns-3
     returns-4

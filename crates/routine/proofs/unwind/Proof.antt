@@ -7,30 +7,12 @@ use borrow.Author.Needs.{needs}
 use Rattle.routine.proofs.unwind.Statement.{statement}
 use Rattle.routine.proofs.unwind.Tie as tie
 
-load-used-registers-requires : tie.Need-load-used-registers-requires
-load-used-registers-requires c κs = search needs
-
-enum-told : tie.Need-enum-told
-enum-told c = search needs
-
-same-length : tie.Need-same-length
-same-length c = search needs
-
 returns : tie.Need-returns
 returns c =
     let d = c .before .before .before .before .load-used-registers in
     let a = c .before .before .before .before .before .before .before .before .before .args in
     let h = c .enum-told .given .1 in
     (λ cs. sym (reloads-stop (a .head) (a .line) cs (state (a .asm) (now (a .labels)) (now (a .jumps)) (now (a .buf))) (d .result) (d .last .1 .1 .0) (d .last .1 .1 .1 .0) (d .last .1 .0) (d .ensures) _ _ h) ∙ sym (halts (d .result) _ _ _ (a .line) _ _ _ h), λ g. absurd (no-both (d .result) _ _ h g))
-
-enum-told-2 : tie.Need-enum-told-2
-enum-told-2 c = search needs
-
-epilogue-requires : tie.Need-epilogue-requires
-epilogue-requires c κs = search needs
-
-same-length-2 : tie.Need-same-length-2
-same-length-2 c = search needs
 
 returns-2 : tie.Need-returns-2
 returns-2 c =
@@ -43,11 +25,11 @@ pub unwind-spec : {M : Type 1} → statement M
 unwind-spec =
     tie.close
     (tie.spec
-    load-used-registers-requires
-    enum-told
-    same-length
+    (λ c κs. search needs)
+    (λ c. search needs)
+    (λ c. search needs)
     returns
-    enum-told-2
-    epilogue-requires
-    same-length-2
+    (λ c. search needs)
+    (λ c κs. search needs)
+    (λ c. search needs)
     returns-2)

@@ -8,18 +8,6 @@ use borrow.Author.Needs.{needs}
 use Rattle.routine.proofs.write_order.Statement.{statement}
 use Rattle.routine.proofs.write_order.Tie as tie
 
-packed-within-requires : tie.Need-packed-within-requires
-packed-within-requires c κs = search needs
-
-packed-keeps-requires : tie.Need-packed-keeps-requires
-packed-keeps-requires c κs = search needs
-
-write-packed-requires : tie.Need-write-packed-requires
-write-packed-requires c κs = search needs
-
-same-length : tie.Need-same-length
-same-length c = search needs
-
 returns : tie.Need-returns
 returns c =
     let w = c .before .before .write-packed .ensures in
@@ -42,10 +30,10 @@ pub write-order-spec : {M : Type 1} → statement M
 write-order-spec =
     tie.close
     (tie.spec
-    packed-within-requires
-    packed-keeps-requires
-    write-packed-requires
-    same-length
+    (λ c κs. search needs)
+    (λ c κs. search needs)
+    (λ c κs. search needs)
+    (λ c. search needs)
     returns
     returns-2
     returns-3
