@@ -1,4 +1,4 @@
--- Bounds, the mask's bits, and the head. Assumes nothing.
+-- Bounds, orders judged, the mask's bits, and the head. Assumes nothing.
 use mathlib.Core.Path.{_≡_, refl, sym, ap, _∙_}
 use mathlib.Core.Bool.{Bool, true, false, _&&_, _||_, not}
 use mathlib.Core.List.{List, [], _∷_, _++_}
@@ -17,14 +17,11 @@ use Rattle.order.specs.declared.Head.{Head}
 use Rattle.order.specs.declared.Order.{Order}
 use Rattle.text.specs.declared.Number.{Number}
 use Rattle.text.specs.declared.Number.the-variants.{Value, TooBig}
+use Rattle.text.proofs.Joined.{and-true}
 use Rattle.form.specs.declared.Form.the-variants as Form
 use Rattle.deck.specs.Judge.{Content, demand, below, value, are-below, low-of, any, saves, counts-hold, head-of, head, order, judged}
 
 -- ---- numbers below a bound
-
-both : (t u : Bool) → t && u ≡ true → (t ≡ true) × (u ≡ true)
-both true u e = (refl, e)
-both false u e = absurd (let z : _≡_ {A = ℕ} 0 1 = cc in omega arith)
 
 pub low-is : (k : ℕ) (n : Number) → k ≤ 4294967296 → below k n ≡ true → low-of n ≡ value n
 low-is k (Value v) h e = mod-eq-of-lt (let g = ltb-true v k e in omega arith)
@@ -38,9 +35,9 @@ under false r a b f = refl
 module _ (k : ℕ) (h : k ≤ 4294967296) (a b c d : Number) (e : are-below k a b c d ≡ true) where
   pub lows : (low-of a ≡ value a) × (low-of b ≡ value b) × (low-of c ≡ value c) × (low-of d ≡ value d)
   lows =
-      let p = both (below k a) (below k b && (below k c && below k d)) e in
-      let q = both (below k b) (below k c && below k d) (p .1) in
-      let r = both (below k c) (below k d) (q .1) in
+      let p = and-true (below k a) (below k b && (below k c && below k d)) e in
+      let q = and-true (below k b) (below k c && below k d) (p .1) in
+      let r = and-true (below k c) (below k d) (q .1) in
       (low-is k a h (p .0), low-is k b h (q .0), low-is k c h (r .0), low-is k d h (r .1))
 
 -- an order's operands by their lowest bits

@@ -90,7 +90,7 @@ field-read word f n e = word-read f n e
 field-read place f p e = (tt, sym (first-is place-name f all-places p e))
 field-read flag f b e = (tt, sym (first-is flag-name f all-flags b e))
 
-field-free : (s : Sort) (v : Value s) → free (field s v) ≡ true
+pub field-free : (s : Sort) (v : Value s) → free (field s v) ≡ true
 field-free number n = free-decimal n
 field-free integer z = free-integer z
 field-free word n = free-word n

@@ -1,29 +1,31 @@
 -- Forms, field by field. Assumes nothing.
-use mathlib.Core.Path.{_≡_, refl, sym, _∙_}
+use mathlib.Core.Path.{_≡_, refl, sym, ap, _∙_}
 use mathlib.Core.Bool.{Bool, true, false}
 use mathlib.Core.Option.{Option, some, none, Option·map}
-use mathlib.Core.List.{List, [], _∷_}
+use mathlib.Core.List.{List, [], _∷_, _++_}
 use Prim.Native.Nat.{ℕ, zero, suc, _+_, _-_, _<_, _≤_}
 use native.Mathlib.Omega.{arith}
 use borrow.Author.Tests.{le-ltb, ltb-true, ltb-false, eq-eqb, ne-eqb}
 use lib.Dec.{ltb}
 use lib.IntN.{ℤ, pos, negsuc}
-use lib.ListN.{length, getD, take, drop, replicate}
+use lib.ListN.{length, getD, take, drop, replicate, length-drop}
+use lib.Seq.{take-all}
 use Rattle.text.specs.Digits.{sized, numeral, read-integer, read-word, integer, word}
-use Rattle.text.specs.Fields.{split, fields-from, end-from, next-from, first-decimal}
+use Rattle.text.specs.Fields.{commas, split, fields-from, end-from, next-from, first-decimal}
 use Rattle.text.specs.declared.Number.{Number}
 use Rattle.text.specs.declared.Numeral.{Numeral}
 use Rattle.text.specs.declared.Numeral.the-variants as Numeral
 use Rattle.text.specs.declared.Integer.the-variants as Integer
 use Rattle.text.specs.declared.Word.the-variants as Word
 use Rattle.text.proofs.Answers.{field-is, no-field, next-is}
+use Rattle.text.proofs.Joined.{free, split-join, join-split}
 use Rattle.order.specs.declared.Place.{Place}
 use Rattle.order.specs.declared.Frame.{Frame}
 use Rattle.order.specs.declared.Unary.{Unary}
 use Rattle.order.specs.declared.Scratched.{Scratched}
 use Rattle.order.specs.declared.Binary.{Binary}
 use Rattle.order.specs.declared.Fused.{Fused}
-use Rattle.form.specs.Line.{Sort, number, integer as integer-sort, word as word-sort, place, flag, Values, place-name, flag-name, sorts}
+use Rattle.form.specs.Line.{Sort, number, integer as integer-sort, word as word-sort, place, flag, Value, Values, place-name, flag-name, sorts}
 use Rattle.form.specs.Read.{first, all-places, all-flags, kind-of, both, read-field, read-values, with-values, read-kind, read-fields, read}
 use Rattle.form.specs.Form.{formed, form-of, named, shaped, shaped′, behind, numbers, read-numbers, zeros, of-numbers, first-of, only, placed, cell, flagged}
 use Rattle.form.specs.declared.Kind.{Kind}
@@ -39,6 +41,7 @@ use Rattle.form.specs.declared.Cell.{Cell}
 use Rattle.form.specs.declared.Cell.the-variants as Cell
 use Rattle.form.specs.declared.Flag.{Flag}
 use Rattle.form.specs.declared.Flag.the-variants as Flag
+use Rattle.form.proofs.Inverse.{field-read, field-free}
 
 -- ---- the first field and the others
 
@@ -148,24 +151,42 @@ no-both : {A B : Type 0} (o : Option A) → both {B = B} o none ≡ none
 no-both none = refl
 no-both (some a) = refl
 
-module _ (q : Sort) (s : List ℕ) (a e : ℕ) (he : e ≡ end-from s a) (hs : a ≤ e) (hl : a ≤ length s → e ≤ length s) where
-  pub not-last : (e ≡ length s → ⊥) → read-values (q ∷ []) (fields-from s a) ≡ none
-  unfolding read-values
-  not-last h = go (ltb (length s) a) refl
-    where
-      go : (t : Bool) → ltb (length s) a ≡ t → read-values (q ∷ []) (fields-from s a) ≡ none
-      go true f = rw (no-field s a (ltb-true (length s) a f))
-      go false f =
-          let g = ltb-false (length s) a f in
-          let n : next-from s a ≤ length s = omega (arith, next-is s a g, hl g, h) in
-          rw (field-is s a g, field-is s (next-from s a) n) (no-both (read-field q (take (end-from s a - a) (drop a s))))
+append-nil : (s : List ℕ) → s ++ [] ≡ s
+append-nil [] = refl
+append-nil (c ∷ cs) = ap (λ (l : List ℕ). c ∷ l) (append-nil cs)
 
-  pub last-is : e ≡ length s → read-values (q ∷ []) (fields-from s a) ≡ both (read-field q (take (e - a) (drop a s))) (some tt)
+module _ (q : Sort) (t : List ℕ) where
+  -- a field has no comma, so it is the only one
+  only-field : (v : Value q) → read-field q t ≡ some v → split t ≡ t ∷ []
+  unfolding commas
+  only-field v e =
+      let f : free t ≡ true = rw (field-read q t v e .1) at (field-free q v) in
+      rw (append-nil t) at (split-join t [] f refl)
+
+  no-field-of : (fs : List (List ℕ)) → split t ≡ fs → read-field q t ≡ none → read-values (q ∷ []) fs ≡ none
+  unfolding read-values commas
+  no-field-of [] h e = refl
+  no-field-of (f ∷ []) h e = let z : f ≡ t = rw (append-nil f) at (join-split t f [] h) in rw (z, e)
+  no-field-of (f ∷ g ∷ fs) h e = no-both (read-field q f)
+
+  one-field : read-values (q ∷ []) (split t) ≡ both (read-field q t) (some tt)
   unfolding read-values
+  one-field = go (read-field q t) refl
+    where
+      go : (o : Option (Value q)) → read-field q t ≡ o → read-values (q ∷ []) (split t) ≡ both o (some tt)
+      go none e = no-field-of (split t) refl e
+      go (some v) e = rw (only-field v e, e)
+
+module _ (q : Sort) (s : List ℕ) (a : ℕ) where
+  none-there : length s < a → read-values (q ∷ []) (fields-from s a) ≡ none
+  unfolding read-values
+  none-there h = rw (no-field s a h)
+
+  last-is : a ≤ length s → read-values (q ∷ []) (fields-from s a) ≡ both (read-field q (take (length s - a) (drop a s))) (some tt)
+  unfolding fields-from
   last-is h =
-      let g : a ≤ length s = omega arith in
-      let n : length s < next-from s a = omega (arith, next-is s a g) in
-      rw (field-is s a g, no-field s (next-from s a) n, he)
+      let t : take (length s - a) (drop a s) ≡ drop a s = take-all (length s - a) (drop a s) (omega (arith, length-drop a s)) in
+      rw (le-ltb (length s) a h, t) (one-field q (drop a s))
 
 float-of : (o : Option ℤ) (m : Bool) (n : Number) → integer o ≡ Integer.Is m n → Form.Float m n ≡ shaped′ Kind.Float (both o (some tt))
 float-of none m n e = absurd (let z : _≡_ {A = ℕ} 0 1 = cc in omega arith)
@@ -189,37 +210,48 @@ flag-of : (o : Option Bool) → flagged o ≡ flagged (Option·map (λ (vs : Val
 flag-of none = refl
 flag-of (some b) = refl
 
+module _ (s : List ℕ) (a : ℕ) where
+  pub no-float-field : length s < a → Form.Malformed ≡ shaped Kind.Float (fields-from s a)
+  unfolding shaped
+  no-float-field h = rw (none-there integer-sort s a h)
+
+  pub no-bits-field : length s < a → Form.Malformed ≡ shaped Kind.Bits (fields-from s a)
+  unfolding shaped
+  no-bits-field h = rw (none-there word-sort s a h)
+
+  module _ (h : a ≤ length s) where
+    pub float-is : (m : Bool) (n : Number) → integer (read-integer (take (length s - a) (drop a s))) ≡ Integer.Is m n → Form.Float m n ≡ shaped Kind.Float (fields-from s a)
+    unfolding shaped
+    float-is m n g = rw (last-is integer-sort s a h) (float-of (read-integer (take (length s - a) (drop a s))) m n g)
+
+    pub float-bad : integer (read-integer (take (length s - a) (drop a s))) ≡ Integer.Malformed → Form.Malformed ≡ shaped Kind.Float (fields-from s a)
+    unfolding shaped
+    float-bad g = rw (last-is integer-sort s a h) (no-float (read-integer (take (length s - a) (drop a s))) g)
+
+    pub bits-is : (n : ℕ) → word (read-word (take (length s - a) (drop a s))) ≡ Word.Is n → Form.Bits n ≡ shaped Kind.Bits (fields-from s a)
+    unfolding shaped
+    bits-is n g = rw (last-is word-sort s a h) (bits-of (read-word (take (length s - a) (drop a s))) n g)
+
+    pub bits-bad : word (read-word (take (length s - a) (drop a s))) ≡ Word.Malformed → Form.Malformed ≡ shaped Kind.Bits (fields-from s a)
+    unfolding shaped
+    bits-bad g = rw (last-is word-sort s a h) (no-bits (read-word (take (length s - a) (drop a s))) g)
+
 module _ (s : List ℕ) (a e : ℕ) (he : e ≡ end-from s a) (hs : a ≤ e) (hl : a ≤ length s → e ≤ length s) where
-  pub float-not-last : (e ≡ length s → ⊥) → Form.Malformed ≡ shaped Kind.Float (fields-from s a)
-  unfolding shaped
-  float-not-last h = rw (not-last integer-sort s a e he hs hl h)
-
-  pub bits-not-last : (e ≡ length s → ⊥) → Form.Malformed ≡ shaped Kind.Bits (fields-from s a)
-  unfolding shaped
-  bits-not-last h = rw (not-last word-sort s a e he hs hl h)
-
   pub flag-not-last : (e ≡ length s → ⊥) → Flag.Malformed ≡ flagged (only flag (fields-from s a))
-  flag-not-last h = rw (not-last flag s a e he hs hl h)
+  unfolding read-values
+  flag-not-last h = go (ltb (length s) a) refl
+    where
+      go : (t : Bool) → ltb (length s) a ≡ t → Flag.Malformed ≡ flagged (only flag (fields-from s a))
+      go true f = rw (no-field s a (ltb-true (length s) a f))
+      go false f =
+          let g = ltb-false (length s) a f in
+          let n : next-from s a ≤ length s = omega (arith, next-is s a g, hl g, h) in
+          rw (field-is s a g, field-is s (next-from s a) n, no-both {B = Values []} (read-field flag (take (end-from s a - a) (drop a s))))
 
-  module _ (h : e ≡ length s) where
-    pub float-is : (m : Bool) (n : Number) → integer (read-integer (take (e - a) (drop a s))) ≡ Integer.Is m n → Form.Float m n ≡ shaped Kind.Float (fields-from s a)
-    unfolding shaped
-    float-is m n g = rw (last-is integer-sort s a e he hs hl h) (float-of (read-integer (take (e - a) (drop a s))) m n g)
-
-    pub float-bad : integer (read-integer (take (e - a) (drop a s))) ≡ Integer.Malformed → Form.Malformed ≡ shaped Kind.Float (fields-from s a)
-    unfolding shaped
-    float-bad g = rw (last-is integer-sort s a e he hs hl h) (no-float (read-integer (take (e - a) (drop a s))) g)
-
-    pub bits-is : (n : ℕ) → word (read-word (take (e - a) (drop a s))) ≡ Word.Is n → Form.Bits n ≡ shaped Kind.Bits (fields-from s a)
-    unfolding shaped
-    bits-is n g = rw (last-is word-sort s a e he hs hl h) (bits-of (read-word (take (e - a) (drop a s))) n g)
-
-    pub bits-bad : word (read-word (take (e - a) (drop a s))) ≡ Word.Malformed → Form.Malformed ≡ shaped Kind.Bits (fields-from s a)
-    unfolding shaped
-    bits-bad g = rw (last-is word-sort s a e he hs hl h) (no-bits (read-word (take (e - a) (drop a s))) g)
-
-    pub flag-last : flagged (first flag-name (take (e - a) (drop a s)) all-flags) ≡ flagged (only flag (fields-from s a))
-    flag-last = rw (last-is flag s a e he hs hl h) (flag-of (first flag-name (take (e - a) (drop a s)) all-flags))
+  pub flag-last : e ≡ length s → flagged (first flag-name (take (e - a) (drop a s)) all-flags) ≡ flagged (only flag (fields-from s a))
+  flag-last h =
+      let l : a ≤ length s = omega arith in
+      rw (h, last-is flag s a l) (flag-of (first flag-name (take (length s - a) (drop a s)) all-flags))
 
 -- ---- a place
 

@@ -400,11 +400,10 @@ fn form_branch(s: &[u8], a: usize) -> Form
 fn form_float(s: &[u8], a: usize) -> Form
     ensures { λ r. ⌜ r ≡ shaped Kind.Float (fields-from (now (s .entry)) a) ⌝ }
 {
-    let e = text::field_end(s, a);
-    if e != s.len() {
+    if s.len() < a {
         return Form::Malformed;
     }
-    match text::read_integer(&s[a..e]) {
+    match text::read_integer(&s[a..]) {
         Integer::Is(minus, n) => Form::Float(minus, n),
         Integer::Malformed => Form::Malformed,
     }
@@ -413,11 +412,10 @@ fn form_float(s: &[u8], a: usize) -> Form
 fn form_bits(s: &[u8], a: usize) -> Form
     ensures { λ r. ⌜ r ≡ shaped Kind.Bits (fields-from (now (s .entry)) a) ⌝ }
 {
-    let e = text::field_end(s, a);
-    if e != s.len() {
+    if s.len() < a {
         return Form::Malformed;
     }
-    match text::read_word(&s[a..e]) {
+    match text::read_word(&s[a..]) {
         Word::Is(n) => Form::Bits(n),
         Word::Malformed => Form::Malformed,
     }

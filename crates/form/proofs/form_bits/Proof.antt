@@ -1,39 +1,26 @@
 use mathlib.Core.Path.{sym, _∙_}
 use denote.Ref.{now}
-use Rattle.form.proofs.Shapes.{bits-not-last, bits-is, bits-bad}
+use Rattle.form.proofs.Shapes.{no-bits-field, bits-is, bits-bad}
 use borrow.Author.Needs.{needs}
 use Rattle.form.proofs.form_bits.Statement.{statement}
 use Rattle.form.proofs.form_bits.Tie as tie
 
 returns : tie.Need-returns
-returns c =
-    let f = c .before in
-    let a = f .before .before .args in
-    bits-not-last (now (a .s)) (a .a) _ (f .field-end .ensures .0) (f .field-end .ensures .1) (f .field-end .ensures .2) (c .if1 .taken)
+returns c = no-bits-field _ _ (c .if1 .taken)
 
 returns-2 : tie.Need-returns-2
 returns-2 c =
-    let f = c .before .before .before .before .before .before in
-    let a = f .before .before .args in
-    bits-is (now (a .s)) (a .a) _ (f .field-end .ensures .0) (f .field-end .ensures .1) (f .field-end .ensures .2) (c .before .before .before .before .before .if1 .left) _ (sym (c .before .before .before .read-word .ensures) ∙ c .before .n .given .1)
+    let r = c .before .before .before in
+    let i = r .before .before in
+    let a = i .before .before .args in
+    bits-is (now (a .s)) (a .a) (i .if1 .left) _ (sym (r .read-word .ensures) ∙ c .before .n .given .1)
 
 returns-3 : tie.Need-returns-3
 returns-3 c =
-    let f = c .before .before .before .before .before in
-    let a = f .before .before .args in
-    bits-bad (now (a .s)) (a .a) _ (f .field-end .ensures .0) (f .field-end .ensures .1) (f .field-end .ensures .2) (c .before .before .before .before .if1 .left) (sym (c .before .before .read-word .ensures) ∙ c .enum-told .given .1)
+    let r = c .before .before in
+    let i = r .before .before in
+    let a = i .before .before .args in
+    bits-bad (now (a .s)) (a .a) (i .if1 .left) (sym (r .read-word .ensures) ∙ c .enum-told .given .1)
 
 pub form-bits-spec : {M : Type 1} → statement M
-form-bits-spec =
-    tie.close
-    (tie.spec
-    (λ c κs. search needs)
-    returns
-    (λ c. search needs)
-    (λ c. search needs)
-    (λ c. search needs)
-    (λ c κs. search needs)
-    (λ c. search needs)
-    (λ c. search needs)
-    returns-2
-    returns-3)
+form-bits-spec = tie.close (tie.spec returns (λ c. search needs) (λ c. search needs) (λ c. search needs) (λ c κs. search needs) (λ c. search needs) (λ c. search needs) returns-2 returns-3)

@@ -9,9 +9,6 @@ returns c =
     let b = c .before .args .c in
     simp (lt-leb 48 b (c .if1 .taken), lt-leb 97 b (omega arith))
 
-sub-result : tie.Need-sub-result
-sub-result c = search needs
-
 returns-2 : tie.Need-returns-2
 returns-2 c =
     let b = c .before .before .args .c in
@@ -21,9 +18,6 @@ returns-3 : tie.Need-returns-3
 returns-3 c =
     let b = c .before .before .before .args .c in
     simp (le-leb 48 b (omega arith), lt-leb b 57 (omega arith), lt-leb 97 b (c .if3 .taken))
-
-sub-result-2 : tie.Need-sub-result-2
-sub-result-2 c = search needs
 
 returns-4 : tie.Need-returns-4
 returns-4 c =
@@ -37,4 +31,4 @@ returns-5 c =
 
 pub digit-spec : {M : Type 1} → statement M
 digit-spec =
-    tie.close (tie.spec returns sub-result returns-2 returns-3 sub-result-2 returns-4 returns-5)
+    tie.close (tie.spec returns (λ c. search needs) returns-2 returns-3 (λ c. search needs) returns-4 returns-5)

@@ -6,21 +6,6 @@ use borrow.Author.Needs.{needs}
 use Rattle.text.proofs.further_by.Statement.{statement}
 use Rattle.text.proofs.further_by.Tie as tie
 
-enum-known-n : tie.Need-enum-known-n
-enum-known-n c = search needs
-
-enum-told : tie.Need-enum-told
-enum-told c = search needs
-
-returns : tie.Need-returns
-returns c = search needs
-
-sub-if1 : tie.Need-sub-if1
-sub-if1 c = search needs
-
-div-if1 : tie.Need-div-if1
-div-if1 c = search needs
-
 mul-t9 : tie.Need-mul-t9
 mul-t9 c = record { fits = omega (arith, under _ _ _ (c .before .before .before .before .pre .0) (c .before .before .before .before .pre .1) (c .if1 .left)) }
 
@@ -39,4 +24,4 @@ returns-3 c =
 pub further-by-spec : {M : Type 1} → statement M
 further-by-spec =
     tie.close
-    (tie.spec enum-known-n enum-told returns sub-if1 div-if1 mul-t9 add-t10 returns-2 returns-3)
+    (tie.spec (λ c. search needs) (λ c. search needs) (λ c. search needs) (λ c. search needs) (λ c. search needs) mul-t9 add-t10 returns-2 returns-3)

@@ -28,15 +28,6 @@ returns c = ends-behind _ _ (search needs)
 loop-holds : tie.Need-loop-holds Inv-loop μ-loop
 loop-holds c = (refl, search needs, λ r e. e)
 
-sub-loop : tie.Need-sub-loop Inv-loop μ-loop
-sub-loop c = search needs
-
-eight-requires : tie.Need-eight-requires Inv-loop μ-loop
-eight-requires c κs = search needs
-
-tens-requires : tie.Need-tens-requires Inv-loop μ-loop
-tens-requires c κs = search needs
-
 cast-result : tie.Need-cast-result Inv-loop μ-loop
 cast-result c = search (needs, trailing-le 64 (c .before .tens .result))
 
@@ -49,17 +40,8 @@ add-result-2 c = search (needs, trailing-le 64 (c .before .tens .result))
 returns-2 : tie.Need-returns-2 Inv-loop μ-loop
 returns-2 c = c .before .before .before .before .loop .inv .2 _ (told (c .before) .1 (c .if2 .taken))
 
-add-i : tie.Need-add-i Inv-loop μ-loop
-add-i c = search needs
-
-loop-less : tie.Need-loop-less Inv-loop μ-loop
-loop-less c = search needs
-
 loop-again : tie.Need-loop-again Inv-loop μ-loop
 loop-again c = (refl, search needs, λ r e. c .before .before .before .before .loop .inv .2 r (told (c .before) .0 (c .if2 .left) r e))
-
-line-end-bytewise-requires : tie.Need-line-end-bytewise-requires Inv-loop μ-loop
-line-end-bytewise-requires c κs = search needs
 
 returns-3 : tie.Need-returns-3 Inv-loop μ-loop
 returns-3 c = c .before .before .loop .inv .2 _ (c .line-end-bytewise .ensures)
@@ -72,15 +54,15 @@ line-end-spec =
     μ-loop
     returns
     loop-holds
-    sub-loop
-    eight-requires
-    tens-requires
+    (λ c. search needs)
+    (λ c κs. search needs)
+    (λ c κs. search needs)
     cast-result
     add-result
     add-result-2
     returns-2
-    add-i
-    loop-less
+    (λ c. search needs)
+    (λ c. search needs)
     loop-again
-    line-end-bytewise-requires
+    (λ c κs. search needs)
     returns-3)

@@ -9,22 +9,10 @@ use Rattle.text.proofs.number_at.Tie as tie
 returns : tie.Need-returns
 returns c = (rw (no-field _ _ (c .if1 .taken)), sym (next-none _ _ (c .if1 .taken)))
 
-field-end-requires : tie.Need-field-end-requires
-field-end-requires c κs = search needs
-
-sub-read-number : tie.Need-sub-read-number
-sub-read-number c = search needs
-
-part-read-number-start : tie.Need-part-read-number-start
-part-read-number-start c = search needs
-
 part-read-number-end : tie.Need-part-read-number-end
 part-read-number-end c =
     let h = c .field-end .ensures .2 (c .before .if1 .left) in
     search needs
-
-read-number-requires : tie.Need-read-number-requires
-read-number-requires c κs = search needs
 
 add-t5 : tie.Need-add-t5
 add-t5 c =
@@ -42,10 +30,10 @@ number-at-spec =
     tie.close
     (tie.spec
     returns
-    field-end-requires
-    sub-read-number
-    part-read-number-start
+    (λ c κs. search needs)
+    (λ c. search needs)
+    (λ c. search needs)
     part-read-number-end
-    read-number-requires
+    (λ c κs. search needs)
     add-t5
     returns-2)

@@ -4,17 +4,11 @@ use borrow.Author.Needs.{needs}
 use Rattle.text.proofs.odd_number.Statement.{statement}
 use Rattle.text.proofs.odd_number.Tie as tie
 
-shared-slice-read-x : tie.Need-shared-slice-read-x
-shared-slice-read-x c = search needs
-
 returns : tie.Need-returns
 returns c = no-digit _ 0 (omega (arith, c .before .before .if1 .taken)) (below _ (c .if2 .taken))
 
 returns-2 : tie.Need-returns-2
 returns-2 c = no-digit _ 0 (omega (arith, c .before .before .before .if1 .taken)) (above _ (c .if3 .taken))
-
-cast-result : tie.Need-cast-result
-cast-result c = search needs
 
 returns-3 : tie.Need-returns-3
 returns-3 c =
@@ -23,15 +17,6 @@ returns-3 c =
 
 returns-4 : tie.Need-returns-4
 returns-4 c = other-length _ (c .before .if1 .left) (c .before .before .pre) (c .if4 .taken)
-
-shared-slice-read-a : tie.Need-shared-slice-read-a
-shared-slice-read-a c = search needs
-
-shared-slice-read-b : tie.Need-shared-slice-read-b
-shared-slice-read-b c = search needs
-
-shared-slice-read-c : tie.Need-shared-slice-read-c
-shared-slice-read-c c = search needs
 
 returns-5 : tie.Need-returns-5
 returns-5 c = first-below _ (omega (arith, c .before .before .before .before .if4 .left)) (c .if5 .taken)
@@ -51,30 +36,6 @@ returns-9 c = no-digit _ 2 (omega (arith, c .before .before .before .before .bef
 returns-10 : tie.Need-returns-10
 returns-10 c = no-digit _ 2 (omega (arith, c .before .before .before .before .before .before .before .before .before .if4 .left)) (above _ (c .if10 .taken))
 
-sub-result : tie.Need-sub-result
-sub-result c = search needs
-
-cast-result-2 : tie.Need-cast-result-2
-cast-result-2 c = search needs
-
-mul-result : tie.Need-mul-result
-mul-result c = search needs
-
-cast-result-3 : tie.Need-cast-result-3
-cast-result-3 c = search needs
-
-mul-result-2 : tie.Need-mul-result-2
-mul-result-2 c = search needs
-
-add-result : tie.Need-add-result
-add-result c = search needs
-
-cast-result-4 : tie.Need-cast-result-4
-cast-result-4 c = search needs
-
-add-result-2 : tie.Need-add-result-2
-add-result-2 c = search needs
-
 returns-11 : tie.Need-returns-11
 returns-11 c =
     let a = c .before .before .before .before .before .if5 .left in
@@ -89,27 +50,27 @@ pub odd-number-spec : {M : Type 1} → statement M
 odd-number-spec =
     tie.close
     (tie.spec
-    shared-slice-read-x
+    (λ c. search needs)
     returns
     returns-2
-    cast-result
+    (λ c. search needs)
     returns-3
     returns-4
-    shared-slice-read-a
-    shared-slice-read-b
-    shared-slice-read-c
+    (λ c. search needs)
+    (λ c. search needs)
+    (λ c. search needs)
     returns-5
     returns-6
     returns-7
     returns-8
     returns-9
     returns-10
-    sub-result
-    cast-result-2
-    mul-result
-    cast-result-3
-    mul-result-2
-    add-result
-    cast-result-4
-    add-result-2
+    (λ c. search needs)
+    (λ c. search needs)
+    (λ c. search needs)
+    (λ c. search needs)
+    (λ c. search needs)
+    (λ c. search needs)
+    (λ c. search needs)
+    (λ c. search needs)
     returns-11)

@@ -6,20 +6,11 @@ use Rattle.text.proofs.read_number.Tie as tie
 returns : tie.Need-returns
 returns c = rw (empty _ (c .if1 .taken))
 
-digits-requires : tie.Need-digits-requires
-digits-requires c κs = search needs
-
 returns-2 : tie.Need-returns-2
 returns-2 c = rw (alone _ (c .before .if2 .taken)) (c .digits .ensures)
 
-shared-slice-read-if3 : tie.Need-shared-slice-read-if3
-shared-slice-read-if3 c = search needs
-
 returns-3 : tie.Need-returns-3
 returns-3 c = rw (leading _ (c .before .before .before .if1 .left) (c .before .before .if2 .left) (c .if3 .taken))
-
-digits-requires-2 : tie.Need-digits-requires-2
-digits-requires-2 c κs = search needs
 
 returns-4 : tie.Need-returns-4
 returns-4 c = rw (led _ (c .before .before .before .before .if1 .left) (c .before .before .before .if2 .left) (c .before .if3 .left)) (c .digits2 .ensures)
@@ -29,9 +20,9 @@ read-number-spec =
     tie.close
     (tie.spec
     returns
-    digits-requires
+    (λ c κs. search needs)
     returns-2
-    shared-slice-read-if3
+    (λ c. search needs)
     returns-3
-    digits-requires-2
+    (λ c κs. search needs)
     returns-4)

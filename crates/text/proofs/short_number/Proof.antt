@@ -4,18 +4,6 @@ use borrow.Author.Needs.{needs}
 use Rattle.text.proofs.short_number.Statement.{statement}
 use Rattle.text.proofs.short_number.Tie as tie
 
-odd-number-requires : tie.Need-odd-number-requires
-odd-number-requires c κs = search needs
-
-returns : tie.Need-returns
-returns c = search needs
-
-shared-slice-read-a : tie.Need-shared-slice-read-a
-shared-slice-read-a c = search needs
-
-shared-slice-read-b : tie.Need-shared-slice-read-b
-shared-slice-read-b c = search needs
-
 returns-2 : tie.Need-returns-2
 returns-2 c =
     let l = c .before .before .before in
@@ -36,21 +24,6 @@ returns-5 c =
     let l = c .before .before .before .before .before .before in
     no-digit _ 1 (omega (arith, l .if1 .left)) (above _ (c .if5 .taken))
 
-sub-result : tie.Need-sub-result
-sub-result c = search needs
-
-cast-result : tie.Need-cast-result
-cast-result c = search needs
-
-mul-result : tie.Need-mul-result
-mul-result c = search needs
-
-cast-result-2 : tie.Need-cast-result-2
-cast-result-2 c = search needs
-
-add-result : tie.Need-add-result
-add-result c = search needs
-
 returns-6 : tie.Need-returns-6
 returns-6 c =
     let l = c .before .before .before .before .before .before in
@@ -60,17 +33,17 @@ pub short-number-spec : {M : Type 1} → statement M
 short-number-spec =
     tie.close
     (tie.spec
-    odd-number-requires
-    returns
-    shared-slice-read-a
-    shared-slice-read-b
+    (λ c κs. search needs)
+    (λ c. search needs)
+    (λ c. search needs)
+    (λ c. search needs)
     returns-2
     returns-3
     returns-4
     returns-5
-    sub-result
-    cast-result
-    mul-result
-    cast-result-2
-    add-result
+    (λ c. search needs)
+    (λ c. search needs)
+    (λ c. search needs)
+    (λ c. search needs)
+    (λ c. search needs)
     returns-6)
