@@ -6,16 +6,10 @@ use Rattle.encoder.proofs.base.Reads as reads
 use Rattle.encoder.proofs.base.Lts as lts
 
 -- src/lib.rt:213:5
-mul-result : tie.Need-mul-result
-mul-result c = search needs
-
 -- src/lib.rt:213:5
-array-read-result : tie.Need-array-read-result
-array-read-result c = search needs
-
 -- src/lib.rt:209:1
 returns : tie.Need-returns
 returns c = base-word (c .args .row) (search needs)
 
 pub base-spec : {M : Type 1} → statement M
-base-spec = tie.close (tie.spec mul-result array-read-result returns)
+base-spec = tie.close (tie.spec (λ c. search needs) (λ c. search needs) returns)

@@ -6,11 +6,8 @@ use Rattle.encoder.proofs.Signs.{handed}
 use Rattle.encoder.proofs.bgt.Statement.{statement}
 use Rattle.encoder.proofs.bgt.Tie as tie
 
-btype-requires : tie.Need-btype-requires
-btype-requires c κs = search needs
-
 returns : tie.Need-returns
 returns c = handed (λ (z : ℤ). encoded (B BLT (c .before .args .rs2) (c .before .args .rs1) z)) _ (c .before .fits .imm) (c .btype .ensures)
 
 pub bgt-spec : {M : Type 1} → statement M
-bgt-spec = tie.close (tie.spec btype-requires returns)
+bgt-spec = tie.close (tie.spec (λ c κs. search needs) returns)

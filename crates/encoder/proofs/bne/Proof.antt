@@ -6,11 +6,8 @@ use Rattle.encoder.proofs.Signs.{handed}
 use Rattle.encoder.proofs.bne.Statement.{statement}
 use Rattle.encoder.proofs.bne.Tie as tie
 
-btype-requires : tie.Need-btype-requires
-btype-requires c κs = search needs
-
 returns : tie.Need-returns
 returns c = handed (λ (z : ℤ). encoded (B BNE (c .before .args .rs1) (c .before .args .rs2) z)) _ (c .before .fits .imm) (c .btype .ensures)
 
 pub bne-spec : {M : Type 1} → statement M
-bne-spec = tie.close (tie.spec btype-requires returns)
+bne-spec = tie.close (tie.spec (λ c κs. search needs) returns)

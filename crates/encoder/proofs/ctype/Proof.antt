@@ -19,17 +19,8 @@ rounded c =
     let o = rounding (c-rounding (getD c-ops (c .before .before .args .op) FSQRT-D)) (c .before .before .args .rm) in
     inside o (c .before .before .args .rd ∷ c .before .before .args .rs1 ∷ []) (passed c) (Holds-holds o (c .before .before .pre .1))
 
-registers-requires : tie.Need-registers-requires
-registers-requires c κs = search needs
-
 returns : tie.Need-returns
 returns c = bad-register _ (sym (c .before .registers .ensures) ∙ not-true _ (c .if1 .taken))
-
-add-base : tie.Need-add-base
-add-base c = search needs
-
-base-requires : tie.Need-base-requires
-base-requires c κs = search needs
 
 pack-requires : tie.Need-pack-requires
 pack-requires c κs = small _ (rounded (c .before)) _ (word-C _ _ (c .before .before .before .pre .0) (c .base .ensures) _ _ _)
@@ -39,4 +30,4 @@ returns-2 c =
     good _ (rounded (c .before .before)) _ (c .pack .ensures ∙ word-C _ _ (c .before .before .before .before .pre .0) (c .before .base .ensures) _ _ _) (passed (c .before .before))
 
 pub ctype-spec : {M : Type 1} → statement M
-ctype-spec = tie.close (tie.spec registers-requires returns add-base base-requires pack-requires returns-2)
+ctype-spec = tie.close (tie.spec (λ c κs. search needs) returns (λ c. search needs) (λ c κs. search needs) pack-requires returns-2)

@@ -8,17 +8,8 @@ use Rattle.encoder.proofs.Answers.{bad-register, bad-value, outside}
 use Rattle.encoder.proofs.fadd_d_rm.Statement.{statement}
 use Rattle.encoder.proofs.fadd_d_rm.Tie as tie
 
-rounding-requires : tie.Need-rounding-requires
-rounding-requires c κs = search needs
-
 ftype-requires : tie.Need-ftype-requires
 ftype-requires c κs = (lit< tt, true-T _ (sym (c .before .rounding .ensures) ∙ c .if1 .taken))
-
-returns : tie.Need-returns
-returns c = search needs
-
-registers-requires : tie.Need-registers-requires
-registers-requires c κs = search needs
 
 returns-2 : tie.Need-returns-2
 returns-2 c =
@@ -29,4 +20,4 @@ returns-3 : tie.Need-returns-3
 returns-3 c = bad-register _ (sym (c .before .registers .ensures) ∙ c .if2 .left)
 
 pub fadd-d-rm-spec : {M : Type 1} → statement M
-fadd-d-rm-spec = tie.close (tie.spec rounding-requires ftype-requires returns registers-requires returns-2 returns-3)
+fadd-d-rm-spec = tie.close (tie.spec (λ c κs. search needs) ftype-requires (λ c. search needs) (λ c κs. search needs) returns-2 returns-3)

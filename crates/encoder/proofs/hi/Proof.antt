@@ -9,16 +9,10 @@ use Rattle.isa.specs.Immediate.{hi}
 use Rattle.encoder.proofs.hi.Statement.{statement}
 use Rattle.encoder.proofs.hi.Tie as tie
 
-add-result : tie.Need-add-result
-add-result c = search needs
-
-cast-result : tie.Need-cast-result
-cast-result c = search needs
-
 returns : tie.Need-returns
 returns c =
     let e : (c .args .x / 2048 + 1) / 2 % 1048576 ≡ hi (c .args .x) = omega arith in
     toZ-pos w32 ((c .args .x / 2048 + 1) / 2 % 1048576) (omega arith) ∙ ap pos e
 
 pub hi-spec : {M : Type 1} → statement M
-hi-spec = tie.close (tie.spec add-result cast-result returns)
+hi-spec = tie.close (tie.spec (λ c. search needs) (λ c. search needs) returns)

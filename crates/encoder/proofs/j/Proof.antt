@@ -6,11 +6,8 @@ use Rattle.encoder.proofs.Signs.{handed}
 use Rattle.encoder.proofs.j.Statement.{statement}
 use Rattle.encoder.proofs.j.Tie as tie
 
-jtype-requires : tie.Need-jtype-requires
-jtype-requires c κs = search needs
-
 returns : tie.Need-returns
 returns c = handed (λ (z : ℤ). encoded (J JAL 0 z)) _ (c .before .fits .imm) (c .jtype .ensures)
 
 pub j-spec : {M : Type 1} → statement M
-j-spec = tie.close (tie.spec jtype-requires returns)
+j-spec = tie.close (tie.spec (λ c κs. search needs) returns)

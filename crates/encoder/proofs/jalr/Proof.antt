@@ -6,11 +6,8 @@ use Rattle.encoder.proofs.Signs.{handed}
 use Rattle.encoder.proofs.jalr.Statement.{statement}
 use Rattle.encoder.proofs.jalr.Tie as tie
 
-itype-requires : tie.Need-itype-requires
-itype-requires c κs = search needs
-
 returns : tie.Need-returns
 returns c = handed (λ (z : ℤ). encoded (I JALR (c .before .args .rd) (c .before .args .rs1) z)) _ (c .before .fits .imm) (c .itype .ensures)
 
 pub jalr-spec : {M : Type 1} → statement M
-jalr-spec = tie.close (tie.spec itype-requires returns)
+jalr-spec = tie.close (tie.spec (λ c κs. search needs) returns)

@@ -23,17 +23,8 @@ module _ (k : ℕ) (h : k < 2048) where
   fits : SFits w32 (negsuc 0 -ℤ toZ w32 k)
   fits = subst (SFits w32) (sym value) (record { sfits = omega arith })
 
-cast-result : tie.Need-cast-result
-cast-result c = search needs
-
 returns : tie.Need-returns
 returns c = simp (lt-ltb _ _ (c .if1 .taken)) (toZ-pos w32 (c .before .args .x % 4096) (omega arith))
-
-sub-m : tie.Need-sub-m
-sub-m c = search needs
-
-cast-s : tie.Need-cast-s
-cast-s c = search needs
 
 sub-result : tie.Need-sub-result
 sub-result c = fits (4095 - c .before .args .x % 4096) (omega arith)
@@ -44,4 +35,4 @@ returns-2 c =
     simp (le-ltb _ _ (c .if1 .left)) (toZ-ofZ w32 _ (fits k (omega arith)) ∙ value k (omega arith))
 
 pub lo-spec : {M : Type 1} → statement M
-lo-spec = tie.close (tie.spec cast-result returns sub-m cast-s sub-result returns-2)
+lo-spec = tie.close (tie.spec (λ c. search needs) returns (λ c. search needs) (λ c. search needs) sub-result returns-2)

@@ -6,11 +6,8 @@ use Rattle.encoder.proofs.Signs.{handed}
 use Rattle.encoder.proofs.lui.Statement.{statement}
 use Rattle.encoder.proofs.lui.Tie as tie
 
-utype-requires : tie.Need-utype-requires
-utype-requires c κs = search needs
-
 returns : tie.Need-returns
 returns c = handed (λ (z : ℤ). encoded (U LUI (c .before .args .rd) z)) _ (c .before .fits .imm) (c .utype .ensures)
 
 pub lui-spec : {M : Type 1} → statement M
-lui-spec = tie.close (tie.spec utype-requires returns)
+lui-spec = tie.close (tie.spec (λ c κs. search needs) returns)

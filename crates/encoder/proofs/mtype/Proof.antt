@@ -11,17 +11,8 @@ use Rattle.encoder.proofs.mtype.Tie as tie
 passed : (c : tie.Else1) → registers-hold (register (c .before .before .args .rd) ∷ register (c .before .before .args .rs1) ∷ []) ≡ true
 passed c = sym (c .before .registers .ensures) ∙ not-false _ (c .if1 .left)
 
-registers-requires : tie.Need-registers-requires
-registers-requires c κs = search needs
-
 returns : tie.Need-returns
 returns c = bad-register _ (sym (c .before .registers .ensures) ∙ not-true _ (c .if1 .taken))
-
-add-base : tie.Need-add-base
-add-base c = search needs
-
-base-requires : tie.Need-base-requires
-base-requires c κs = search needs
 
 pack-requires : tie.Need-pack-requires
 pack-requires c κs = small _ (passed (c .before)) _ (word-M _ _ (c .before .before .before .pre) (c .base .ensures) _ _)
@@ -31,4 +22,4 @@ returns-2 c =
     good _ (passed (c .before .before)) _ (c .pack .ensures ∙ word-M _ _ (c .before .before .before .before .pre) (c .before .base .ensures) _ _) (passed (c .before .before))
 
 pub mtype-spec : {M : Type 1} → statement M
-mtype-spec = tie.close (tie.spec registers-requires returns add-base base-requires pack-requires returns-2)
+mtype-spec = tie.close (tie.spec (λ c κs. search needs) returns (λ c. search needs) (λ c κs. search needs) pack-requires returns-2)

@@ -11,15 +11,6 @@ came : (c : tie.After-signed-field) → c .signed-field .result ≡ signed-field
 came c =
     handed (λ (z : ℤ). signed-field (c .before .args .half) (sign-of z)) _ (c .before .fits .imm) (c .signed-field .ensures)
 
-signed-field-requires : tie.Need-signed-field-requires
-signed-field-requires c κs = search needs
-
-enum-known-n : tie.Need-enum-known-n
-enum-known-n c = search needs
-
-enum-told : tie.Need-enum-told
-enum-told c = search needs
-
 returns : tie.Need-returns
 returns c = ap even-field (sym (c .enum-told .given .1) ∙ came (c .before .before))
 
@@ -30,4 +21,4 @@ returns-3 : tie.Need-returns-3
 returns-3 c = rw (sym (came (c .before .before .before .before)) ∙ c .before .before .n .given .1, ne-eqb _ _ (c .if1 .left))
 
 pub offset-field-spec : {M : Type 1} → statement M
-offset-field-spec = tie.close (tie.spec signed-field-requires enum-known-n enum-told returns returns-2 returns-3)
+offset-field-spec = tie.close (tie.spec (λ c κs. search needs) (λ c. search needs) (λ c. search needs) returns returns-2 returns-3)

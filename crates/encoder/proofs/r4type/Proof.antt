@@ -12,17 +12,8 @@ use Rattle.encoder.proofs.r4type.Tie as tie
 passed : (c : tie.Else1) → registers-hold (register (c .before .before .args .rd) ∷ register (c .before .before .args .rs1) ∷ register (c .before .before .args .rs2) ∷ register (c .before .before .args .rs3) ∷ []) ≡ true
 passed c = sym (c .before .registers .ensures) ∙ not-false _ (c .if1 .left)
 
-registers-requires : tie.Need-registers-requires
-registers-requires c κs = search needs
-
 returns : tie.Need-returns
 returns c = bad-register _ (sym (c .before .registers .ensures) ∙ not-true _ (c .if1 .taken))
-
-add-base : tie.Need-add-base
-add-base c = search needs
-
-base-requires : tie.Need-base-requires
-base-requires c κs = search needs
 
 mul-pack : tie.Need-mul-pack
 mul-pack c = omega (arith, fourth (c .before .before .before .args .rd) (c .before .before .before .args .rs1) (c .before .before .before .args .rs2) (c .before .before .before .args .rs3) (passed (c .before)))
@@ -35,4 +26,4 @@ returns-2 c =
     good _ (passed (c .before .before)) _ (c .pack .ensures ∙ word-R4 _ _ (c .before .before .before .before .pre) (c .before .base .ensures) _ _ _ _) (passed (c .before .before))
 
 pub r4type-spec : {M : Type 1} → statement M
-r4type-spec = tie.close (tie.spec registers-requires returns add-base base-requires mul-pack pack-requires returns-2)
+r4type-spec = tie.close (tie.spec (λ c κs. search needs) returns (λ c. search needs) (λ c κs. search needs) mul-pack pack-requires returns-2)

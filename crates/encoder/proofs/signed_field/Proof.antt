@@ -10,24 +10,6 @@ use Rattle.encoder.proofs.signed_field.Tie as tie
 came : (c : tie.After-split) → c .split .result ≡ sign-of (c .before .args .imm)
 came c = handed sign-of (c .before .args .imm) (c .before .fits .imm) (c .split .ensures)
 
-split-requires : tie.Need-split-requires
-split-requires c κs = search needs
-
-enum-known-s : tie.Need-enum-known-s
-enum-known-s c = search needs
-
-enum-known-s-2 : tie.Need-enum-known-s-2
-enum-known-s-2 c = search needs
-
-add-t11 : tie.Need-add-t11
-add-t11 c = search needs
-
-sub-t12 : tie.Need-sub-t12
-sub-t12 c = search needs
-
-sub-t13 : tie.Need-sub-t13
-sub-t13 c = search needs
-
 returns : tie.Need-returns
 returns c = (low _ _ _ (sym (came (c .before .before .before .before)) ∙ c .before .before .s .given .1) (c .if1 .taken)) .0
 
@@ -42,4 +24,4 @@ returns-4 c = deep _ _ _ (sym (came (c .before .before .before .before)) ∙ c .
 
 pub signed-field-spec : {M : Type 1} → statement M
 signed-field-spec =
-    tie.close (tie.spec split-requires enum-known-s enum-known-s-2 add-t11 sub-t12 sub-t13 returns returns-2 returns-3 returns-4)
+    tie.close (tie.spec (λ c κs. search needs) (λ c. search needs) (λ c. search needs) (λ c. search needs) (λ c. search needs) (λ c. search needs) returns returns-2 returns-3 returns-4)

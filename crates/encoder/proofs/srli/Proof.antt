@@ -6,11 +6,8 @@ use Rattle.encoder.proofs.Signs.{handed}
 use Rattle.encoder.proofs.srli.Statement.{statement}
 use Rattle.encoder.proofs.srli.Tie as tie
 
-shift-requires : tie.Need-shift-requires
-shift-requires c κs = search needs
-
 returns : tie.Need-returns
 returns c = handed (λ (z : ℤ). encoded (Shift SRLI (c .before .args .rd) (c .before .args .rs1) z)) _ (c .before .fits .shamt) (c .shift .ensures)
 
 pub srli-spec : {M : Type 1} → statement M
-srli-spec = tie.close (tie.spec shift-requires returns)
+srli-spec = tie.close (tie.spec (λ c κs. search needs) returns)

@@ -10,15 +10,6 @@ use Rattle.encoder.proofs.unsigned_field.Tie as tie
 came : (c : tie.After-split) → c .split .result ≡ sign-of (c .before .args .imm)
 came c = handed sign-of (c .before .args .imm) (c .before .fits .imm) (c .split .ensures)
 
-split-requires : tie.Need-split-requires
-split-requires c κs = search needs
-
-enum-known-s : tie.Need-enum-known-s
-enum-known-s c = search needs
-
-enum-told : tie.Need-enum-told
-enum-told c = search needs
-
 returns : tie.Need-returns
 returns c = (low _ _ _ (sym (came (c .before .before .before .before)) ∙ c .before .before .s .given .1) (c .if1 .taken)) .1
 
@@ -29,4 +20,4 @@ returns-3 : tie.Need-returns-3
 returns-3 c = negative _ _ (_, sym (came (c .before .before)) ∙ c .enum-told .given .1)
 
 pub unsigned-field-spec : {M : Type 1} → statement M
-unsigned-field-spec = tie.close (tie.spec split-requires enum-known-s enum-told returns returns-2 returns-3)
+unsigned-field-spec = tie.close (tie.spec (λ c κs. search needs) (λ c. search needs) (λ c. search needs) returns returns-2 returns-3)
