@@ -9,17 +9,15 @@ import random
 import sys
 
 from generate import decks
-from record import deck_rows, hashed, row
+from record import accepted_row, deck_rows, refused_row
 from reference import CODE, Refused, routine
 
 
 def answer_row(deck, size):
     try:
-        told = routine(deck, size)
+        return accepted_row(routine(deck, size), size)
     except Refused as r:
-        return row("r", [size, 0, r.number, r.line, 0, 0, *hashed([])])
-    frame = 1 if told.head.frame == "fast" else 2
-    return row("r", [size, frame, 4 * len(told.words), told.offset, told.constants, told.jumps, *hashed(told.words)])
+        return refused_row(r.number, r.line, size)
 
 
 def main():

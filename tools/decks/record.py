@@ -10,7 +10,8 @@ row says so. Refused decks come from refused.py, with document 01's numbers. ref
 A row has 128 bytes: a letter, numbers of eight hexadecimal digits, text, spaces, byte 10.
     d times count text              count bytes more of the deck, so many times; a tilde is a line's end
     b times value                   one byte more, so many times: those that a text can't have
-    r size 0 number line 0 0 hash   the deck, in a buffer of so many bytes, is refused; behind the numbers the sentence that says so
+    s sentence                      the sentence that the refusal in the next row rests on
+    r size 0 number line 0 0 hash   the deck, in a buffer of so many bytes, is refused
     r size frame length offset constants jumps hash
                                     the deck is accepted: frame is 1 fast or 2 indirect; length, the constants' offset and count, the count of jumps;
                                     behind the numbers `sign` where document 01's words for it are among them
@@ -83,10 +84,18 @@ def hashed(words):
     return [h >> 32, h % 2**32]
 
 
+def accepted_row(told, size, note=""):
+    frame = 1 if told.head.frame == "fast" else 2
+    return row("r", [size, frame, 4 * len(told.words), told.offset, told.constants, told.jumps, *hashed(told.words)], note)
+
+
+def refused_row(number, line, size):
+    return row("r", [size, 0, number, line, 0, 0, *hashed([])])
+
+
 def accepted_rows(deck, size, words, told, signs):
     assert words == told.words, deck
-    frame = 1 if told.head.frame == "fast" else 2
-    yield row("r", [size, frame, 4 * len(words), told.offset, told.constants, told.jumps, *hashed(words)], "sign" if signs else "")
+    yield accepted_row(told, size, "sign" if signs else "")
     if len(words) <= SPELLED:
         for i in range(0, len(words), WORDS):
             part = words[i : i + WORDS]
@@ -99,11 +108,6 @@ def agreed(deck, number, line, size):
     except Refused as r:
         return (r.number, r.line) == (number, line)
     return False
-
-
-def short(sentence):
-    """As much of a sentence as a row has room for."""
-    return sentence if len(sentence) <= 52 else sentence[:50].rsplit(" ", 1)[0] + " .."
 
 
 def made(rust_folder):
@@ -124,7 +128,7 @@ def made(rust_folder):
     for deck, number, line, size, sentence in bad:
         if not agreed(deck, number, line, size):
             sys.exit(f"the reference differs: {number} at line {line}, {sentence}")
-        rows += deck_rows(deck) + [row("r", [size, 0, number, line, 0, 0, *hashed([])], short(sentence))]
+        rows += deck_rows(deck) + [row("s", [], sentence), refused_row(number, line, size)]
     return "".join(rows), f"{len(decks)} accepted, {len(bad)} refused, 0 mismatches\n", set_apart
 
 

@@ -170,6 +170,7 @@ pub fn row(s: &[u8], n: usize, file: &mut [u8; ROOM], buf: &mut [u8; ROOM]) -> C
     match crate::row::letter(s) {
         b'd' => came_to(Outcome::Other, crate::piece::text(s, n, file)),
         b'b' => came_to(Outcome::Other, crate::piece::byte(s, n, file)),
+        b's' => came_to(Outcome::Other, n),
         b'r' => came_to(judged(s, answered(s, n, file, buf)), 0),
         b'w' => {
             if spelled(s, buf) {
