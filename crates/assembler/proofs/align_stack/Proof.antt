@@ -4,12 +4,6 @@ use Rattle.assembler.specs.Constant.{aligned}
 use Rattle.assembler.proofs.align_stack.Statement.{statement}
 use Rattle.assembler.proofs.align_stack.Tie as tie
 
-add-t3 : tie.Need-add-t3
-add-t3 c = search needs
-
-sub-t5 : tie.Need-sub-t5
-sub-t5 c = search needs
-
 returns : tie.Need-returns
 unfolding aligned
 returns c = simp (le-leb _ _ (c .if1 .taken))
@@ -19,4 +13,4 @@ unfolding aligned
 returns-2 c = simp (lt-leb _ _ (c .if1 .left))
 
 pub align-stack-spec : {M : Type 1} → statement M
-align-stack-spec = tie.close (tie.spec add-t3 sub-t5 returns returns-2)
+align-stack-spec = tie.close (tie.spec (λ c. search needs) (λ c. search needs) returns returns-2)

@@ -7,12 +7,6 @@ use Rattle.assembler.proofs.Steps.{put-refused, put-done, constant-refu
 use Rattle.assembler.proofs.append_const.Statement.{statement}
 use Rattle.assembler.proofs.append_const.Tie as tie
 
-bits-of-requires : tie.Need-bits-of-requires
-bits-of-requires c κs = search needs
-
-number-requires : tie.Need-number-requires
-number-requires c κs = search needs
-
 refused-with-requires : tie.Need-refused-with-requires
 refused-with-requires c κs =
     let nz : c .number .result ≡ 0 → ⊥ = λ e. omega (arith, c .number .ensures .2 e) in
@@ -22,24 +16,6 @@ returns : tie.Need-returns
 returns c =
     let a = c .before .before .before .before .before .args in
     put-refused _ _ _ _ (c .refused-with .result) _ (constant-refused (a .k) (a .c) (state (a .asm) (now (a .labels)) (now (a .jumps)) (now (a .buf))) _ (c .before .before .if1 .taken) (c .before .number .ensures .0)) (λ e. omega (arith, c .before .number .ensures .2 e)) (c .refused-with .ensures)
-
-add-i : tie.Need-add-i
-add-i c = search needs
-
-mul-label-set : tie.Need-mul-label-set
-mul-label-set c = search needs
-
-element-copy-out-label-set : tie.Need-element-copy-out-label-set
-element-copy-out-label-set c = search needs
-
-label-set-requires : tie.Need-label-set-requires
-label-set-requires c κs = search needs
-
-number-requires-2 : tie.Need-number-requires-2
-number-requires-2 c κs = search needs
-
-refused-with-requires-2 : tie.Need-refused-with-requires-2
-refused-with-requires-2 c κs = search needs
 
 returns-2 : tie.Need-returns-2
 returns-2 c =
@@ -57,9 +33,6 @@ put-quad-requires c κs =
 add-t15 : tie.Need-add-t15
 add-t15 c = omega (arith, c .before .before .before .before .before .before .before .number2 .ensures .2 (c .before .before .before .before .before .before .if2 .left))
 
-same-length : tie.Need-same-length
-same-length c = search needs
-
 returns-3 : tie.Need-returns-3
 returns-3 c =
     let a = c .before .before .before .before .before .before .before .before .before .before .before .before .before .args in
@@ -72,19 +45,19 @@ pub append-const-spec : {M : Type 1} → statement M
 append-const-spec =
     tie.close
     (tie.spec
-    bits-of-requires
-    number-requires
+    (λ c κs. search needs)
+    (λ c κs. search needs)
     refused-with-requires
     returns
-    add-i
-    mul-label-set
-    element-copy-out-label-set
-    label-set-requires
-    number-requires-2
-    refused-with-requires-2
+    (λ c. search needs)
+    (λ c. search needs)
+    (λ c. search needs)
+    (λ c κs. search needs)
+    (λ c κs. search needs)
+    (λ c κs. search needs)
     returns-2
     mark-requires
     put-quad-requires
     add-t15
-    same-length
+    (λ c. search needs)
     returns-3)

@@ -9,15 +9,6 @@ use Rattle.assembler.proofs.Steps.{settled-yes, settled-refused}
 use Rattle.assembler.proofs.ask.Statement.{statement}
 use Rattle.assembler.proofs.ask.Tie as tie
 
-known-requires : tie.Need-known-requires
-known-requires c κs = search needs
-
-number-requires : tie.Need-number-requires
-number-requires c κs = search needs
-
-refused-with-requires : tie.Need-refused-with-requires
-refused-with-requires c κs = search needs
-
 -- the number is the whole's
 told : (c : tie.After-number) → let a = c .before .before .args in c .number .result ≡ verdict (cond (leb (a .fault) 12) (a .fault) 2) (a .taken) (a .words) (a .jumps) (a .n) (a .asm)
 told c =
@@ -37,4 +28,4 @@ returns-2 c ls js b =
     sym (ap (λ (k : ℕ). settled k s s) (sym (told n) ∙ c .if1 .left) ∙ settled-yes s s)
 
 pub ask-spec : {M : Type 1} → statement M
-ask-spec = tie.close (tie.spec known-requires number-requires refused-with-requires returns returns-2)
+ask-spec = tie.close (tie.spec (λ c κs. search needs) (λ c κs. search needs) (λ c κs. search needs) returns returns-2)

@@ -6,14 +6,8 @@ use Rattle.assembler.proofs.Tests.{not-nan, is-nan}
 use Rattle.assembler.proofs.bits_of.Statement.{statement}
 use Rattle.assembler.proofs.bits_of.Tie as tie
 
-enum-known-c : tie.Need-enum-known-c
-enum-known-c c = search needs
-
 float-to-bits-result : tie.Need-float-to-bits-result
 float-to-bits-result c = not-nan (c .before .before .c .given .0 .0) (c .if1 .taken)
-
-enum-known-c-2 : tie.Need-enum-known-c-2
-enum-known-c-2 c = search needs
 
 returns : tie.Need-returns
 returns c = sym (ap constant-bits (c .before .before .c .given .1))
@@ -22,10 +16,7 @@ returns-2 : tie.Need-returns-2
 unfolding toBits
 returns-2 c = sym (ap constant-bits (c .before .before .c .given .1) ∙ ap (toBits binary64) (is-nan (c .before .before .c .given .0 .0) (c .if1 .left)))
 
-returns-3 : tie.Need-returns-3
-returns-3 c = search needs
-
 pub bits-of-spec : {M : Type 1} → statement M
 bits-of-spec =
     tie.close
-    (tie.spec enum-known-c float-to-bits-result enum-known-c-2 returns returns-2 returns-3)
+    (tie.spec (λ c. search needs) float-to-bits-result (λ c. search needs) returns returns-2 (λ c. search needs))

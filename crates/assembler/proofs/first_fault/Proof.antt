@@ -3,12 +3,6 @@ use borrow.Author.Needs.{needs}
 use Rattle.assembler.proofs.first_fault.Statement.{statement}
 use Rattle.assembler.proofs.first_fault.Tie as tie
 
-rank-of-requires : tie.Need-rank-of-requires
-rank-of-requires c κs = search needs
-
-rank-of-requires-2 : tie.Need-rank-of-requires-2
-rank-of-requires-2 c κs = search needs
-
 returns : tie.Need-returns
 returns c =
     let e = c .before .before .rank-of .ensures in
@@ -22,4 +16,4 @@ returns-2 c =
     rw (← e, ← g) (simp (le-ltb _ _ (c .if1 .left)))
 
 pub first-fault-spec : {M : Type 1} → statement M
-first-fault-spec = tie.close (tie.spec rank-of-requires rank-of-requires-2 returns returns-2)
+first-fault-spec = tie.close (tie.spec (λ c κs. search needs) (λ c κs. search needs) returns returns-2)

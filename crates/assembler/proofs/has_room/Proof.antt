@@ -7,9 +7,6 @@ use Rattle.assembler.proofs.Tests.{no}
 use Rattle.assembler.proofs.has_room.Statement.{statement}
 use Rattle.assembler.proofs.has_room.Tie as tie
 
-counts-requires : tie.Need-counts-requires
-counts-requires c κs = search needs
-
 returns : tie.Need-returns
 returns c = (no-length _ _ _ _ _ (c .before .counts .ensures .0) (c .if1 .taken), λ e. no e)
 
@@ -27,4 +24,4 @@ returns-4 c =
     (room-test _ _ _ _ _ (r .0) (c .before .before .if1 .left) (c .before .if2 .left) (c .if3 .left), λ e. omega (arith, leb-true (a .jumps) (4096 - a .asm .jumps) e, r))
 
 pub has-room-spec : {M : Type 1} → statement M
-has-room-spec = tie.close (tie.spec counts-requires returns returns-2 returns-3 returns-4)
+has-room-spec = tie.close (tie.spec (λ c κs. search needs) returns returns-2 returns-3 returns-4)

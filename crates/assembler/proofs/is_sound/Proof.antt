@@ -6,9 +6,6 @@ use Rattle.assembler.proofs.Tests.{no}
 use Rattle.assembler.proofs.is_sound.Statement.{statement}
 use Rattle.assembler.proofs.is_sound.Tie as tie
 
-counts-requires : tie.Need-counts-requires
-counts-requires c κs = search needs
-
 returns : tie.Need-returns
 unfolding sound
 returns c = (rw (← c .before .counts .ensures .0) (simp (lt-leb _ _ (c .if1 .taken))), λ e. no e)
@@ -25,4 +22,4 @@ returns-3 c = (
 )
 
 pub is-sound-spec : {M : Type 1} → statement M
-is-sound-spec = tie.close (tie.spec counts-requires returns returns-2 returns-3)
+is-sound-spec = tie.close (tie.spec (λ c κs. search needs) returns returns-2 returns-3)

@@ -6,15 +6,6 @@ use Rattle.assembler.proofs.Steps.{put-refused, put-done}
 use Rattle.assembler.proofs.jump.Statement.{statement}
 use Rattle.assembler.proofs.jump.Tie as tie
 
-fault-of-requires : tie.Need-fault-of-requires
-fault-of-requires c κs = search needs
-
-number-requires : tie.Need-number-requires
-number-requires c κs = search needs
-
-refused-with-requires : tie.Need-refused-with-requires
-refused-with-requires c κs = search needs
-
 returns : tie.Need-returns
 unfolding words jumps labels twice
 returns c =
@@ -24,9 +15,6 @@ returns c =
 reserve-requires : tie.Need-reserve-requires
 reserve-requires c κs =
     omega (arith, c .before .before .before .number .ensures .2 (c .before .before .if1 .left))
-
-same-length : tie.Need-same-length
-same-length c = search needs
 
 returns-2 : tie.Need-returns-2
 unfolding words jumps labels twice placed place
@@ -38,10 +26,10 @@ pub jump-spec : {M : Type 1} → statement M
 jump-spec =
     tie.close
     (tie.spec
-    fault-of-requires
-    number-requires
-    refused-with-requires
+    (λ c κs. search needs)
+    (λ c κs. search needs)
+    (λ c κs. search needs)
     returns
     reserve-requires
-    same-length
+    (λ c. search needs)
     returns-2)

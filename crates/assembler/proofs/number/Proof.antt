@@ -14,9 +14,6 @@ returns-2 c = (v-register _ _ _ _ _ _ (c .before .if1 .left) (c .if2 .taken), se
 returns-3 : tie.Need-returns-3
 returns-3 c = (v-label _ _ _ _ _ _ (c .before .before .if1 .left) (c .before .if2 .left) (c .if3 .taken), search needs, λ e. absurd (omega arith))
 
-is-sound-requires : tie.Need-is-sound-requires
-is-sound-requires c κs = search needs
-
 returns-4 : tie.Need-returns-4
 returns-4 c =
     let d = c .before .before in
@@ -26,9 +23,6 @@ returns-5 : tie.Need-returns-5
 returns-5 c =
     let d = c .before .before .before in
     (v-twice _ _ _ _ _ _ (d .before .before .before .if1 .left) (d .before .before .if2 .left) (d .before .if3 .left) (sym (d .is-sound .ensures .0) ∙ c .before .before .if4 .taken) (c .before .if5 .left) (c .if6 .taken), search needs, λ e. absurd (omega arith))
-
-has-room-requires : tie.Need-has-room-requires
-has-room-requires c κs = search needs
 
 returns-6 : tie.Need-returns-6
 returns-6 c =
@@ -52,10 +46,10 @@ number-spec =
     returns
     returns-2
     returns-3
-    is-sound-requires
+    (λ c κs. search needs)
     returns-4
     returns-5
-    has-room-requires
+    (λ c κs. search needs)
     returns-6
     returns-7
     returns-8)

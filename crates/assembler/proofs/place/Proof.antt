@@ -14,32 +14,11 @@ use Rattle.assembler.proofs.place.Tie as tie
 twelve : (s : tie.Start) → length (s .args .p .w) ≡ 12
 twelve s = search needs
 
-at-most-requires : tie.Need-at-most-requires
-at-most-requires c κs = search needs
-
-tail-count-requires : tie.Need-tail-count-requires
-tail-count-requires c κs = search needs
-
-known-requires : tie.Need-known-requires
-known-requires c κs = search needs
-
-fault-of-tail-requires : tie.Need-fault-of-tail-requires
-fault-of-tail-requires c κs = search needs
-
-first-fault-requires : tie.Need-first-fault-requires
-first-fault-requires c κs = search needs
-
-add-number : tie.Need-add-number
-add-number c = search needs
-
 number-requires : tie.Need-number-requires
 number-requires c κs =
     let e = c .first-fault .ensures in
     let t : c .before .fault-of-tail .result ≤ 12 = omega (arith, c .before .fault-of-tail .ensures .1) in
     rw e (earlier-small _ _ 12 (c .before .before .known .ensures .1) t)
-
-refused-with-requires : tie.Need-refused-with-requires
-refused-with-requires c κs = search needs
 
 returns : tie.Need-returns
 returns c =
@@ -53,9 +32,6 @@ put-words-requires : tie.Need-put-words-requires
 put-words-requires c κs =
     omega (arith, c .before .before .before .number .ensures .2 (c .before .before .if1 .left))
 
-mul-t18 : tie.Need-mul-t18
-mul-t18 c = search needs
-
 add-t19 : tie.Need-add-t19
 add-t19 c = omega (arith, c .before .before .before .before .before .before .number .ensures .2 (c .before .before .before .before .before .if1 .left))
 
@@ -64,9 +40,6 @@ reserve-tail-requires c κs =
     let j = c .before .before .before .before .before .before .before .before .before .before .before .before .tail-count .ensures .0 in
     let h = c .before .before .before .before .before .before .before .before .number .ensures .2 (c .before .before .before .before .before .before .before .if1 .left) in
     omega (arith, h, j)
-
-same-length : tie.Need-same-length
-same-length c = search needs
 
 returns-2 : tie.Need-returns-2
 returns-2 c =
@@ -81,18 +54,18 @@ pub place-spec : {M : Type 1} → statement M
 place-spec =
     tie.close
     (tie.spec
-    at-most-requires
-    tail-count-requires
-    known-requires
-    fault-of-tail-requires
-    first-fault-requires
-    add-number
+    (λ c κs. search needs)
+    (λ c κs. search needs)
+    (λ c κs. search needs)
+    (λ c κs. search needs)
+    (λ c κs. search needs)
+    (λ c. search needs)
     number-requires
-    refused-with-requires
+    (λ c κs. search needs)
     returns
     put-words-requires
-    mul-t18
+    (λ c. search needs)
     add-t19
     reserve-tail-requires
-    same-length
+    (λ c. search needs)
     returns-2)

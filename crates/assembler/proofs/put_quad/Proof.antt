@@ -8,24 +8,6 @@ use Rattle.assembler.proofs.Writes.{written-cons}
 use Rattle.assembler.proofs.put_quad.Statement.{statement}
 use Rattle.assembler.proofs.put_quad.Tie as tie
 
-cast-put-word : tie.Need-cast-put-word
-cast-put-word c = search needs
-
-put-word-requires : tie.Need-put-word-requires
-put-word-requires c κs = search needs
-
-add-put-word : tie.Need-add-put-word
-add-put-word c = search needs
-
-cast-put-word-2 : tie.Need-cast-put-word-2
-cast-put-word-2 c = search needs
-
-put-word-requires-2 : tie.Need-put-word-requires-2
-put-word-requires-2 c κs = search needs
-
-same-length : tie.Need-same-length
-same-length c = search needs
-
 returns : tie.Need-returns
 returns c =
     let p = c .before .before .before .before .before .before in
@@ -38,10 +20,10 @@ pub put-quad-spec : {M : Type 1} → statement M
 put-quad-spec =
     tie.close
     (tie.spec
-    cast-put-word
-    put-word-requires
-    add-put-word
-    cast-put-word-2
-    put-word-requires-2
-    same-length
+    (λ c. search needs)
+    (λ c κs. search needs)
+    (λ c. search needs)
+    (λ c. search needs)
+    (λ c κs. search needs)
+    (λ c. search needs)
     returns)

@@ -6,19 +6,10 @@ use Rattle.assembler.specs.Put.{placed, place}
 use Rattle.assembler.proofs.reserve_tail.Statement.{statement}
 use Rattle.assembler.proofs.reserve_tail.Tie as tie
 
-enum-told : tie.Need-enum-told
-enum-told c = search needs
-
-enum-known-t : tie.Need-enum-known-t
-enum-known-t c = search needs
-
 reserve-requires : tie.Need-reserve-requires
 reserve-requires c κs =
     let h = rw (c .before .before .before .t .given .1) at (c .before .before .before .before .before .before .pre) in
     omega (arith, h)
-
-enum-known-t-2 : tie.Need-enum-known-t-2
-enum-known-t-2 c = search needs
 
 reserve-requires-2 : tie.Need-reserve-requires-2
 reserve-requires-2 c κs =
@@ -34,15 +25,9 @@ returns : tie.Need-returns
 unfolding placed
 returns c = λ ls. let e : c .before .before .before .args .t ≡ Nothing = c .enum-told .given .1 in rw e
 
-same-length : tie.Need-same-length
-same-length c = search needs
-
 returns-2 : tie.Need-returns-2
 unfolding placed place
 returns-2 c = λ ls. rw (c .before .before .before .before .before .before .t .given .1) (c .before .before .reserve .ensures .0 ls)
-
-same-length-2 : tie.Need-same-length-2
-same-length-2 c = search needs
 
 returns-3 : tie.Need-returns-3
 unfolding placed place
@@ -52,14 +37,14 @@ pub reserve-tail-spec : {M : Type 1} → statement M
 reserve-tail-spec =
     tie.close
     (tie.spec
-    enum-told
-    enum-known-t
+    (λ c. search needs)
+    (λ c. search needs)
     reserve-requires
-    enum-known-t-2
+    (λ c. search needs)
     reserve-requires-2
     reserve-requires-3
     returns
-    same-length
+    (λ c. search needs)
     returns-2
-    same-length-2
+    (λ c. search needs)
     returns-3)

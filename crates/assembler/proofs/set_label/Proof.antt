@@ -8,9 +8,6 @@ use Rattle.assembler.proofs.Steps.{put-refused, put-done, label-refused
 use Rattle.assembler.proofs.set_label.Statement.{statement}
 use Rattle.assembler.proofs.set_label.Tie as tie
 
-number-requires : tie.Need-number-requires
-number-requires c κs = search needs
-
 refused-with-requires : tie.Need-refused-with-requires
 refused-with-requires c κs =
     let nz : c .number .result ≡ 0 → ⊥ = λ e. omega (arith, c .number .ensures .2 e) in
@@ -20,21 +17,6 @@ returns : tie.Need-returns
 returns c =
     let a = c .before .before .before .before .args in
     put-refused _ _ _ _ (c .refused-with .result) _ (label-refused (a .l) (state (a .asm) (now (a .labels)) (now (a .jumps)) (now (a .buf))) _ (c .before .before .if1 .taken) (c .before .number .ensures .0)) (λ e. omega (arith, c .before .number .ensures .2 e)) (c .refused-with .ensures)
-
-mul-label-set : tie.Need-mul-label-set
-mul-label-set c = search needs
-
-element-copy-out-label-set : tie.Need-element-copy-out-label-set
-element-copy-out-label-set c = search needs
-
-label-set-requires : tie.Need-label-set-requires
-label-set-requires c κs = search needs
-
-number-requires-2 : tie.Need-number-requires-2
-number-requires-2 c κs = search needs
-
-refused-with-requires-2 : tie.Need-refused-with-requires-2
-refused-with-requires-2 c κs = search needs
 
 returns-2 : tie.Need-returns-2
 returns-2 c =
@@ -55,14 +37,14 @@ pub set-label-spec : {M : Type 1} → statement M
 set-label-spec =
     tie.close
     (tie.spec
-    number-requires
+    (λ c κs. search needs)
     refused-with-requires
     returns
-    mul-label-set
-    element-copy-out-label-set
-    label-set-requires
-    number-requires-2
-    refused-with-requires-2
+    (λ c. search needs)
+    (λ c. search needs)
+    (λ c κs. search needs)
+    (λ c κs. search needs)
+    (λ c κs. search needs)
     returns-2
     mark-requires
     returns-3)

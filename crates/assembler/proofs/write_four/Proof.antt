@@ -25,12 +25,6 @@ returns-2 c =
     let h : length b < w .at + 16 = omega arith in
     sym (ap (λ (t : Bool). cond t (written b (w .at) (w .a ∷ w .b ∷ w .c ∷ w .d ∷ [])) b) (lt-leb _ _ h))
 
-put-four-requires : tie.Need-put-four-requires
-put-four-requires c κs = search needs
-
-same-length : tie.Need-same-length
-same-length c = search needs
-
 returns-3 : tie.Need-returns-3
 returns-3 c =
     let w = c .before .before .before .before .before .before .before .args in
@@ -39,4 +33,4 @@ returns-3 c =
     c .before .before .put-four .ensures ∙ sym (ap (λ (t : Bool). cond t (written b (w .at) (w .a ∷ w .b ∷ w .c ∷ w .d ∷ [])) b) (le-leb _ _ h))
 
 pub write-four-spec : {M : Type 1} → statement M
-write-four-spec = tie.close (tie.spec returns returns-2 put-four-requires same-length returns-3)
+write-four-spec = tie.close (tie.spec returns returns-2 (λ c κs. search needs) (λ c. search needs) returns-3)

@@ -23,12 +23,6 @@ returns-2 c =
     let h : length b < c .before .before .before .args .at + 4 = omega arith in
     sym (ap (λ (t : Bool). cond t (written b (c .before .before .before .args .at) (c .before .before .before .args .w ∷ [])) b) (lt-leb _ _ h))
 
-put-word-requires : tie.Need-put-word-requires
-put-word-requires c κs = search needs
-
-same-length : tie.Need-same-length
-same-length c = search needs
-
 returns-3 : tie.Need-returns-3
 returns-3 c =
     let b = now (c .before .before .before .before .before .before .before .args .buf) in
@@ -36,4 +30,4 @@ returns-3 c =
     c .before .before .put-word .ensures ∙ sym (ap (λ (t : Bool). cond t (written b (c .before .before .before .before .before .before .before .args .at) (c .before .before .before .before .before .before .before .args .w ∷ [])) b) (le-leb _ _ h))
 
 pub write-word-spec : {M : Type 1} → statement M
-write-word-spec = tie.close (tie.spec returns returns-2 put-word-requires same-length returns-3)
+write-word-spec = tie.close (tie.spec returns returns-2 (λ c κs. search needs) (λ c. search needs) returns-3)
