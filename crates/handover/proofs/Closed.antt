@@ -8,11 +8,10 @@ use lib.ListN.{length, take, replicate}
 use Rattle.machine.specs.Word.{upd, dist, load8, store8}
 use Rattle.machine.specs.Floats.{Floats}
 use Rattle.machine.specs.Binary64.{binary64}
-use Rattle.machine.specs.State.{State, Sound}
+use Rattle.machine.specs.State.{State}
 use Rattle.machine.specs.Step.{Run}
 use Rattle.refusal.specs.Answer.{accepted}
 use Rattle.order.specs.declared.Place.the-variants.{Mem, Param}
-use Rattle.order.specs.declared.Frame.the-variants.{Fast}
 use Rattle.assembler.specs.Bytes.{bytes}
 use Rattle.accesses.specs.Code.{li-code, sub-stack-code}
 use Rattle.reading.specs.Meaning.{meaning, binary}
@@ -22,7 +21,7 @@ use Rattle.call.specs.Layout.{code-length, routine-words}
 use Rattle.call.specs.Plain.{with-cell, does, passes, none-read, line-read, Forward}
 use Rattle.call.specs.Terms.{start, Terms}
 use Rattle.call.specs.Claim.{Returned}
-use Rattle.call.proofs.Calls.{with-bytes, loaded, Bytes, with-small, words-small, upd-small, sample, first, first-called, product, block, block-called, table, table-called, r4, four}
+use Rattle.call.proofs.Calls.{with-bytes, loaded, Bytes, words-small, upd-small, machine, machine-sound, machine-terms, sample, first, first-called, product, block, block-called, table, table-called, r4, four}
 use Rattle.call.proofs.Decks.{larger, scaled, Read}
 use Rattle.routine.specs.Routine.{Told, told-of, buffer-after, program-of, Promise}
 use Rattle.handover.specs.Claim.{Handed}
@@ -80,41 +79,6 @@ table-returns =
     (r .end, r .pc, r .obs 0x7000f (tt, 0, omega arith, (7, omega arith, refl)), r .obs 0x7000e (tt, 0, omega arith, (6, omega arith, refl)))
 
 -- ---- fast frames: a machine whose memory is what the routine left, at 0x10000
-
-module _ (bs : List ℕ) (f : ℕ → ℕ) where
-  abbrev pub machine : State
-  machine =
-      record {
-        pc = 0x10000;
-        x = upd (upd (λ r. 0) 1 0x20000) 2 0x80000;
-        f = f;
-        rm = 0;
-        mem = with-bytes 0x10000 bs (λ x. 0);
-      }
-
-  machine-sound : Bytes bs → ((r : ℕ) → f r < 2 ^ 64) → Sound machine
-  machine-sound b small =
-      record {
-        pc = omega arith;
-        x = upd-small (upd (λ r. 0) 1 0x20000) 2 0x80000 (omega arith) (upd-small (λ r. 0) 1 0x20000 (omega arith) (λ r. omega arith));
-        f = small;
-        rm = omega arith;
-        mem = with-small 0x10000 bs (λ x. 0) b (λ x. omega arith);
-      }
-
-  -- a fast frame of k states, no cap and no mask
-  machine-terms : (k n : ℕ) → k ≤ 8 → n ≤ 65536 → Terms (record { frame = Fast; cap = 0; states = k; obs = 0; last = 0; mask = 0 }) n machine
-  unfolding upd
-  machine-terms k n h l =
-      record {
-        code-aligned = refl;
-        ra-aligned = refl;
-        ra-outside = λ w. omega (arith, w .1);
-        sp-aligned = refl;
-        separate = omega arith;
-        state-cells = λ h. absurd h;
-        obs-cells = λ h. absurd h;
-      }
 
 module _ (file buf : List ℕ) (t : Told) (after : List ℕ) (p : Program) (f : ℕ → ℕ) (h : Promise file buf (accepted t) after) (e : program-of (length buf) file ≡ accepted p) where
   abbrev left : List ℕ

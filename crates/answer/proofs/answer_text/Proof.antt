@@ -7,18 +7,6 @@ use borrow.Author.Needs.{needs}
 use Rattle.answer.proofs.answer_text.Statement.{statement}
 use Rattle.answer.proofs.answer_text.Tie as tie
 
-enum-known-answer : tie.Need-enum-known-answer
-enum-known-answer c = search needs
-
-cast-n : tie.Need-cast-n
-cast-n c = search needs
-
-words-text-requires : tie.Need-words-text-requires
-words-text-requires c κs = search needs
-
-same-length : tie.Need-same-length
-same-length c = search needs
-
 returns : tie.Need-returns
 returns c =
     let a = c .before .before .before .before .before .before .before .before .before .before .args in
@@ -28,28 +16,10 @@ slice-aggregate-words-text : tie.Need-slice-aggregate-words-text
 slice-aggregate-words-text c =
     sym (length-take-le _ (now (c .before .before .before .before .before .before .before .args .code)) (omega arith))
 
-words-text-requires-2 : tie.Need-words-text-requires-2
-words-text-requires-2 c κs = search needs
-
-enum-known-answer-2 : tie.Need-enum-known-answer-2
-enum-known-answer-2 c = search needs
-
-number-requires : tie.Need-number-requires
-number-requires c κs = search needs
-
-refusal-text-requires : tie.Need-refusal-text-requires
-refusal-text-requires c κs = search needs
-
-same-length-2 : tie.Need-same-length-2
-same-length-2 c = search needs
-
 returns-2 : tie.Need-returns-2
 returns-2 c =
     let a = c .before .before .before .before .before .before .before .before .before .before .before .args in
     words-told (a .answer) (now (a .code)) (now (a .out)) _ _ _ _ _ _ _ (c .before .before .before .before .before .before .before .answer .given .1) (c .before .before .words-text2 .ensures)
-
-same-length-3 : tie.Need-same-length-3
-same-length-3 c = search needs
 
 returns-3 : tie.Need-returns-3
 returns-3 c =
@@ -60,17 +30,17 @@ pub answer-text-spec : {M : Type 1} → statement M
 answer-text-spec =
     tie.close
     (tie.spec
-    enum-known-answer
-    cast-n
-    words-text-requires
-    same-length
+    (λ c. search needs)
+    (λ c. search needs)
+    (λ c κs. search needs)
+    (λ c. search needs)
     returns
     slice-aggregate-words-text
-    words-text-requires-2
-    enum-known-answer-2
-    number-requires
-    refusal-text-requires
-    same-length-2
+    (λ c κs. search needs)
+    (λ c. search needs)
+    (λ c κs. search needs)
+    (λ c κs. search needs)
+    (λ c. search needs)
     returns-2
-    same-length-3
+    (λ c. search needs)
     returns-3)

@@ -6,21 +6,6 @@ use borrow.Author.Needs.{needs}
 use Rattle.answer.proofs.deck_text.Statement.{statement}
 use Rattle.answer.proofs.deck_text.Tie as tie
 
-slice-aggregate-routine : tie.Need-slice-aggregate-routine
-slice-aggregate-routine c = search needs
-
-routine-requires : tie.Need-routine-requires
-routine-requires c κs = search needs
-
-slice-aggregate-answer-text : tie.Need-slice-aggregate-answer-text
-slice-aggregate-answer-text c = search needs
-
-answer-text-requires : tie.Need-answer-text-requires
-answer-text-requires c κs = search needs
-
-same-length : tie.Need-same-length
-same-length c = search needs
-
 returns : tie.Need-returns
 returns c =
     let a = c .before .before .before .before .before .before .before .before .before .before .args in
@@ -30,9 +15,9 @@ pub deck-text-spec : {M : Type 1} → statement M
 deck-text-spec =
     tie.close
     (tie.spec
-    slice-aggregate-routine
-    routine-requires
-    slice-aggregate-answer-text
-    answer-text-requires
-    same-length
+    (λ c. search needs)
+    (λ c κs. search needs)
+    (λ c. search needs)
+    (λ c κs. search needs)
+    (λ c. search needs)
     returns)
