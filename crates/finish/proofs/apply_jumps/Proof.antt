@@ -12,22 +12,10 @@ use Rattle.finish.proofs.apply_jumps.Tie as tie
 abbrev entry : tie.Start → State
 entry s = state (s .args .asm) (now (s .args .labels)) (now (s .args .jumps)) (now (s .args .buf))
 
-refused-with-requires : tie.Need-refused-with-requires
-refused-with-requires c κs = search needs
-
 returns : tie.Need-returns
 returns c =
     let s = entry (c .before .before .before) in
     ends s 8 _ (n-closed s (c .before .if1 .taken)) (refusal s (c .refused-with .result) 8 (c .refused-with .ensures))
-
-is-sound-requires : tie.Need-is-sound-requires
-is-sound-requires c κs = search needs
-
-first-label-requires : tie.Need-first-label-requires
-first-label-requires c κs = search needs
-
-refused-with-requires-2 : tie.Need-refused-with-requires-2
-refused-with-requires-2 c κs = search needs
 
 returns-2 : tie.Need-returns-2
 returns-2 c =
@@ -39,9 +27,6 @@ first-jump-requires c κs =
     let s = entry (c .before .before .before .before .before .before) in
     let h = c .before .before .before .is-sound .ensures .1 (c .before .before .if2 .taken) in
     (h .2, h .1, labels-fine (s .asm .len) (s .labels) _ (c .before .first-label .ensures .0) (c .if3 .left))
-
-refused-with-requires-3 : tie.Need-refused-with-requires-3
-refused-with-requires-3 c κs = search needs
 
 returns-3 : tie.Need-returns-3
 unfolding first-with
@@ -97,9 +82,6 @@ write-jumps-requires c κs =
       all-right s (omega (arith, c .before .before .before .before .before .before .first-jump .ensures .0, c .before .before .before .before .before .if4 .left)) (omega (arith, c .before .before .before .before .first-jump2 .ensures .0, c .before .before .before .if5 .left)) (omega (arith, c .before .before .first-jump3 .ensures .0, c .before .if6 .left)),
     )
 
-same-length : tie.Need-same-length
-same-length c = search needs
-
 returns-6 : tie.Need-returns-6
 unfolding first-with
 returns-6 c =
@@ -107,9 +89,6 @@ returns-6 c =
     let g = labels-fine (s .asm .len) (s .labels) _ (c .before .before .before .before .before .before .before .before .before .before .before .first-label .ensures .0) (c .before .before .before .before .before .before .before .before .before .before .if3 .left) in
     ends s 0 _ (n-good s (c .before .before .before .before .before .before .before .before .before .before .before .before .before .before .if1 .left) (sym (c .before .before .before .before .before .before .before .before .before .before .before .before .before .is-sound .ensures .0) ∙ c .before .before .before .before .before .before .before .before .before .before .before .before .if2 .taken) g (omega (arith, c .before .before .before .before .before .before .before .before .before .first-jump .ensures .0, c .before .before .before .before .before .before .before .before .if4 .left)) (omega (arith, c .before .before .before .before .before .before .before .first-jump2 .ensures .0, c .before .before .before .before .before .before .if5 .left)) (omega (arith, c .before .before .before .before .before .first-jump3 .ensures .0, c .before .before .before .before .if6 .left)))
     (rw (c .before .before .write-jumps .ensures))
-
-refused-with-requires-4 : tie.Need-refused-with-requires-4
-refused-with-requires-4 c κs = search needs
 
 returns-7 : tie.Need-returns-7
 returns-7 c =
@@ -120,14 +99,14 @@ pub apply-jumps-spec : {M : Type 1} → statement M
 apply-jumps-spec =
     tie.close
     (tie.spec
-    refused-with-requires
+    (λ c κs. search needs)
     returns
-    is-sound-requires
-    first-label-requires
-    refused-with-requires-2
+    (λ c κs. search needs)
+    (λ c κs. search needs)
+    (λ c κs. search needs)
     returns-2
     first-jump-requires
-    refused-with-requires-3
+    (λ c κs. search needs)
     returns-3
     first-jump-requires-2
     refused-at-requires
@@ -136,7 +115,7 @@ apply-jumps-spec =
     refused-at-requires-2
     returns-5
     write-jumps-requires
-    same-length
+    (λ c. search needs)
     returns-6
-    refused-with-requires-4
+    (λ c κs. search needs)
     returns-7)

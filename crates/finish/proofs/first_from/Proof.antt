@@ -23,21 +23,6 @@ abbrev μ-loop : tie.MeasureT-loop
 loop-holds : tie.Need-loop-holds Inv-loop μ-loop
 loop-holds c = (omega arith, refl)
 
-mul-good-label : tie.Need-mul-good-label Inv-loop μ-loop
-mul-good-label c = search needs
-
-element-copy-out-good-label : tie.Need-element-copy-out-good-label Inv-loop μ-loop
-element-copy-out-good-label c = search needs
-
-good-label-requires : tie.Need-good-label-requires Inv-loop μ-loop
-good-label-requires c κs = search needs
-
-add-i : tie.Need-add-i Inv-loop μ-loop
-add-i c = search needs
-
-loop-less : tie.Need-loop-less Inv-loop μ-loop
-loop-less c = search needs
-
 loop-again : tie.Need-loop-again Inv-loop μ-loop
 loop-again c =
     let l = c .before .before .before .before in
@@ -66,11 +51,11 @@ first-from-spec =
     Inv-loop
     μ-loop
     loop-holds
-    mul-good-label
-    element-copy-out-good-label
-    good-label-requires
-    add-i
-    loop-less
+    (λ c. search needs)
+    (λ c. search needs)
+    (λ c κs. search needs)
+    (λ c. search needs)
+    (λ c. search needs)
     loop-again
     returns
     returns-2)

@@ -29,42 +29,6 @@ loop-holds c =
     let d : a .n ≡ a .n - 0 = omega arith in
     (omega arith, ap (first (test (a .want) (now (a .labels)) (a .len) (now (a .jumps))) 0) d ∙ sym (zero-add _))
 
-mul-b : tie.Need-mul-b Inv-loop μ-loop
-mul-b c = search needs
-
-mul-status : tie.Need-mul-status Inv-loop μ-loop
-mul-status c = search needs
-
-element-copy-out-status : tie.Need-element-copy-out-status Inv-loop μ-loop
-element-copy-out-status c = search needs
-
-add-status : tie.Need-add-status Inv-loop μ-loop
-add-status c = search needs
-
-mul-status-2 : tie.Need-mul-status-2 Inv-loop μ-loop
-mul-status-2 c = search needs
-
-element-copy-out-status-2 : tie.Need-element-copy-out-status-2 Inv-loop μ-loop
-element-copy-out-status-2 c = search needs
-
-add-status-2 : tie.Need-add-status-2 Inv-loop μ-loop
-add-status-2 c = search needs
-
-mul-status-3 : tie.Need-mul-status-3 Inv-loop μ-loop
-mul-status-3 c = search needs
-
-element-copy-out-status-3 : tie.Need-element-copy-out-status-3 Inv-loop μ-loop
-element-copy-out-status-3 c = search needs
-
-add-status-3 : tie.Need-add-status-3 Inv-loop μ-loop
-add-status-3 c = search needs
-
-mul-status-4 : tie.Need-mul-status-4 Inv-loop μ-loop
-mul-status-4 c = search needs
-
-element-copy-out-status-4 : tie.Need-element-copy-out-status-4 Inv-loop μ-loop
-element-copy-out-status-4 c = search needs
-
 status-requires : tie.Need-status-requires Inv-loop μ-loop
 status-requires c κs =
     (c .before .before .before .before .before .before .pre .1, c .before .before .before .before .before .before .pre .2)
@@ -75,12 +39,6 @@ returns c =
     let a = l .before .args in
     let e = first-here (test (a .want) (now (a .labels)) (a .len) (now (a .jumps))) (l .loop .i) (a .n) (c .before .before .before .before .before .before .loop-test .taken) (ap (λ (x : ℕ). eqb x (a .want)) (sym (c .before .status .ensures)) ∙ eq-eqb _ _ (c .if1 .taken)) in
     (omega (arith, e, l .loop .inv .1), omega arith)
-
-add-i : tie.Need-add-i Inv-loop μ-loop
-add-i c = search needs
-
-loop-less : tie.Need-loop-less Inv-loop μ-loop
-loop-less c = search needs
 
 loop-again : tie.Need-loop-again Inv-loop μ-loop
 loop-again c =
@@ -103,21 +61,21 @@ first-jump-spec =
     Inv-loop
     μ-loop
     loop-holds
-    mul-b
-    mul-status
-    element-copy-out-status
-    add-status
-    mul-status-2
-    element-copy-out-status-2
-    add-status-2
-    mul-status-3
-    element-copy-out-status-3
-    add-status-3
-    mul-status-4
-    element-copy-out-status-4
+    (λ c. search needs)
+    (λ c. search needs)
+    (λ c. search needs)
+    (λ c. search needs)
+    (λ c. search needs)
+    (λ c. search needs)
+    (λ c. search needs)
+    (λ c. search needs)
+    (λ c. search needs)
+    (λ c. search needs)
+    (λ c. search needs)
+    (λ c. search needs)
     status-requires
     returns
-    add-i
-    loop-less
+    (λ c. search needs)
+    (λ c. search needs)
     loop-again
     returns-2)

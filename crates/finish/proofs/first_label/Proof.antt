@@ -28,9 +28,6 @@ loop-holds c = (omega arith, omega arith, sym (zero-add _))
 joined-requires : tie.Need-joined-requires Inv-loop μ-loop
 joined-requires c κs = omega arith
 
-add-i : tie.Need-add-i Inv-loop μ-loop
-add-i c = search needs
-
 loop-less : tie.Need-loop-less Inv-loop μ-loop
 loop-less c = omega arith
 
@@ -43,14 +40,8 @@ loop-again c =
     let e = first-past (bad (now (a .labels)) (a .len)) i (i + 64) 2039 (omega arith) (omega arith) f in
     (omega arith, omega arith, l .loop .inv .2 ∙ e)
 
-add-first-from : tie.Need-add-first-from Inv-loop μ-loop
-add-first-from c = search needs
-
 first-from-requires : tie.Need-first-from-requires Inv-loop μ-loop
 first-from-requires c κs = (omega arith, omega arith)
-
-add-if2 : tie.Need-add-if2 Inv-loop μ-loop
-add-if2 c = search needs
 
 returns : tie.Need-returns Inv-loop μ-loop
 returns c =
@@ -60,9 +51,6 @@ returns c =
     let r = c .before .first-from .ensures in
     let e = first-within (bad (now (a .labels)) (a .len)) i (i + 64) 2039 (omega arith) (omega arith) (omega (arith, r .0)) in
     (omega (arith, e, r .0, l .loop .inv .2), omega arith)
-
-add-i-2 : tie.Need-add-i-2 Inv-loop μ-loop
-add-i-2 c = search needs
 
 loop-less-2 : tie.Need-loop-less-2 Inv-loop μ-loop
 loop-less-2 c = omega arith
@@ -89,14 +77,14 @@ first-label-spec =
     μ-loop
     loop-holds
     joined-requires
-    add-i
+    (λ c. search needs)
     loop-less
     loop-again
-    add-first-from
+    (λ c. search needs)
     first-from-requires
-    add-if2
+    (λ c. search needs)
     returns
-    add-i-2
+    (λ c. search needs)
     loop-less-2
     loop-again-2
     first-from-requires-2

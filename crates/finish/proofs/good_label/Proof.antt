@@ -18,12 +18,6 @@ returns c = rw (c .if1 .taken) refl
 returns-2 : tie.Need-returns-2
 returns-2 c = simp (ne-eqb _ _ (c .if2 .taken))
 
-label-place-requires : tie.Need-label-place-requires
-label-place-requires c κs = search needs
-
-size-requires : tie.Need-size-requires
-size-requires c κs = search needs
-
 returns-3 : tie.Need-returns-3
 returns-3 c =
     let e = c .before .size .ensures ∙ c .before .before .label-place .ensures in
@@ -36,4 +30,4 @@ returns-4 c =
 
 pub good-label-spec : {M : Type 1} → statement M
 good-label-spec =
-    tie.close (tie.spec returns returns-2 label-place-requires size-requires returns-3 returns-4)
+    tie.close (tie.spec returns returns-2 (λ c κs. search needs) (λ c κs. search needs) returns-3 returns-4)

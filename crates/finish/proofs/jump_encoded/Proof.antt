@@ -11,67 +11,31 @@ use Rattle.finish.proofs.Near.{offset-back, last-kind}
 use Rattle.finish.proofs.jump_encoded.Statement.{statement}
 use Rattle.finish.proofs.jump_encoded.Tie as tie
 
-twos-of-requires : tie.Need-twos-of-requires
-twos-of-requires c κs = search needs
-
-hi-requires : tie.Need-hi-requires
-hi-requires c κs = search needs
-
-auipc-requires : tie.Need-auipc-requires
-auipc-requires c κs = search needs
-
 returns : tie.Need-returns
 returns c =
     rw (c .before .before .if1 .taken) (c .auipc .ensures
     ∙ ap (λ (z : ℤ). encoded (U AUIPC 5 z)) (back-hi _ _ (c .before .hi .ensures) ∙ ap (λ (u : ℕ). pos (hi u)) (c .before .before .before .twos-of .ensures)))
-
-second-requires : tie.Need-second-requires
-second-requires c κs = search needs
-
-ld-requires : tie.Need-ld-requires
-ld-requires c κs = search needs
 
 returns-2 : tie.Need-returns-2
 returns-2 c =
     rw (c .before .before .if2 .taken) (c .ld .ensures
     ∙ ap (λ (z : ℤ). encoded (I LD (c .before .before .before .before .before .args .r) 5 z)) (back-lo _ (c .before .before .before .before .twos-of .result + 4) (c .before .second .ensures) ∙ ap (λ (u : ℕ). lo (u + 4)) (c .before .before .before .before .twos-of .ensures)))
 
-second-requires-2 : tie.Need-second-requires-2
-second-requires-2 c κs = search needs
-
-jalr-requires : tie.Need-jalr-requires
-jalr-requires c κs = search needs
-
 returns-3 : tie.Need-returns-3
 returns-3 c =
     rw (c .before .before .if3 .taken) (c .jalr .ensures
     ∙ ap (λ (z : ℤ). encoded (I JALR (c .before .before .before .before .before .before .args .r) 5 z)) (back-lo _ (c .before .before .before .before .before .twos-of .result + 4) (c .before .second2 .ensures) ∙ ap (λ (u : ℕ). lo (u + 4)) (c .before .before .before .before .before .twos-of .ensures)))
-
-second-requires-3 : tie.Need-second-requires-3
-second-requires-3 c κs = search needs
-
-fld-requires : tie.Need-fld-requires
-fld-requires c κs = search needs
 
 returns-4 : tie.Need-returns-4
 returns-4 c =
     rw (c .before .before .if4 .taken) (c .fld .ensures
     ∙ ap (λ (z : ℤ). encoded (I FLD (c .before .before .before .before .before .before .before .args .r) 5 z)) (back-lo _ (c .before .before .before .before .before .before .twos-of .result + 4) (c .before .second3 .ensures) ∙ ap (λ (u : ℕ). lo (u + 4)) (c .before .before .before .before .before .before .twos-of .ensures)))
 
-offset-of-requires : tie.Need-offset-of-requires
-offset-of-requires c κs = search needs
-
-beq-requires : tie.Need-beq-requires
-beq-requires c κs = search needs
-
 returns-5 : tie.Need-returns-5
 returns-5 c =
     let a = c .before .before .before .before .before .before .before .before .args in
     rw (c .before .if5 .taken) (c .beq .ensures
     ∙ ap (λ (z : ℤ). encoded (B BEQ 18 0 z)) (offset-back (a .a) (a .b) (omega arith) (omega arith) _ (c .before .before .offset-of .ensures)))
-
-bne-requires : tie.Need-bne-requires
-bne-requires c κs = search needs
 
 returns-6 : tie.Need-returns-6
 returns-6 c =
@@ -83,21 +47,21 @@ pub jump-encoded-spec : {M : Type 1} → statement M
 jump-encoded-spec =
     tie.close
     (tie.spec
-    twos-of-requires
-    hi-requires
-    auipc-requires
+    (λ c κs. search needs)
+    (λ c κs. search needs)
+    (λ c κs. search needs)
     returns
-    second-requires
-    ld-requires
+    (λ c κs. search needs)
+    (λ c κs. search needs)
     returns-2
-    second-requires-2
-    jalr-requires
+    (λ c κs. search needs)
+    (λ c κs. search needs)
     returns-3
-    second-requires-3
-    fld-requires
+    (λ c κs. search needs)
+    (λ c κs. search needs)
     returns-4
-    offset-of-requires
-    beq-requires
+    (λ c κs. search needs)
+    (λ c κs. search needs)
     returns-5
-    bne-requires
+    (λ c κs. search needs)
     returns-6)

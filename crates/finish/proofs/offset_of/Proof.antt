@@ -4,12 +4,6 @@ use Rattle.finish.proofs.Near.{minus-fits, minus-value}
 use Rattle.finish.proofs.offset_of.Statement.{statement}
 use Rattle.finish.proofs.offset_of.Tie as tie
 
-cast-x : tie.Need-cast-x
-cast-x c = search needs
-
-cast-y : tie.Need-cast-y
-cast-y c = search needs
-
 sub-result : tie.Need-sub-result
 sub-result c = minus-fits (c .args .a) (c .args .b) (omega arith) (omega arith)
 
@@ -17,4 +11,4 @@ returns : tie.Need-returns
 returns c = minus-value (c .args .a) (c .args .b) (omega arith) (omega arith)
 
 pub offset-of-spec : {M : Type 1} → statement M
-offset-of-spec = tie.close (tie.spec cast-x cast-y sub-result returns)
+offset-of-spec = tie.close (tie.spec (λ c. search needs) (λ c. search needs) sub-result returns)

@@ -5,15 +5,6 @@ use Rattle.encoder.proofs.Answers.{taken-valid, refused-invalid}
 use Rattle.finish.proofs.reaches.Statement.{statement}
 use Rattle.finish.proofs.reaches.Tie as tie
 
-jump-encoded-requires : tie.Need-jump-encoded-requires
-jump-encoded-requires c κs = search needs
-
-enum-told : tie.Need-enum-told
-enum-told c = search needs
-
-enum-told-2 : tie.Need-enum-told-2
-enum-told-2 c = search needs
-
 returns : tie.Need-returns
 returns c = taken-valid _ _ (sym (ap told (c .enum-told .given .1)) ∙ c .before .before .jump-encoded .ensures)
 
@@ -21,4 +12,4 @@ returns-2 : tie.Need-returns-2
 returns-2 c = refused-invalid _ _ _ (sym (ap told (c .enum-told2 .given .1)) ∙ c .before .before .jump-encoded .ensures)
 
 pub reaches-spec : {M : Type 1} → statement M
-reaches-spec = tie.close (tie.spec jump-encoded-requires enum-told enum-told-2 returns returns-2)
+reaches-spec = tie.close (tie.spec (λ c κs. search needs) (λ c. search needs) (λ c. search needs) returns returns-2)

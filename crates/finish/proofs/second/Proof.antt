@@ -6,16 +6,10 @@ use Rattle.finish.proofs.Near.{low-part}
 use Rattle.finish.proofs.second.Statement.{statement}
 use Rattle.finish.proofs.second.Tie as tie
 
-add-lo : tie.Need-add-lo
-add-lo c = search needs
-
-lo-requires : tie.Need-lo-requires
-lo-requires c κs = search needs
-
 returns : tie.Need-returns
 returns c =
     let u = c .before .args .u in
     back-lo _ (u % 4096 + 4) (c .lo .ensures) ∙ low-part u
 
 pub second-spec : {M : Type 1} → statement M
-second-spec = tie.close (tie.spec add-lo lo-requires returns)
+second-spec = tie.close (tie.spec (λ c. search needs) (λ c κs. search needs) returns)

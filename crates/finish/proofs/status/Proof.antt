@@ -10,9 +10,6 @@ use Rattle.finish.proofs.Wrong.{at-first, place-small, good-jump, wrong
 use Rattle.finish.proofs.status.Statement.{statement}
 use Rattle.finish.proofs.status.Tie as tie
 
-add-if1 : tie.Need-add-if1
-add-if1 c = search needs
-
 returns : tie.Need-returns
 unfolding jump-number
 returns c = simp (lt-leb _ _ (c .if1 .taken))
@@ -32,24 +29,6 @@ returns-4 c = simp (le-leb _ _ (c .before .before .before .if1 .left), eq-eqb _ 
 returns-5 : tie.Need-returns-5
 unfolding jump-number
 returns-5 c = simp (le-leb _ _ (c .before .before .before .before .if1 .left), eq-eqb _ _ (c .before .before .before .if2 .left), lt-ltb _ _ (c .before .before .if3 .left), lt-ltb _ _ (c .before .if4 .left), le-ltb _ _ (c .if5 .taken))
-
-mul-label-place : tie.Need-mul-label-place
-mul-label-place c = search needs
-
-element-copy-out-label-place : tie.Need-element-copy-out-label-place
-element-copy-out-label-place c = search needs
-
-label-place-requires : tie.Need-label-place-requires
-label-place-requires c κs = search needs
-
-mul-is-unset : tie.Need-mul-is-unset
-mul-is-unset c = search needs
-
-element-copy-out-is-unset : tie.Need-element-copy-out-is-unset
-element-copy-out-is-unset c = search needs
-
-is-unset-requires : tie.Need-is-unset-requires
-is-unset-requires c κs = search needs
 
 returns-6 : tie.Need-returns-6
 returns-6 c =
@@ -76,18 +55,18 @@ pub status-spec : {M : Type 1} → statement M
 status-spec =
     tie.close
     (tie.spec
-    add-if1
+    (λ c. search needs)
     returns
     returns-2
     returns-3
     returns-4
     returns-5
-    mul-label-place
-    element-copy-out-label-place
-    label-place-requires
-    mul-is-unset
-    element-copy-out-is-unset
-    is-unset-requires
+    (λ c. search needs)
+    (λ c. search needs)
+    (λ c κs. search needs)
+    (λ c. search needs)
+    (λ c. search needs)
+    (λ c κs. search needs)
     returns-6
     reaches-requires
     returns-7

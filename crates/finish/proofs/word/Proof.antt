@@ -6,15 +6,6 @@ use Rattle.assembler.proofs.Tests.{no}
 use Rattle.finish.proofs.word.Statement.{statement}
 use Rattle.finish.proofs.word.Tie as tie
 
-jump-encoded-requires : tie.Need-jump-encoded-requires
-jump-encoded-requires c κs = search needs
-
-enum-known-e : tie.Need-enum-known-e
-enum-known-e c = search needs
-
-enum-told : tie.Need-enum-told
-enum-told c = search needs
-
 returns : tie.Need-returns
 returns c = λ v. taken-word _ _ (sym (ap told (c .before .e .given .1)) ∙ c .before .before .before .jump-encoded .ensures)
 
@@ -22,4 +13,4 @@ returns-2 : tie.Need-returns-2
 returns-2 c = λ v. no (refused-invalid _ _ _ (sym (ap told (c .enum-told .given .1)) ∙ c .before .before .jump-encoded .ensures) ∙ v)
 
 pub word-spec : {M : Type 1} → statement M
-word-spec = tie.close (tie.spec jump-encoded-requires enum-known-e enum-told returns returns-2)
+word-spec = tie.close (tie.spec (λ c κs. search needs) (λ c. search needs) (λ c. search needs) returns returns-2)

@@ -27,27 +27,6 @@ loop-holds c =
     let d : a .n ≡ a .n - 0 = omega arith in
     (omega arith, refl, ap (λ (z : ℕ). patched (now (a .labels)) (now (a .buf)) (jumps-of (now (a .jumps)) 0 z)) d)
 
-mul-b : tie.Need-mul-b Inv-loop μ-loop
-mul-b c = search needs
-
-mul-p : tie.Need-mul-p Inv-loop μ-loop
-mul-p c = search needs
-
-element-copy-out-p : tie.Need-element-copy-out-p Inv-loop μ-loop
-element-copy-out-p c = search needs
-
-add-size : tie.Need-add-size Inv-loop μ-loop
-add-size c = search needs
-
-mul-size : tie.Need-mul-size Inv-loop μ-loop
-mul-size c = search needs
-
-element-copy-out-size : tie.Need-element-copy-out-size Inv-loop μ-loop
-element-copy-out-size c = search needs
-
-size-requires : tie.Need-size-requires Inv-loop μ-loop
-size-requires c κs = search needs
-
 mul-label-place : tie.Need-mul-label-place Inv-loop μ-loop
 mul-label-place c =
     let r = fine (c .before .before .before .before) (c .before .before .before .loop-test .taken) in
@@ -58,27 +37,6 @@ element-copy-out-label-place c =
     let r = fine (c .before .before .before .before) (c .before .before .before .loop-test .taken) in
     omega (arith, r .label, c .size .ensures)
 
-label-place-requires : tie.Need-label-place-requires Inv-loop μ-loop
-label-place-requires c κs = search needs
-
-add-word : tie.Need-add-word Inv-loop μ-loop
-add-word c = search needs
-
-mul-word : tie.Need-mul-word Inv-loop μ-loop
-mul-word c = search needs
-
-element-copy-out-word : tie.Need-element-copy-out-word Inv-loop μ-loop
-element-copy-out-word c = search needs
-
-add-word-2 : tie.Need-add-word-2 Inv-loop μ-loop
-add-word-2 c = search needs
-
-mul-word-2 : tie.Need-mul-word-2 Inv-loop μ-loop
-mul-word-2 c = search needs
-
-element-copy-out-word-2 : tie.Need-element-copy-out-word-2 Inv-loop μ-loop
-element-copy-out-word-2 c = search needs
-
 word-requires : tie.Need-word-requires Inv-loop μ-loop
 word-requires c κs =
     let l = c .before .before .before .before .before .before .before .before in
@@ -86,18 +44,6 @@ word-requires c κs =
     let r = fine l (c .before .before .before .before .before .before .before .loop-test .taken) in
     let p = place-small (a .len) (getD (now (a .labels)) (c .before .before .before .before .size .result) 0) (at-first (a .len) (now (a .labels)) (l .before .before .pre .3) (c .before .before .before .before .size .result) (omega (arith, r .label, c .before .before .before .before .size .ensures))) in
     (omega (arith, p, c .before .before .label-place .ensures), omega (arith, r .inside))
-
-size-requires-2 : tie.Need-size-requires-2 Inv-loop μ-loop
-size-requires-2 c κs = search needs
-
-write-word-requires : tie.Need-write-word-requires Inv-loop μ-loop
-write-word-requires c κs = search needs
-
-add-i : tie.Need-add-i Inv-loop μ-loop
-add-i c = search needs
-
-loop-less : tie.Need-loop-less Inv-loop μ-loop
-loop-less c = search needs
 
 loop-again : tie.Need-loop-again Inv-loop μ-loop
 loop-again c =
@@ -126,27 +72,27 @@ write-jumps-spec =
     Inv-loop
     μ-loop
     loop-holds
-    mul-b
-    mul-p
-    element-copy-out-p
-    add-size
-    mul-size
-    element-copy-out-size
-    size-requires
+    (λ c. search needs)
+    (λ c. search needs)
+    (λ c. search needs)
+    (λ c. search needs)
+    (λ c. search needs)
+    (λ c. search needs)
+    (λ c κs. search needs)
     mul-label-place
     element-copy-out-label-place
-    label-place-requires
-    add-word
-    mul-word
-    element-copy-out-word
-    add-word-2
-    mul-word-2
-    element-copy-out-word-2
+    (λ c κs. search needs)
+    (λ c. search needs)
+    (λ c. search needs)
+    (λ c. search needs)
+    (λ c. search needs)
+    (λ c. search needs)
+    (λ c. search needs)
     word-requires
-    size-requires-2
-    write-word-requires
-    add-i
-    loop-less
+    (λ c κs. search needs)
+    (λ c κs. search needs)
+    (λ c. search needs)
+    (λ c. search needs)
     loop-again
     same-length
     returns)
