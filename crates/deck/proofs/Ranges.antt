@@ -11,7 +11,7 @@ use lib.Dec.{eqb}
 use Rattle.order.specs.Mask.{in-mask}
 use Rattle.refusal.specs.Answer.{Answer, accepted, refused}
 use Rattle.refusal.specs.declared.Refusal.{Refusal}
-use Rattle.refusal.specs.declared.Refusal.the-variants.{Register, Value as Valued, Count}
+use Rattle.refusal.specs.declared.Refusal.the-variants.{Register, Count}
 use Rattle.order.specs.declared.Frame.{Frame}
 use Rattle.order.specs.declared.Head.{Head}
 use Rattle.order.specs.declared.Order.{Order}

@@ -1,8 +1,8 @@
 -- Document 01, "Numbers of refusal": which numbers a line's fields may be, and what the line then says.
 use mathlib.Core.Bool.{Bool, true, false, _&&_, _||_, not, cond, Bool·beq}
 use mathlib.Core.List.{List, [], _∷_}
-use Prim.Native.Nat.{ℕ, _+_, _/_, _%_, _^_}
-use lib.Dec.{eqb, ltb, leb}
+use Prim.Native.Nat.{ℕ, _%_, _^_}
+use lib.Dec.{ltb, leb}
 use lib.Ieee.{ofInt, binary64}
 use lib.IntN.{ℤ, pos, negℤ}
 use Rattle.refusal.specs.Answer.{Answer, accepted, refused}
@@ -11,8 +11,6 @@ use Rattle.refusal.specs.declared.Refusal.{Refusal}
 use Rattle.refusal.specs.declared.Refusal.the-variants.{Register, Value as Valued, Label, Count, Line}
 use Rattle.order.specs.Count.{cells}
 use Rattle.order.specs.Mask.{preserved, in-mask}
-use Rattle.order.specs.declared.Place.{Place}
-use Rattle.order.specs.declared.Place.the-variants.{Mem, Stack, Param}
 use Rattle.order.specs.declared.Frame.{Frame}
 use Rattle.order.specs.declared.Frame.the-variants.{Fast, Indirect}
 use Rattle.order.specs.declared.Head.{Head}

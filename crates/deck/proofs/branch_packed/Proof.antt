@@ -6,18 +6,6 @@ use borrow.Author.Needs.{needs}
 use Rattle.deck.proofs.branch_packed.Statement.{statement}
 use Rattle.deck.proofs.branch_packed.Tie as tie
 
-returns : tie.Need-returns
-returns c = λ h. absurd (omega arith)
-
-returns-2 : tie.Need-returns-2
-returns-2 c = λ h. absurd (omega arith)
-
-returns-3 : tie.Need-returns-3
-returns-3 c = λ h. absurd (omega arith)
-
-returns-4 : tie.Need-returns-4
-returns-4 c = λ h. absurd (omega arith)
-
 returns-5 : tie.Need-returns-5
 returns-5 c =
     let n = c .before .before in
@@ -36,24 +24,24 @@ branch-packed-spec =
     tie.close
     (tie.spec
     (λ c κs. search needs)
-    returns
+    (λ c h. absurd (omega arith))
     (λ c. search needs)
     (λ c. search needs)
     (λ c. search needs)
     (λ c κs. search needs)
     (λ c. search needs)
     (λ c κs. search needs)
-    returns-2
+    (λ c h. absurd (omega arith))
     (λ c. search needs)
     (λ c. search needs)
     (λ c. search needs)
     (λ c κs. search needs)
-    returns-3
+    (λ c h. absurd (omega arith))
     (λ c. search needs)
     (λ c κs. search needs)
     (λ c. search needs)
     (λ c. search needs)
-    returns-4
+    (λ c h. absurd (omega arith))
     (λ c κs. search needs)
     (λ c κs. search needs)
     (λ c κs. search needs)

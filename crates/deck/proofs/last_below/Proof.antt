@@ -5,9 +5,6 @@ use borrow.Author.Needs.{needs}
 use Rattle.deck.proofs.last_below.Statement.{statement}
 use Rattle.deck.proofs.last_below.Tie as tie
 
-returns : tie.Need-returns
-returns c = λ h. absurd (omega arith)
-
 returns-2 : tie.Need-returns-2
 returns-2 c =
     let n = c .before in
@@ -15,17 +12,14 @@ returns-2 c =
     let a = b .args in
     λ h. last-is (now (a .s)) (a .a) (a .bound) (n .short-number .result) (n .before .before .if1 .left) (n .short-number .ensures) (b .pre) (c .if2 .taken)
 
-returns-3 : tie.Need-returns-3
-returns-3 c = λ h. absurd (omega arith)
-
 pub last-below-spec : {M : Type 1} → statement M
 last-below-spec =
     tie.close
     (tie.spec
-    returns
+    (λ c h. absurd (omega arith))
     (λ c. search needs)
     (λ c. search needs)
     (λ c. search needs)
     (λ c κs. search needs)
     returns-2
-    returns-3)
+    (λ c h. absurd (omega arith)))

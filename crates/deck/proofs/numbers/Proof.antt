@@ -14,12 +14,6 @@ abbrev μ-loop : tie.MeasureT-loop
 loop-holds : tie.Need-loop-holds Inv-loop μ-loop
 loop-holds c = let b = c .before in starts (now (b .args .s)) (b .args .a) (b .args .registers) (b .args .bound) (b .pre .0)
 
-returns : tie.Need-returns Inv-loop μ-loop
-returns c = λ h. absurd (omega arith)
-
-returns-2 : tie.Need-returns-2 Inv-loop μ-loop
-returns-2 c = λ h. absurd (omega arith)
-
 mul-sum : tie.Need-mul-sum Inv-loop μ-loop
 mul-sum c =
     let l = c .before .before .before .before .before .before .loop in
@@ -45,9 +39,6 @@ loop-again c =
     let l = n .before .before .before .before .before in
     let a = l .before .before .args in
     goes-on (now (a .s)) (a .a) (a .registers) (a .bound) (l .loop .at) (l .loop .left) (l .loop .scale) (l .loop .sum) (f .result) (n .short-number .result) (l .loop .inv) (n .before .before .before .before .loop-test .taken) (f .ensures .0) (f .ensures .1) (n .before .before .if1 .left) (n .short-number .ensures) (c .if2 .left)
-
-returns-3 : tie.Need-returns-3 Inv-loop μ-loop
-returns-3 c = λ h. absurd (omega arith)
 
 mul-result : tie.Need-mul-result Inv-loop μ-loop
 mul-result c =
@@ -79,12 +70,12 @@ numbers-spec =
     μ-loop
     loop-holds
     (λ c κs. search needs)
-    returns
+    (λ c h. absurd (omega arith))
     (λ c. search needs)
     (λ c. search needs)
     (λ c. search needs)
     (λ c κs. search needs)
-    returns-2
+    (λ c h. absurd (omega arith))
     mul-sum
     add-sum
     mul-scale
@@ -93,7 +84,7 @@ numbers-spec =
     (λ c. search needs)
     loop-again
     (λ c κs. search needs)
-    returns-3
+    (λ c h. absurd (omega arith))
     mul-result
     add-result
     returns-4)

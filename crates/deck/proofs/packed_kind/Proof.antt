@@ -24,9 +24,6 @@ returns-4 c =
     let a = c .before .before .before .before .before .before .before .args in
     of-label (fields-from (now (a .s)) (a .a)) (c .packed2 .result) (a .k) (c .before .last-below .result) (c .packed2 .ensures) (c .before .before .if4 .taken) (c .before .last-below .ensures)
 
-returns-5 : tie.Need-returns-5
-returns-5 c = λ h. absurd (omega arith)
-
 pub packed-kind-spec : {M : Type 1} → statement M
 packed-kind-spec =
     tie.close
@@ -43,4 +40,4 @@ packed-kind-spec =
     (λ c κs. search needs)
     (λ c κs. search needs)
     returns-4
-    returns-5)
+    (λ c h. absurd (omega arith)))

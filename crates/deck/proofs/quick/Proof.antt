@@ -7,12 +7,6 @@ use borrow.Author.Needs.{needs}
 use Rattle.deck.proofs.quick.Statement.{statement}
 use Rattle.deck.proofs.quick.Tie as tie
 
-returns : tie.Need-returns
-returns c = λ h. absurd (omega arith)
-
-returns-2 : tie.Need-returns-2
-returns-2 c = λ h. absurd (omega arith)
-
 slice-aggregate-quick-body : tie.Need-slice-aggregate-quick-body
 slice-aggregate-quick-body c = sym (length-take-le _ _ (omega arith))
 
@@ -25,10 +19,10 @@ pub quick-spec : {M : Type 1} → statement M
 quick-spec =
     tie.close
     (tie.spec
-    returns
+    (λ c h. absurd (omega arith))
     (λ c. search needs)
     (λ c. search needs)
-    returns-2
+    (λ c h. absurd (omega arith))
     slice-aggregate-quick-body
     (λ c κs. search needs)
     returns-3)
