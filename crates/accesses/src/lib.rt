@@ -1,5 +1,5 @@
 // mod.rs, accesses: li, loads, stores, pairs and stack sizes. Each is placed whole, or refused and nothing changes.
-// A plan's words are the encoder's answers, collected; orders above go on from a plan.
+// A plan's words are the encoder's answers, collected.
 ghost use mathlib.Core.Path.{_≡_};
 ghost use mathlib.Core.List.{[], _∷_, map};
 ghost use Prim.Native.Nat.{_+_, _≤_, _<_};
@@ -13,7 +13,7 @@ ghost use Rattle.assembler.specs.Put.{put};
 ghost use Rattle.assembler.specs.Plan.{pushed};
 ghost use Rattle.accesses.specs.Code.{li-code, point-code, load-float-code, save-float-code, load-int-code, load-complex-code, save-complex-code, sub-stack-code, add-stack-code, allocate-stack-code};
 ghost use Rattle.accesses.specs.Fault.{li-fault, access-fault, one-fault, pair-fault, stack-fault};
-ghost use Rattle.accesses.specs.Plans.{is-word, word-of, pushes-from, pushes, plan-of, settled-plan};
+ghost use Rattle.accesses.specs.Plans.{is-word, word-of, pushes, plan-of, settled-plan};
 use assembler::Asm;
 use assembler::Done;
 use assembler::Plan;
@@ -67,7 +67,7 @@ pub fn two(a: Encoded, b: Encoded) -> Plan
     assembler::push(one(a), b)
 }
 
-pub fn three(a: Encoded, b: Encoded, c: Encoded) -> Plan
+fn three(a: Encoded, b: Encoded, c: Encoded) -> Plan
     ensures { λ r. ⌜ r ≡ pushes (a ∷ b ∷ c ∷ []) ⌝ }
 {
     if is_word(a) && is_word(b) && is_word(c) {
@@ -117,62 +117,6 @@ pub fn five(a: Encoded, b: Encoded, c: Encoded, d: Encoded, e: Encoded) -> Plan
         };
     }
     assembler::push(four(a, b, c, d), e)
-}
-
-// Seven words behind those of p, which has room for them.
-fn with_seven(p: Plan, a: u32, b: u32, c: u32, d: u32, e: u32, f: u32, g: u32) -> Plan
-    requires { ⌜ p .n ≤ 5 ⌝ }
-    ensures { λ r. ⌜ r ≡ pushes-from p (Encoded.Word a ∷ Encoded.Word b ∷ Encoded.Word c ∷ Encoded.Word d ∷ Encoded.Word e ∷ Encoded.Word f ∷ Encoded.Word g ∷ []) ⌝ }
-{
-    let n = p.n;
-    let mut next = p;
-    next.w[n] = a;
-    next.w[n + 1] = b;
-    next.w[n + 2] = c;
-    next.w[n + 3] = d;
-    next.w[n + 4] = e;
-    next.w[n + 5] = f;
-    next.w[n + 6] = g;
-    next.n = n + 7;
-    next
-}
-
-// Seven instructions more.
-pub fn seven_more(
-    p: Plan,
-    a: Encoded,
-    b: Encoded,
-    c: Encoded,
-    d: Encoded,
-    e: Encoded,
-    f: Encoded,
-    g: Encoded,
-) -> Plan
-    ensures { λ r. ⌜ r ≡ pushes-from p (a ∷ b ∷ c ∷ d ∷ e ∷ f ∷ g ∷ []) ⌝ }
-{
-    if p.n <= 5
-        && is_word(a)
-        && is_word(b)
-        && is_word(c)
-        && is_word(d)
-        && is_word(e)
-        && is_word(f)
-        && is_word(g)
-    {
-        return with_seven(
-            p,
-            word(a),
-            word(b),
-            word(c),
-            word(d),
-            word(e),
-            word(f),
-            word(g),
-        );
-    }
-    let p = assembler::push(assembler::push(assembler::push(p, a), b), c);
-    let p = assembler::push(assembler::push(p, d), e);
-    assembler::push(assembler::push(p, f), g)
 }
 
 // ---- li

@@ -8,10 +8,8 @@ use borrow.Author.Tests.{lt-ltb, le-leb, lt-leb, leb-true, leb-false}
 use lib.Dec.{leb}
 use lib.IntN.{pos}
 use lib.ListN.{length}
-use lib.Seq.{append-snoc}
 use Rattle.isa.specs.Instr.{Instr, M, R4, B, FMV-X-D}
 use Rattle.machine.proofs.Placed.{Valids}
-use Rattle.encoder.specs.declared.Encoded.{Encoded}
 use Rattle.assembler.specs.Item.{Item, instr, raw, jump, label}
 use Rattle.assembler.specs.State.{State}
 use Rattle.assembler.specs.Put.{place, placed, put}
@@ -23,8 +21,8 @@ use Rattle.assembler.specs.declared.Tail.the-variants.{Nothing}
 use Rattle.assembler.proofs.Plans.{put-fault, put-same}
 use Rattle.accesses.specs.Code.{load-float-code, save-float-code, load-int-code}
 use Rattle.accesses.specs.Fault.{offset-limit}
-use Rattle.accesses.specs.Plans.{pushes-from, plan-of, Built}
-use Rattle.accesses.proofs.Collect.{AllValid, built, Answers, pushed-last}
+use Rattle.accesses.specs.Plans.{Built}
+use Rattle.accesses.proofs.Collect.{AllValid}
 use Rattle.order.specs.declared.Place.the-variants.{Stack}
 use Rattle.order.specs.declared.Order.{Order}
 use Rattle.order.specs.declared.Order.the-variants.{Unary, Scratched, Binary, Fused, Ifelse, LoadConst, Load, Save, BranchIf, SetLabel}
@@ -116,15 +114,6 @@ unfolding instrs-of
 instrs-alone [] = refl
 instrs-alone (i ∷ is) = ap (λ (l : List Instr). i ∷ l) (instrs-alone is)
 
-pub pushed-all : (es : List Encoded) (is js : List Instr) → Answers es js → pushes-from (plan-of is) es ≡ plan-of (is ++ js)
-pushed-all [] is [] a = rw append-nil
-pushed-all [] is (j ∷ js) a = absurd a
-pushed-all (e ∷ es) is [] a = absurd a
-pushed-all (e ∷ es) is (j ∷ js) a =
-    ap (λ (p : Plan). pushes-from p es) (pushed-last is j (a .0))
-    ∙ pushed-all es (is ++ (j ∷ [])) js (a .1)
-    ∙ ap plan-of (append-snoc is j js)
-
 -- an order's instructions, by its shape
 abbrev pub instrs : Order → List Instr
 instrs (Unary k d s) = unary-code k d s
@@ -150,9 +139,6 @@ instrs-right (Load d p i) = sym (instrs-alone (load-float-code d (base p) (8 * i
 instrs-right (Save s p i) = sym (instrs-alone (save-float-code s (base p) (8 * i)))
 instrs-right (BranchIf c l e) = refl
 instrs-right (SetLabel l) = refl
-
-pub planned : (o p : Order) → o ≡ p → plan-of (instrs p) ≡ plan-of (instrs-of (code o))
-planned o p e = rw e (ap plan-of (instrs-right p))
 
 -- orders of instructions alone
 abbrev pub Straight : Order → Type 0
@@ -225,19 +211,13 @@ order-valid o h =
     let p : ℕ → ℕ = λ l. 0 in
     instrs-valid p 0 (code o) (code-valid p 0 o h)
 
-order-built : (o : Order) → fault o ≡ 0 → Built (plan-of (instrs-of (code o))) (instrs-of (code o))
-order-built o h = built (instrs-of (code o)) (omega (arith, order-short o)) (order-valid o h)
-
 -- ---- an order that is not refused
 
-pub order-placed : (o : Order) (tag : ℕ) (s : State) (p : Plan) (t : Tail) → fault o ≡ 0 → p ≡ plan-of (instrs-of (code o)) → code o ≡ map instr (instrs-of (code o)) ++ tail-items t → tail-fault t ≡ 0 → put tag (plan-fault p t) (plan-items p t) s ≡ put tag (fault o) (code o) s
-order-placed o tag s p t h e g z =
-    let is : List Instr = instrs-of (code o) in
-    let b : Built (plan-of is) is = order-built o h in
-    let f : plan-fault (plan-of is) t ≡ 0 = rw (b .fault, z) in
-    ap (λ (q : Plan). put tag (plan-fault q t) (plan-items q t) s) e
-    ∙ ap₂ (λ (k : ℕ) (l : List Item). put tag k l s) f (ap (λ (ws : List ℕ). map raw ws ++ tail-items t) (b .words))
-    ∙ put-same (tail-items t) tag 0 is s
+pub order-placed : (o : Order) (tag : ℕ) (s : State) (p : Plan) (t : Tail) → fault o ≡ 0 → Built p (instrs-of (code o)) → code o ≡ map instr (instrs-of (code o)) ++ tail-items t → tail-fault t ≡ 0 → put tag (plan-fault p t) (plan-items p t) s ≡ put tag (fault o) (code o) s
+order-placed o tag s p t h b g z =
+    let f : plan-fault p t ≡ 0 = rw (b .fault, z) in
+    ap₂ (λ (k : ℕ) (l : List Item). put tag k l s) f (ap (λ (ws : List ℕ). map raw ws ++ tail-items t) (b .words))
+    ∙ put-same (tail-items t) tag 0 (instrs-of (code o)) s
     ∙ ap₂ (λ (k : ℕ) (l : List Item). put tag k l s) (sym h) (sym g)
 
 pub order-label : (o : Order) (tag : ℕ) (s : State) (l : ℕ) → fault o ≡ 0 → code o ≡ label l ∷ [] → label-fault l ≡ 0 → put 0 (label-fault l) (label l ∷ []) s ≡ put tag (fault o) (code o) s

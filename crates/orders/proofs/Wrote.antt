@@ -1,18 +1,18 @@
 -- Words written at once are those of the instructions, and so the order is placed. Assumes nothing.
 use mathlib.Core.Path.{_≡_, refl, sym, ap, ap₂, subst, _∙_}
-use mathlib.Core.Bool.{true, false, cond}
+use mathlib.Core.Bool.{true, false}
 use mathlib.Core.List.{List, [], _∷_, _++_, map, map-append, append-nil}
-use Prim.Native.Nat.{ℕ, _+_, _*_, _^_, _≤_, _<_}
+use Prim.Native.Nat.{ℕ, _+_, _*_, _/_, _^_, _≤_, _<_}
 use native.Mathlib.Nat.{mod-eq-of-lt}
 use native.Mathlib.Omega.{arith}
 use borrow.Author.Tests.{lt-ltb, le-ltb, le-leb}
-use lib.Dec.{leb}
 use lib.IntN.{ℤ, pos}
 use lib.ListN.{length, length-append, length-map}
 use Rattle.isa.specs.Immediate.{hi, lo}
 use Rattle.isa.specs.Instr.{Instr, R, I, U, ADD, ADDI, LUI}
 use Rattle.isa.specs.Encode.{encode}
-use Rattle.machine.proofs.Placed.{Valids}
+use Rattle.isa.proofs.Laws.{encode-small}
+use Rattle.machine.proofs.Placed.{Valids, Small}
 use Rattle.refusal.specs.Answer.{accepted}
 use Rattle.encoder.specs.Answer.{told, encoded}
 use Rattle.encoder.specs.declared.Encoded.{Encoded}
@@ -23,30 +23,32 @@ use Rattle.order.specs.declared.Binary as Bin
 use Rattle.order.specs.declared.Fused as Fu
 use Rattle.order.specs.declared.Order.{Order}
 use Rattle.order.specs.declared.Order.the-variants.{Unary, Scratched, Binary, Fused, Ifelse, Load, Save}
+use Rattle.packed.specs.Packed.{unary-at, scratched-at, binary-at, fused-at, operands, order-at}
+use Rattle.packed.proofs.Registers as Reg
 use Rattle.assembler.specs.Item.{Item, instr, raw}
 use Rattle.assembler.specs.Bytes.{written}
 use Rattle.assembler.specs.State.{State, state, sound}
 use Rattle.assembler.specs.Put.{put}
+use Rattle.assembler.specs.Plan.{plan-words}
+use Rattle.assembler.specs.declared.Plan.{Plan}
 use Rattle.assembler.proofs.Writes.{written-then}
 use Rattle.assembler.proofs.Steps.{put-raw}
 use Rattle.assembler.proofs.Plans.{put-same}
 use Rattle.accesses.specs.Code.{point-code, access-code}
 use Rattle.accesses.specs.Fault.{offset-limit}
-use Rattle.accesses.specs.Plans.{word-of}
+use Rattle.accesses.specs.Plans.{word-of, Built}
 use Rattle.accesses.proofs.Collect.{answered, li-far, word as answers-word}
 use Rattle.accesses.proofs.Numbers.{answered-at}
 use Rattle.orders.specs.Code.{code}
 use Rattle.orders.specs.Fault.{fault}
 use Rattle.orders.specs.Emitted.{emitted}
 use Rattle.orders.specs.Parts.{instrs-of}
-use Rattle.orders.specs.Wrote.{word, Wrote, Wrote-order}
+use Rattle.orders.specs.Wrote.{word, Wrote, Wrote-order, words-in}
+use Rattle.orders.proofs.Items.{registers-below}
+use Rattle.orders.proofs.ReadBack.{read-back}
 use Rattle.orders.proofs.Whole.{instrs, instrs-right, Straight, alone, order-short, order-valid}
 
 -- ---- the words one after the other
-
--- what is written where the buffer goes so far
-pub reaches : (n : ℕ) (b c : List ℕ) {d : List ℕ} → n ≤ length b → d ≡ cond (leb n (length b)) c b → d ≡ c
-reaches n b c h e = rw (le-leb n (length b) h) at e
 
 pub put-then : (b : List ℕ) (len : ℕ) (xs ys : List ℕ) {c d : List ℕ} {k r : ℕ} → (c ≡ written b len xs) × (k ≡ len + 4 * length xs) → (d ≡ written c k ys) × (r ≡ k + 4 * length ys) → (d ≡ written b len (xs ++ ys)) × (r ≡ len + 4 * length (xs ++ ys))
 put-then b len xs ys {c} p q = (
@@ -140,11 +142,48 @@ save-fits s p i hs hi = rw (lt-ltb s 32 hs, le-leb (8 * i) offset-limit (omega a
 pub above : (k : ℕ) → 20 ≤ k → (k ≡ 20 → ⊥) → (k ≡ 21 → ⊥) → 22 ≤ k
 above k h a b = omega (arith, h, a, b)
 
--- the answer for the order o, whose words are written
+-- the instructions of the order o, by its shape
+pub wrote-instrs : (o p : Order) → o ≡ p → (b : List ℕ) (len : ℕ) (d : List ℕ) (r : ℕ) → Wrote (instrs p) b len d r → Wrote (instrs-of (code o)) b len d r
+wrote-instrs o p e b len d r w = rw (e, ← (instrs-right p)) w
+
+pub wrote-order : (o p : Order) → o ≡ p → Straight p → fault p ≡ 0 → (b : List ℕ) (len : ℕ) (d : List ℕ) (r : ℕ) → Wrote (instrs p) b len d r → Wrote-order o b len d r
+wrote-order o p e h z b len d r w = (rw e z, alone o p e h, wrote-instrs o p e b len d r w)
+
+-- an order of registers alone, by its kind's number and operands
+module _ (o : Order) (z : fault o ≡ 0) (n x : ℕ) (b : List ℕ) (len : ℕ) (e : List ℕ) (r : ℕ) (w : Wrote-order (order-at n x) b len e r) where
+  by-number : order-at n x ≡ o → Wrote (instrs-of (code o)) b len e r
+  by-number q = rw q at (w .2)
+
+  pub unary-wrote : (k : Un.Unary) (d s : ℕ) → o ≡ Unary k d s → (n < 5) × (unary-at n ≡ k) → x ≡ operands d s 0 0 → Wrote (instrs-of (code o)) b len e r
+  unfolding fault
+  unary-wrote k d s g h q =
+      let f = registers-below (d ∷ s ∷ []) (rw g at z) in
+      by-number (rw (q, g, ← (h .1)) (Reg.unary n d s 0 0 (f .0) (f .1 .0) (omega arith) (omega arith) (h .0)))
+
+  pub scratched-wrote : (k : Sc.Scratched) (d s t : ℕ) → o ≡ Scratched k d s t → (5 ≤ n) × (n < 7) × (scratched-at n ≡ k) → x ≡ operands d s t 0 → Wrote (instrs-of (code o)) b len e r
+  unfolding fault
+  scratched-wrote k d s t g h q =
+      let f = registers-below (d ∷ s ∷ t ∷ []) (rw g at z) in
+      by-number (rw (q, g, ← (h .2)) (Reg.scratched n d s t 0 (f .0) (f .1 .0) (f .1 .1 .0) (omega arith) (h .0) (h .1)))
+
+  pub binary-wrote : (k : Bin.Binary) (d s t : ℕ) → o ≡ Binary k d s t → (7 ≤ n) × (n < 16) × (binary-at n ≡ k) → x ≡ operands d s t 0 → Wrote (instrs-of (code o)) b len e r
+  unfolding fault
+  binary-wrote k d s t g h q =
+      let f = registers-below (d ∷ s ∷ t ∷ []) (rw g at z) in
+      by-number (rw (q, g, ← (h .2)) (Reg.binary n d s t 0 (f .0) (f .1 .0) (f .1 .1 .0) (omega arith) (h .0) (h .1)))
+
+  pub fused-wrote : (k : Fu.Fused) (d s t c : ℕ) → o ≡ Fused k d s t c → (16 ≤ n) × (n < 20) × (fused-at n ≡ k) → x ≡ operands d s t c → Wrote (instrs-of (code o)) b len e r
+  unfolding fault
+  fused-wrote k d s t c g h q =
+      let f = registers-below (d ∷ s ∷ t ∷ c ∷ []) (rw g at z) in
+      by-number (rw (q, g, ← (h .2)) (Reg.fused n d s t c (f .0) (f .1 .0) (f .1 .1 .0) (f .1 .1 .1 .0) (h .0) (h .1)))
+
+-- it ends where a length may be
+pub guarded : (o : Order) (b : List ℕ) (len : ℕ) (d : List ℕ) (r : ℕ) → len ≤ 65492 → Wrote-order o b len d r → (r ≤ 65536 → Wrote-order o b len d r) × (65536 < r → d ≡ b)
+guarded o b len d r l w = ((λ m. w), (λ m. absurd (omega (arith, w .2 .1, order-short o))))
+
 pub answers : (o p : Order) → o ≡ p → Straight p → fault p ≡ 0 → (b : List ℕ) (len : ℕ) (d : List ℕ) (r : ℕ) → len ≤ 65492 → Wrote (instrs p) b len d r → (r ≤ 65536 → Wrote-order o b len d r) × (65536 < r → d ≡ b)
-answers o p e h z b len d r l w =
-    let q : Wrote (instrs-of (code o)) b len d r = rw (e, ← (instrs-right p)) w in
-    ((λ m. (rw e z, alone o p e h, q)), (λ m. absurd (omega (arith, q .1, order-short o))))
+answers o p e h z b len d r l w = guarded o b len d r l (wrote-order o p e h z b len d r w)
 
 -- the answer where nothing is written
 pub other : (o : Order) (b : List ℕ) (len : ℕ) → (4294967296 ≤ 65536 → Wrote-order o b len b 4294967296) × (65536 < 4294967296 → b ≡ b)
@@ -153,6 +192,26 @@ other o b len = ((λ m. absurd (omega arith)), (λ m. refl))
 words-valid : (is : List Instr) → Valids is → map word is ≡ map encode is
 words-valid [] v = refl
 words-valid (i ∷ is) v = ap₂ _∷_ (ap word-of (answers-word i (v .0))) (words-valid is (v .1))
+
+words-small : (is : List Instr) → Valids is → Small (map encode is)
+words-small [] v = tt
+words-small (i ∷ is) v = (encode-small i (v .0), words-small is (v .1))
+
+-- written at the start of 44 bytes or more, and read back
+module _ (o : Order) (b d : List ℕ) (r : ℕ) (w : Wrote (instrs-of (code o)) b 0 d r) where
+  pub few-words : r / 4 ≤ 12
+  few-words = omega (arith, w .1, order-short o)
+
+  pub read-built : (p : Plan) → fault o ≡ 0 → 44 ≤ length b → (plan-words p ≡ words-in d (r / 4)) × (p .fault ≡ 0) → Built p (instrs-of (code o))
+  read-built p z h q =
+      let is : List Instr = instrs-of (code o) in
+      let v : map word is ≡ map encode is = words-valid is (order-valid o z) in
+      let n : length (map word is) ≡ length is = length-map is word in
+      let k : r / 4 ≡ length (map word is) = omega (arith, w .1, n) in
+      record {
+        words = q .0 ∙ ap (words-in d) k ∙ read-back b (map word is) (rw v (words-small is (order-valid o z))) (omega (arith, n, order-short o)) (w .0) ∙ v;
+        fault = q .1;
+      }
 
 module _ (o : Order) (tag : ℕ) (s : State) (d : List ℕ) (r : ℕ) where
   pub order-written : s .asm .closed ≡ false → sound (length (s .buf)) (s .asm) ≡ true → s .asm .jumps ≤ 4096 → s .asm .len + 44 ≤ length (s .buf) → s .asm .len ≤ 65492 → Wrote-order o (s .buf) (s .asm .len) d r

@@ -1,8 +1,8 @@
 -- What writing an order's words at once leaves: the buffer and the new length.
 use mathlib.Core.Path.{_≡_}
-use mathlib.Core.List.{List, map}
-use Prim.Native.Nat.{ℕ, _+_, _*_}
-use lib.ListN.{length}
+use mathlib.Core.List.{List, [], _∷_, _++_, map}
+use Prim.Native.Nat.{ℕ, zero, suc, _+_, _*_}
+use lib.ListN.{length, getD}
 use Rattle.isa.specs.Instr.{Instr}
 use Rattle.order.specs.declared.Order.{Order}
 use Rattle.assembler.specs.Item.{instr}
@@ -24,3 +24,11 @@ Wrote is before len after r = (after ≡ written before len (map word is)) × (r
 abbrev pub Wrote-order : Order → (before : List ℕ) → (len : ℕ) → (after : List ℕ) → (r : ℕ) → Type 0
 Wrote-order o before len after r =
     (fault o ≡ 0) × (code o ≡ map instr (instrs-of (code o))) × Wrote (instrs-of (code o)) before len after r
+
+-- words read back from bytes: the one at i, and the first k
+unfoldable pub word-in : List ℕ → (i : ℕ) → ℕ
+word-in bs i = getD bs i 0 + 256 * getD bs (i + 1) 0 + 65536 * getD bs (i + 2) 0 + 16777216 * getD bs (i + 3) 0
+
+unfoldable pub words-in : List ℕ → (k : ℕ) → List ℕ
+words-in bs zero = []
+words-in bs (suc k) = words-in bs k ++ (word-in bs (4 * k) ∷ [])

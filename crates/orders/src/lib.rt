@@ -12,14 +12,14 @@ ghost use Rattle.refusal.specs.Answer.{accepted};
 ghost use Rattle.packed.specs.Packed.{order-at, unpacked};
 ghost use Rattle.assembler.specs.Bytes.{written};
 ghost use Rattle.assembler.specs.State.{state, outcome, sound};
-ghost use Rattle.assembler.specs.Plan.{plan-fault};
+ghost use Rattle.assembler.specs.Plan.{plan-words, plan-fault};
 ghost use Rattle.accesses.specs.Code.{load-float-code, save-float-code, load-int-code};
-ghost use Rattle.accesses.specs.Plans.{answer-of, plan-of};
+ghost use Rattle.accesses.specs.Plans.{answer-of, Built};
 ghost use Rattle.orders.specs.Code.{code, base, unary-code, scratched-code, binary-code, fused-op, choose-code, skip};
 ghost use Rattle.orders.specs.Fault.{fault as fault-of, registers-fit};
 ghost use Rattle.orders.specs.Emitted.{emitted};
 ghost use Rattle.orders.specs.Parts.{instrs-of, joined, rest-fault};
-ghost use Rattle.orders.specs.Wrote.{word, Wrote, Wrote-order};
+ghost use Rattle.orders.specs.Wrote.{word, Wrote, Wrote-order, word-in, words-in};
 use assembler::Asm;
 use assembler::Done;
 use assembler::Kind;
@@ -49,107 +49,6 @@ enum Rest {
     Label(u32),
 }
 
-// ---- words by shape
-
-fn unary_plan(k: Unary, d: u32, s: u32) -> Plan
-    ensures { λ r. ⌜ r ≡ plan-of (unary-code k d s) ⌝ }
-{
-    match k {
-        Unary::Fmov => {
-            if d == s {
-                return assembler::no_plan();
-            }
-            accesses::one(encoder::fmv_d(d, s))
-        }
-        Unary::Recip => accesses::three(
-            encoder::addi(T0, 0, 1),
-            encoder::fcvt_d_w(FA0, T0),
-            encoder::fdiv_d(d, FA0, s),
-        ),
-        Unary::Round => accesses::two(encoder::fcvt_l_d(T0, s, 0), encoder::fcvt_d_l(d, T0)),
-        Unary::Floor => accesses::two(encoder::fcvt_l_d(T0, s, 2), encoder::fcvt_d_l(d, T0)),
-        Unary::Not => accesses::three(
-            encoder::fmv_x_d(T0, s),
-            encoder::not(T0, T0),
-            encoder::fmv_d_x(d, T0),
-        ),
-    }
-}
-
-fn scratched_plan(k: Scratched, d: u32, s: u32, t: u32) -> Plan
-    ensures { λ r. ⌜ r ≡ plan-of (scratched-code k d s t) ⌝ }
-{
-    match k {
-        Scratched::Sign => accesses::five(
-            encoder::fmv_d_x(t, 0),
-            encoder::flt_d(T0, t, s),
-            encoder::flt_d(T1, s, t),
-            encoder::sub(T0, T0, T1),
-            encoder::fcvt_d_w(d, T0),
-        ),
-        Scratched::Frac => accesses::three(
-            encoder::fcvt_l_d(T0, s, 2),
-            encoder::fcvt_d_l(t, T0),
-            encoder::fsub_d(d, s, t),
-        ),
-    }
-}
-
-fn xor_plan(d: u32, a: u32, b: u32) -> Plan
-    ensures { λ r. ⌜ r ≡ plan-of (binary-code Binary.Xor d a b) ⌝ }
-{
-    if a == b {
-        return accesses::one(encoder::fmv_d_x(d, 0));
-    }
-    accesses::four(
-        encoder::fmv_x_d(T0, a),
-        encoder::fmv_x_d(T1, b),
-        encoder::xor(T0, T0, T1),
-        encoder::fmv_d_x(d, T0),
-    )
-}
-
-fn binary_plan(k: Binary, d: u32, a: u32, b: u32) -> Plan
-    ensures { λ r. ⌜ r ≡ plan-of (binary-code k d a b) ⌝ }
-{
-    match k {
-        Binary::Minus => accesses::one(encoder::fsub_d(d, a, b)),
-        Binary::Times => accesses::one(encoder::fmul_d(d, a, b)),
-        Binary::Divide => accesses::one(encoder::fdiv_d(d, a, b)),
-        Binary::Gt => accesses::three(
-            encoder::fgt_d(T0, a, b),
-            encoder::neg(T0, T0),
-            encoder::fmv_d_x(d, T0),
-        ),
-        Binary::Neq => accesses::four(
-            encoder::feq_d(T0, a, b),
-            encoder::neg(T0, T0),
-            encoder::not(T0, T0),
-            encoder::fmv_d_x(d, T0),
-        ),
-        Binary::And => accesses::four(
-            encoder::fmv_x_d(T0, a),
-            encoder::fmv_x_d(T1, b),
-            encoder::and(T0, T0, T1),
-            encoder::fmv_d_x(d, T0),
-        ),
-        Binary::Andnot => accesses::five(
-            encoder::fmv_x_d(T0, a),
-            encoder::not(T0, T0),
-            encoder::fmv_x_d(T1, b),
-            encoder::and(T0, T0, T1),
-            encoder::fmv_d_x(d, T0),
-        ),
-        Binary::Or => accesses::four(
-            encoder::fmv_x_d(T0, a),
-            encoder::fmv_x_d(T1, b),
-            encoder::or(T0, T0, T1),
-            encoder::fmv_d_x(d, T0),
-        ),
-        Binary::Xor => xor_plan(d, a, b),
-    }
-}
-
 fn fused(k: Fused, d: u32, a: u32, b: u32, c: u32) -> Encoded
     ensures { λ r. ⌜ r ≡ answer-of (R4 (fused-op k) d a b c 7) ⌝ }
 {
@@ -159,38 +58,6 @@ fn fused(k: Fused, d: u32, a: u32, b: u32, c: u32) -> Encoded
         Fused::NegMulAdd => encoder::fnmsub_d(d, a, b, c),
         Fused::NegMulSub => encoder::fnmadd_d(d, a, b, c),
     }
-}
-
-fn fused_plan(k: Fused, d: u32, a: u32, b: u32, c: u32) -> Plan
-    ensures { λ r. ⌜ r ≡ plan-of (R4 (fused-op k) d a b c 7 ∷ []) ⌝ }
-{
-    accesses::one(fused(k, d, a, b, c))
-}
-
-// t0 holds the cell's bits.
-fn choose_plan(d: u32, a: u32, b: u32, n: u32) -> Plan
-    ensures { λ r. ⌜ r ≡ plan-of (load-int-code 5 21 n ++ choose-code d a b) ⌝ }
-{
-    accesses::seven_more(
-        accesses::load_int_plan(T0, STACK, n),
-        encoder::fmv_x_d(T1, a),
-        encoder::fmv_x_d(T2, b),
-        encoder::and(T1, T1, T0),
-        encoder::not(T0, T0),
-        encoder::and(T2, T2, T0),
-        encoder::or(T0, T1, T2),
-        encoder::fmv_d_x(d, T0),
-    )
-}
-
-// The branch over the jump.
-fn skip_plan(c: u32, e: bool) -> Plan
-    ensures { λ r. ⌜ r ≡ plan-of (M FMV-X-D 5 c ∷ B (skip e) 5 0 (pos 12) ∷ []) ⌝ }
-{
-    if e {
-        return accesses::two(encoder::fmv_x_d(T0, c), encoder::beq(T0, 0, 12));
-    }
-    accesses::two(encoder::fmv_x_d(T0, c), encoder::bne(T0, 0, 12))
 }
 
 fn base_of(p: Place) -> u32
@@ -267,26 +134,6 @@ fn refused_plan(k: u8) -> Plan
     }
 }
 
-// ---- an order that is not refused
-
-fn plan(o: Order) -> Plan
-    requires { ⌜ fault-of o ≡ 0 ⌝ }
-    ensures { λ r. ⌜ r ≡ plan-of (instrs-of (code o)) ⌝ }
-{
-    match o {
-        Order::Unary(k, d, s) => unary_plan(k, d, s),
-        Order::Scratched(k, d, s, t) => scratched_plan(k, d, s, t),
-        Order::Binary(k, d, a, b) => binary_plan(k, d, a, b),
-        Order::Fused(k, d, a, b, c) => fused_plan(k, d, a, b, c),
-        Order::Ifelse(d, a, b, i) => choose_plan(d, a, b, 8 * i),
-        Order::LoadConst(_, _) => assembler::no_plan(),
-        Order::Load(d, p, i) => accesses::load_float_plan(d, base_of(p), 8 * i),
-        Order::Save(s, p, i) => accesses::save_float_plan(s, base_of(p), 8 * i),
-        Order::BranchIf(c, _, e) => skip_plan(c, e),
-        Order::SetLabel(_) => assembler::no_plan(),
-    }
-}
-
 fn behind(o: Order) -> Rest
     requires { ⌜ fault-of o ≡ 0 ⌝ }
     ensures { λ r. ⌜ (code o ≡ joined r (instrs-of (code o))) × (rest-fault r ≡ 0) ⌝ }
@@ -328,14 +175,15 @@ pub fn emit(
     }
 }
 
-// ---- packed orders: the words written at once, from numbers alone
+// ---- words written at once, from numbers alone
 
 fn put_one(buf: &mut [u8], len: usize, a: u32) -> usize
     requires { ⌜ len + 4 ≤ length (now buf) ⌝ }
     ensures { λ r. ⌜ (now (buf .exit) ≡ written (now (buf .entry)) len (a ∷ [])) × (r ≡ len + 4) ⌝ }
 {
-    assembler::write_word(buf, len, a);
-    len + 4
+    let end = len + 4;
+    assembler::write_word(&mut buf[len..end], 0, a);
+    end
 }
 
 fn put_two(buf: &mut [u8], len: usize, a: u32, b: u32) -> usize
@@ -358,8 +206,9 @@ fn put_four(buf: &mut [u8], len: usize, a: u32, b: u32, c: u32, d: u32) -> usize
     requires { ⌜ len + 16 ≤ length (now buf) ⌝ }
     ensures { λ r. ⌜ (now (buf .exit) ≡ written (now (buf .entry)) len (a ∷ b ∷ c ∷ d ∷ [])) × (r ≡ len + 16) ⌝ }
 {
-    assembler::write_four(buf, len, a, b, c, d);
-    len + 16
+    let end = len + 16;
+    assembler::write_four(&mut buf[len..end], 0, a, b, c, d);
+    end
 }
 
 fn put_five(buf: &mut [u8], len: usize, a: u32, b: u32, c: u32, d: u32, e: u32) -> usize
@@ -585,8 +434,8 @@ const OTHER: usize = 0x100000000;
 
 // Kind k with operands x, registers alone.
 fn write_registers(k: u64, x: u64, buf: &mut [u8], len: usize) -> usize
-    requires { ⌜ (k < 20) × (len + 44 ≤ length (now buf)) × (len ≤ 65492) ⌝ }
-    ensures { λ r. ⌜ (r ≤ 65536 → Wrote-order (order-at k x) (now (buf .entry)) len (now (buf .exit)) r) × (65536 < r → now (buf .exit) ≡ now (buf .entry)) ⌝ }
+    requires { ⌜ (k < 20) × (len + 44 ≤ length (now buf)) ⌝ }
+    ensures { λ r. ⌜ Wrote-order (order-at k x) (now (buf .entry)) len (now (buf .exit)) r ⌝ }
 {
     let y = x / 32;
     let z = y / 32;
@@ -604,6 +453,95 @@ fn write_registers(k: u64, x: u64, buf: &mut [u8], len: usize) -> usize
     }
     let c = packed::register(z / 32);
     write_fused(packed::fused_at(k), d, a, b, c, buf, len)
+}
+
+// The branch over the jump.
+fn write_skip(c: u32, e: bool, buf: &mut [u8], len: usize) -> usize
+    requires { ⌜ len + 44 ≤ length (now buf) ⌝ }
+    ensures { λ r. ⌜ Wrote (M FMV-X-D 5 c ∷ B (skip e) 5 0 (pos 12) ∷ []) (now (buf .entry)) len (now (buf .exit)) r ⌝ }
+{
+    let first = accesses::word(encoder::fmv_x_d(T0, c));
+    if e {
+        return put_two(buf, len, first, accesses::word(encoder::beq(T0, 0, 12)));
+    }
+    put_two(buf, len, first, accesses::word(encoder::bne(T0, 0, 12)))
+}
+
+// The instructions of an order that is not refused.
+fn write_instrs(o: Order, buf: &mut [u8], len: usize) -> usize
+    requires { ⌜ (fault-of o ≡ 0) × (len + 44 ≤ length (now buf)) ⌝ }
+    ensures { λ r. ⌜ Wrote (instrs-of (code o)) (now (buf .entry)) len (now (buf .exit)) r ⌝ }
+{
+    match o {
+        Order::Unary(k, d, s) => write_registers(
+            packed::unary_kind(k),
+            packed::operands(d, s, 0, 0),
+            buf,
+            len,
+        ),
+        Order::Scratched(k, d, s, t) => write_registers(
+            packed::scratched_kind(k),
+            packed::operands(d, s, t, 0),
+            buf,
+            len,
+        ),
+        Order::Binary(k, d, a, b) => write_registers(
+            packed::binary_kind(k),
+            packed::operands(d, a, b, 0),
+            buf,
+            len,
+        ),
+        Order::Fused(k, d, a, b, c) => write_registers(
+            packed::fused_kind(k),
+            packed::operands(d, a, b, c),
+            buf,
+            len,
+        ),
+        Order::Ifelse(d, a, b, i) => write_ifelse(d, a, b, 8 * i, buf, len),
+        Order::LoadConst(_, _) => len,
+        Order::Load(d, p, i) => write_load(d, base_of(p), 8 * i, buf, len),
+        Order::Save(s, p, i) => write_save(s, base_of(p), 8 * i, buf, len),
+        Order::BranchIf(c, _, e) => write_skip(c, e, buf, len),
+        Order::SetLabel(_) => len,
+    }
+}
+
+// The word of four bytes, the lowest first.
+fn joined_word(a: u8, b: u8, c: u8, d: u8) -> u32
+    ensures { λ r. ⌜ r ≡ a + 256 * b + 65536 * c + 16777216 * d ⌝ }
+{
+    a as u32 + 256 * (b as u32) + 65536 * (c as u32) + 16777216 * (d as u32)
+}
+
+fn word_at(bytes: &[u8; 48], i: usize) -> u32
+    requires { ⌜ i + 4 ≤ 48 ⌝ }
+    ensures { λ r. ⌜ r ≡ word-in (now (bytes .entry)) i ⌝ }
+{
+    joined_word(bytes[i], bytes[i + 1], bytes[i + 2], bytes[i + 3])
+}
+
+// A plan of the first n words.
+fn words_plan(bytes: &[u8; 48], n: usize) -> Plan
+    requires { ⌜ n ≤ 12 ⌝ }
+    ensures { λ r. ⌜ (plan-words r ≡ words-in (now (bytes .entry)) n) × (r .fault ≡ 0) ⌝ }
+{
+    let mut w = [0u32; 12];
+    let mut i = 0;
+    while i < n {
+        w[i] = word_at(bytes, 4 * i);
+        i += 1;
+    }
+    Plan { n, fault: 0, w }
+}
+
+// The plan of an order that is not refused.
+fn plan(o: Order) -> Plan
+    requires { ⌜ fault-of o ≡ 0 ⌝ }
+    ensures { λ r. ⌜ Built r (instrs-of (code o)) ⌝ }
+{
+    let mut bytes = [0u8; 48];
+    let end = write_instrs(o, &mut bytes, 0);
+    words_plan(&bytes, end / 4)
 }
 
 // Orders of instructions alone; for the others OTHER, and nothing is written.

@@ -1,6 +1,6 @@
 -- An order as one number: its kind's, and its operands before it in base 32, the first one lowest. The last may be an index below 4,096.
 use mathlib.Core.Bool.{Bool, true, false, cond}
-use Prim.Native.Nat.{ℕ, _/_, _%_, _-_}
+use Prim.Native.Nat.{ℕ, _+_, _*_, _/_, _%_, _-_}
 use lib.Dec.{eqb, ltb}
 use Rattle.order.specs.declared.Place.{Place}
 use Rattle.order.specs.declared.Place.the-variants.{Mem, Stack, Param}
@@ -51,6 +51,10 @@ register x = x % 32
 
 abbrev pub index : ℕ → ℕ
 index x = x % 4096
+
+-- four registers
+abbrev pub operands : (a b c d : ℕ) → ℕ
+operands a b c d = a + 32 * (b + 32 * (c + 32 * d))
 
 -- kind k with operands x; 20 is `ifelse`, 21 `load_const`, 28 and 29 are `branch` (else 0 and 1), 30 is `label`
 unfoldable pub order-at : (k x : ℕ) → Order

@@ -1,7 +1,7 @@
 // An order as one number, which the compiled code keeps in a register: its kind, and before it the operands in base 32.
 ghost use mathlib.Core.Path.{_≡_};
-ghost use Prim.Native.Nat.{_/_, _%_, _<_};
-ghost use Rattle.packed.specs.Packed.{unary-at, scratched-at, binary-at, fused-at, place-at, order-at, unpacked};
+ghost use Prim.Native.Nat.{_/_, _%_, _≤_, _<_};
+ghost use Rattle.packed.specs.Packed.{unary-at, scratched-at, binary-at, fused-at, place-at, operands as operands-of, order-at, unpacked};
 use order::Binary;
 use order::Fused;
 use order::Order;
@@ -91,6 +91,61 @@ pub fn place_at(k: u64) -> Place
         return Place::Stack;
     }
     Place::Param
+}
+
+// The kinds' numbers, and registers before them.
+pub fn unary_kind(k: Unary) -> u64
+    ensures { λ r. ⌜ (r < 5) × (unary-at r ≡ k) ⌝ }
+{
+    match k {
+        Unary::Fmov => 0,
+        Unary::Recip => 1,
+        Unary::Round => 2,
+        Unary::Floor => 3,
+        Unary::Not => 4,
+    }
+}
+
+pub fn scratched_kind(k: Scratched) -> u64
+    ensures { λ r. ⌜ (5 ≤ r) × (r < 7) × (scratched-at r ≡ k) ⌝ }
+{
+    match k {
+        Scratched::Sign => 5,
+        Scratched::Frac => 6,
+    }
+}
+
+pub fn binary_kind(k: Binary) -> u64
+    ensures { λ r. ⌜ (7 ≤ r) × (r < 16) × (binary-at r ≡ k) ⌝ }
+{
+    match k {
+        Binary::Minus => 7,
+        Binary::Times => 8,
+        Binary::Divide => 9,
+        Binary::Gt => 10,
+        Binary::Neq => 11,
+        Binary::And => 12,
+        Binary::Andnot => 13,
+        Binary::Or => 14,
+        Binary::Xor => 15,
+    }
+}
+
+pub fn fused_kind(k: Fused) -> u64
+    ensures { λ r. ⌜ (16 ≤ r) × (r < 20) × (fused-at r ≡ k) ⌝ }
+{
+    match k {
+        Fused::MulAdd => 16,
+        Fused::MulSub => 17,
+        Fused::NegMulAdd => 18,
+        Fused::NegMulSub => 19,
+    }
+}
+
+pub fn operands(a: u32, b: u32, c: u32, d: u32) -> u64
+    ensures { λ r. ⌜ r ≡ operands-of a b c d ⌝ }
+{
+    a as u64 + 32 * (b as u64 + 32 * (c as u64 + 32 * (d as u64)))
 }
 
 // The operand that comes next: a register, or an index.

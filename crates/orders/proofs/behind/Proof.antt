@@ -7,38 +7,8 @@ use Rattle.orders.proofs.Whole.{taken, const-fits, label-fits, no-tail}
 use Rattle.orders.proofs.behind.Statement.{statement}
 use Rattle.orders.proofs.behind.Tie as tie
 
-enum-told : tie.Need-enum-told
-enum-told c = search needs
-
-enum-told-2 : tie.Need-enum-told-2
-enum-told-2 c = search needs
-
-enum-told-3 : tie.Need-enum-told-3
-enum-told-3 c = search needs
-
-enum-told-4 : tie.Need-enum-told-4
-enum-told-4 c = search needs
-
-enum-told-5 : tie.Need-enum-told-5
-enum-told-5 c = search needs
-
-enum-known-o : tie.Need-enum-known-o
-enum-known-o c = search needs
-
 add-t13 : tie.Need-add-t13
 add-t13 c = omega (arith, (rw (c .before .o .given .1) at (taken _ (c .before .before .before .pre))) .1)
-
-enum-told-6 : tie.Need-enum-told-6
-enum-told-6 c = search needs
-
-enum-told-7 : tie.Need-enum-told-7
-enum-told-7 c = search needs
-
-enum-known-o-2 : tie.Need-enum-known-o-2
-enum-known-o-2 c = search needs
-
-enum-known-o-3 : tie.Need-enum-known-o-3
-enum-known-o-3 c = search needs
 
 returns : tie.Need-returns
 returns c = (no-tail _ _ (c .enum-told .given .1) tt, refl)
@@ -77,17 +47,17 @@ pub behind-spec : {M : Type 1} → statement M
 behind-spec =
     tie.close
     (tie.spec
-    enum-told
-    enum-told-2
-    enum-told-3
-    enum-told-4
-    enum-told-5
-    enum-known-o
+    (λ c. search needs)
+    (λ c. search needs)
+    (λ c. search needs)
+    (λ c. search needs)
+    (λ c. search needs)
+    (λ c. search needs)
     add-t13
-    enum-told-6
-    enum-told-7
-    enum-known-o-2
-    enum-known-o-3
+    (λ c. search needs)
+    (λ c. search needs)
+    (λ c. search needs)
+    (λ c. search needs)
     returns
     returns-2
     returns-3

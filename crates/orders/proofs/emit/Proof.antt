@@ -6,52 +6,19 @@ use borrow.Author.Needs.{needs}
 use Rattle.orders.proofs.emit.Statement.{statement}
 use Rattle.orders.proofs.emit.Tie as tie
 
-fault-requires : tie.Need-fault-requires
-fault-requires c κs = search needs
-
 refused-plan-requires : tie.Need-refused-plan-requires
 refused-plan-requires c κs = rw (c .before .fault .ensures) (fault-small (c .before .before .before .args .o))
-
-place-requires : tie.Need-place-requires
-place-requires c κs = search needs
-
-same-length : tie.Need-same-length
-same-length c = search needs
 
 returns : tie.Need-returns
 returns c =
     let a = c .before .before .before .before .before .before .before .before .before .before .args in
     c .before .before .place .ensures ∙ order-refused (a .o) (a .tag) (state (a .asm) (now (a .labels)) (now (a .jumps)) (now (a .buf))) (c .before .before .before .before .before .before .refused-plan .result) (c .before .before .before .before .before .before .before .before .fault .result) (c .before .before .before .before .before .before .before .before .fault .ensures) (c .before .before .before .before .before .before .before .if1 .taken) (c .before .before .before .before .before .before .refused-plan .ensures)
 
-plan-requires : tie.Need-plan-requires
-plan-requires c κs = search needs
-
-behind-requires : tie.Need-behind-requires
-behind-requires c κs = search needs
-
-enum-known-r : tie.Need-enum-known-r
-enum-known-r c = search needs
-
-place-requires-2 : tie.Need-place-requires-2
-place-requires-2 c κs = search needs
-
-enum-known-r-2 : tie.Need-enum-known-r-2
-enum-known-r-2 c = search needs
-
-set-label-requires : tie.Need-set-label-requires
-set-label-requires c κs = search needs
-
-same-length-2 : tie.Need-same-length-2
-same-length-2 c = search needs
-
 returns-2 : tie.Need-returns-2
 returns-2 c =
     let a = c .before .before .before .before .before .before .before .before .before .before .before .before .before .before .args in
     let q = rw (c .before .before .before .before .before .before .before .r .given .1) at (c .before .before .before .before .before .before .before .before .before .behind .ensures) in
     c .before .before .place2 .ensures ∙ order-placed (a .o) (a .tag) (state (a .asm) (now (a .labels)) (now (a .jumps)) (now (a .buf))) (c .before .before .before .before .before .before .before .before .before .before .plan .result) (c .before .before .before .before .before .before .before .r .given .0 .0) (sym (c .before .before .before .before .before .before .before .before .before .before .before .before .fault .ensures) ∙ c .before .before .before .before .before .before .before .before .before .before .before .if1 .left) (c .before .before .before .before .before .before .before .before .before .before .plan .ensures) (q .0) (q .1)
-
-same-length-3 : tie.Need-same-length-3
-same-length-3 c = search needs
 
 returns-3 : tie.Need-returns-3
 returns-3 c =
@@ -63,18 +30,18 @@ pub emit-spec : {M : Type 1} → statement M
 emit-spec =
     tie.close
     (tie.spec
-    fault-requires
+    (λ c κs. search needs)
     refused-plan-requires
-    place-requires
-    same-length
+    (λ c κs. search needs)
+    (λ c. search needs)
     returns
-    plan-requires
-    behind-requires
-    enum-known-r
-    place-requires-2
-    enum-known-r-2
-    set-label-requires
-    same-length-2
+    (λ c κs. search needs)
+    (λ c κs. search needs)
+    (λ c. search needs)
+    (λ c κs. search needs)
+    (λ c. search needs)
+    (λ c κs. search needs)
+    (λ c. search needs)
     returns-2
-    same-length-3
+    (λ c. search needs)
     returns-3)

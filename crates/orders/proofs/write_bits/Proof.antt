@@ -6,30 +6,6 @@ use borrow.Author.Needs.{needs}
 use Rattle.orders.proofs.write_bits.Statement.{statement}
 use Rattle.orders.proofs.write_bits.Tie as tie
 
-fmv-x-d-requires : tie.Need-fmv-x-d-requires
-fmv-x-d-requires c κs = search needs
-
-word-requires : tie.Need-word-requires
-word-requires c κs = search needs
-
-fmv-x-d-requires-2 : tie.Need-fmv-x-d-requires-2
-fmv-x-d-requires-2 c κs = search needs
-
-word-requires-2 : tie.Need-word-requires-2
-word-requires-2 c κs = search needs
-
-fmv-d-x-requires : tie.Need-fmv-d-x-requires
-fmv-d-x-requires c κs = search needs
-
-word-requires-3 : tie.Need-word-requires-3
-word-requires-3 c κs = search needs
-
-put-four-requires : tie.Need-put-four-requires
-put-four-requires c κs = search needs
-
-same-length : tie.Need-same-length
-same-length c = search needs
-
 returns : tie.Need-returns
 returns c =
     let a = c .before .before .before .before .before .before .before .before .before .before .before .args in
@@ -42,12 +18,12 @@ pub write-bits-spec : {M : Type 1} → statement M
 write-bits-spec =
     tie.close
     (tie.spec
-    fmv-x-d-requires
-    word-requires
-    fmv-x-d-requires-2
-    word-requires-2
-    fmv-d-x-requires
-    word-requires-3
-    put-four-requires
-    same-length
+    (λ c κs. search needs)
+    (λ c κs. search needs)
+    (λ c κs. search needs)
+    (λ c κs. search needs)
+    (λ c κs. search needs)
+    (λ c κs. search needs)
+    (λ c κs. search needs)
+    (λ c. search needs)
     returns)

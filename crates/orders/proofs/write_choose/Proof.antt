@@ -7,57 +7,6 @@ use borrow.Author.Needs.{needs}
 use Rattle.orders.proofs.write_choose.Statement.{statement}
 use Rattle.orders.proofs.write_choose.Tie as tie
 
-fmv-x-d-requires : tie.Need-fmv-x-d-requires
-fmv-x-d-requires c κs = search needs
-
-word-requires : tie.Need-word-requires
-word-requires c κs = search needs
-
-fmv-x-d-requires-2 : tie.Need-fmv-x-d-requires-2
-fmv-x-d-requires-2 c κs = search needs
-
-word-requires-2 : tie.Need-word-requires-2
-word-requires-2 c κs = search needs
-
-and-requires : tie.Need-and-requires
-and-requires c κs = search needs
-
-word-requires-3 : tie.Need-word-requires-3
-word-requires-3 c κs = search needs
-
-not-requires : tie.Need-not-requires
-not-requires c κs = search needs
-
-word-requires-4 : tie.Need-word-requires-4
-word-requires-4 c κs = search needs
-
-put-four-requires : tie.Need-put-four-requires
-put-four-requires c κs = search needs
-
-and-requires-2 : tie.Need-and-requires-2
-and-requires-2 c κs = search needs
-
-word-requires-5 : tie.Need-word-requires-5
-word-requires-5 c κs = search needs
-
-or-requires : tie.Need-or-requires
-or-requires c κs = search needs
-
-word-requires-6 : tie.Need-word-requires-6
-word-requires-6 c κs = search needs
-
-fmv-d-x-requires : tie.Need-fmv-d-x-requires
-fmv-d-x-requires c κs = search needs
-
-word-requires-7 : tie.Need-word-requires-7
-word-requires-7 c κs = search needs
-
-put-three-requires : tie.Need-put-three-requires
-put-three-requires c κs = search needs
-
-same-length : tie.Need-same-length
-same-length c = search needs
-
 returns : tie.Need-returns
 returns c =
     let a = c .before .before .before .before .before .before .before .before .before .before .before .before .before .before .before .before .before .before .before .before .before .before .before .args in
@@ -69,21 +18,21 @@ pub write-choose-spec : {M : Type 1} → statement M
 write-choose-spec =
     tie.close
     (tie.spec
-    fmv-x-d-requires
-    word-requires
-    fmv-x-d-requires-2
-    word-requires-2
-    and-requires
-    word-requires-3
-    not-requires
-    word-requires-4
-    put-four-requires
-    and-requires-2
-    word-requires-5
-    or-requires
-    word-requires-6
-    fmv-d-x-requires
-    word-requires-7
-    put-three-requires
-    same-length
+    (λ c κs. search needs)
+    (λ c κs. search needs)
+    (λ c κs. search needs)
+    (λ c κs. search needs)
+    (λ c κs. search needs)
+    (λ c κs. search needs)
+    (λ c κs. search needs)
+    (λ c κs. search needs)
+    (λ c κs. search needs)
+    (λ c κs. search needs)
+    (λ c κs. search needs)
+    (λ c κs. search needs)
+    (λ c κs. search needs)
+    (λ c κs. search needs)
+    (λ c κs. search needs)
+    (λ c κs. search needs)
+    (λ c. search needs)
     returns)

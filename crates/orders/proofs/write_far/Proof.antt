@@ -9,36 +9,6 @@ use borrow.Author.Needs.{needs}
 use Rattle.orders.proofs.write_far.Statement.{statement}
 use Rattle.orders.proofs.write_far.Tie as tie
 
-hi-requires : tie.Need-hi-requires
-hi-requires c κs = search needs
-
-lui-requires : tie.Need-lui-requires
-lui-requires c κs = search needs
-
-word-requires : tie.Need-word-requires
-word-requires c κs = search needs
-
-lo-requires : tie.Need-lo-requires
-lo-requires c κs = search needs
-
-addi-requires : tie.Need-addi-requires
-addi-requires c κs = search needs
-
-word-requires-2 : tie.Need-word-requires-2
-word-requires-2 c κs = search needs
-
-add-requires : tie.Need-add-requires
-add-requires c κs = search needs
-
-word-requires-3 : tie.Need-word-requires-3
-word-requires-3 c κs = search needs
-
-put-four-requires : tie.Need-put-four-requires
-put-four-requires c κs = search needs
-
-same-length : tie.Need-same-length
-same-length c = search needs
-
 returns : tie.Need-returns
 returns c =
     let a = c .before .before .before .before .before .before .before .before .before .before .before .before .before .args in
@@ -51,14 +21,14 @@ pub write-far-spec : {M : Type 1} → statement M
 write-far-spec =
     tie.close
     (tie.spec
-    hi-requires
-    lui-requires
-    word-requires
-    lo-requires
-    addi-requires
-    word-requires-2
-    add-requires
-    word-requires-3
-    put-four-requires
-    same-length
+    (λ c κs. search needs)
+    (λ c κs. search needs)
+    (λ c κs. search needs)
+    (λ c κs. search needs)
+    (λ c κs. search needs)
+    (λ c κs. search needs)
+    (λ c κs. search needs)
+    (λ c κs. search needs)
+    (λ c κs. search needs)
+    (λ c. search needs)
     returns)

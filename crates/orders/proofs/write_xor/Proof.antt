@@ -10,18 +10,6 @@ use borrow.Author.Needs.{needs}
 use Rattle.orders.proofs.write_xor.Statement.{statement}
 use Rattle.orders.proofs.write_xor.Tie as tie
 
-fmv-d-x-requires : tie.Need-fmv-d-x-requires
-fmv-d-x-requires c κs = search needs
-
-word-requires : tie.Need-word-requires
-word-requires c κs = search needs
-
-put-one-requires : tie.Need-put-one-requires
-put-one-requires c κs = search needs
-
-same-length : tie.Need-same-length
-same-length c = search needs
-
 returns : tie.Need-returns
 unfolding binary-code
 returns c =
@@ -30,18 +18,6 @@ returns c =
     (wrote (now (a .buf)) (a .len) (c .before .before .before .word .result ∷ []) (M FMV-D-X (a .d) 0 ∷ [])
     (word-is (c .before .before .before .before .fmv-d-x .result) _ (c .before .before .before .word .ensures) (c .before .before .before .before .fmv-d-x .ensures), tt)
     (c .before .before .put-one .ensures))
-
-xor-requires : tie.Need-xor-requires
-xor-requires c κs = search needs
-
-word-requires-2 : tie.Need-word-requires-2
-word-requires-2 c κs = search needs
-
-write-bits-requires : tie.Need-write-bits-requires
-write-bits-requires c κs = search needs
-
-same-length-2 : tie.Need-same-length-2
-same-length-2 c = search needs
 
 returns-2 : tie.Need-returns-2
 unfolding binary-code
@@ -56,13 +32,13 @@ pub write-xor-spec : {M : Type 1} → statement M
 write-xor-spec =
     tie.close
     (tie.spec
-    fmv-d-x-requires
-    word-requires
-    put-one-requires
-    same-length
+    (λ c κs. search needs)
+    (λ c κs. search needs)
+    (λ c κs. search needs)
+    (λ c. search needs)
     returns
-    xor-requires
-    word-requires-2
-    write-bits-requires
-    same-length-2
+    (λ c κs. search needs)
+    (λ c κs. search needs)
+    (λ c κs. search needs)
+    (λ c. search needs)
     returns-2)
