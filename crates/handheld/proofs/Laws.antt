@@ -1,7 +1,7 @@
 -- What is promised of `deck_emit` holds of `deck_emit_in` too; a deck file's text is never empty, so 0 says that there was no room. Assumes nothing.
 use mathlib.Core.Path.{_≡_, ap, _∙_}
 use mathlib.Core.List.{List, [], _∷_, _++_}
-use Prim.Native.Nat.{ℕ, _+_, _*_, _≤_, _<_}
+use Prim.Native.Nat.{ℕ, _+_, _≤_, _<_}
 use native.Mathlib.Omega.{arith}
 use lib.ListN.{length, length-append}
 use Rattle.refusal.specs.Answer.{Answer, accepted, refused}

@@ -2,21 +2,6 @@ use borrow.Author.Needs.{needs}
 use Rattle.handheld.proofs.numbers.Statement.{statement}
 use Rattle.handheld.proofs.numbers.Tie as tie
 
-enum-known-a : tie.Need-enum-known-a
-enum-known-a c = search needs
-
-frame-number-requires : tie.Need-frame-number-requires
-frame-number-requires c κs = search needs
-
-enum-known-a-2 : tie.Need-enum-known-a-2
-enum-known-a-2 c = search needs
-
-number-requires : tie.Need-number-requires
-number-requires c κs = search needs
-
-cast-n : tie.Need-cast-n
-cast-n c = search needs
-
 returns : tie.Need-returns
 returns c = rw (c .before .before .a .given .1, c .frame-number .ensures)
 
@@ -27,10 +12,10 @@ pub numbers-spec : {M : Type 1} → statement M
 numbers-spec =
     tie.close
     (tie.spec
-    enum-known-a
-    frame-number-requires
-    enum-known-a-2
-    number-requires
-    cast-n
+    (λ c. search needs)
+    (λ c κs. search needs)
+    (λ c. search needs)
+    (λ c κs. search needs)
+    (λ c. search needs)
     returns
     returns-2)

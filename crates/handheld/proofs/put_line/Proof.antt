@@ -6,49 +6,10 @@ use borrow.Author.Needs.{needs}
 use Rattle.handheld.proofs.put_line.Statement.{statement}
 use Rattle.handheld.proofs.put_line.Tie as tie
 
-read-form-requires : tie.Need-read-form-requires
-read-form-requires c κs = search needs
-
-is-order-requires : tie.Need-is-order-requires
-is-order-requires c κs = search needs
-
-judge-requires : tie.Need-judge-requires
-judge-requires c κs = search needs
-
-enum-known-j : tie.Need-enum-known-j
-enum-known-j c = search needs
-
-emit-requires : tie.Need-emit-requires
-emit-requires c κs = search needs
-
-enum-known-j-2 : tie.Need-enum-known-j-2
-enum-known-j-2 c = search needs
-
-refuse-requires : tie.Need-refuse-requires
-refuse-requires c κs = search needs
-
-enum-told : tie.Need-enum-told
-enum-told c = search needs
-
-no-order-requires : tie.Need-no-order-requires
-no-order-requires c κs = search needs
-
-enum-told-2 : tie.Need-enum-told-2
-enum-told-2 c = search needs
-
-no-order-requires-2 : tie.Need-no-order-requires-2
-no-order-requires-2 c κs = search needs
-
-same-length : tie.Need-same-length
-same-length c = search needs
-
 returns : tie.Need-returns
 returns c =
     let a = c .before .before .before .before .before .before .before .before .before .before .before .before .before .before .before .args in
     rw (← c .before .before .before .before .before .before .before .before .before .before .before .before .read-form .ensures) (c .before .before .emit .ensures ∙ sym (order-line (a .tag) _ (state (a .asm) (now (a .labels)) (now (a .jumps)) (now (a .buf))) (sym (c .before .before .before .before .before .before .before .before .before .before .before .is-order .ensures) ∙ c .before .before .before .before .before .before .before .before .before .before .if1 .taken) _ (c .before .before .before .before .before .before .before .before .before .judge .ensures) _ (c .before .before .before .before .before .before .before .j .given .1)))
-
-same-length-2 : tie.Need-same-length-2
-same-length-2 c = search needs
 
 returns-2 : tie.Need-returns-2
 returns-2 c =
@@ -65,9 +26,6 @@ returns-4 c =
     let a = c .before .before .before .before .before .before .before .before .before .args in
     rw (← c .before .before .before .before .before .before .read-form .ensures) (c .no-order2 .ensures (now (a .labels)) (now (a .jumps)) (now (a .buf)) ∙ sym (constant-line (a .tag) _ (state (a .asm) (now (a .labels)) (now (a .jumps)) (now (a .buf))) (sym (c .before .before .before .before .before .is-order .ensures) ∙ c .before .before .before .before .if1 .taken) _ (c .before .before .before .judge .ensures) _ (c .before .enum-told2 .given .1)))
 
-no-order-requires-3 : tie.Need-no-order-requires-3
-no-order-requires-3 c κs = search needs
-
 returns-5 : tie.Need-returns-5
 returns-5 c =
     let a = c .before .before .before .before .before .before .args in
@@ -77,22 +35,22 @@ pub put-line-spec : {M : Type 1} → statement M
 put-line-spec =
     tie.close
     (tie.spec
-    read-form-requires
-    is-order-requires
-    judge-requires
-    enum-known-j
-    emit-requires
-    enum-known-j-2
-    refuse-requires
-    enum-told
-    no-order-requires
-    enum-told-2
-    no-order-requires-2
-    same-length
+    (λ c κs. search needs)
+    (λ c κs. search needs)
+    (λ c κs. search needs)
+    (λ c. search needs)
+    (λ c κs. search needs)
+    (λ c. search needs)
+    (λ c κs. search needs)
+    (λ c. search needs)
+    (λ c κs. search needs)
+    (λ c. search needs)
+    (λ c κs. search needs)
+    (λ c. search needs)
     returns
-    same-length-2
+    (λ c. search needs)
     returns-2
     returns-3
     returns-4
-    no-order-requires-3
+    (λ c κs. search needs)
     returns-5)

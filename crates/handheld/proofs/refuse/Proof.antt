@@ -7,19 +7,10 @@ use borrow.Author.Needs.{needs}
 use Rattle.handheld.proofs.refuse.Statement.{statement}
 use Rattle.handheld.proofs.refuse.Tie as tie
 
-number-requires : tie.Need-number-requires
-number-requires c κs = search needs
-
-place-requires : tie.Need-place-requires
-place-requires c κs = search needs
-
-same-length : tie.Need-same-length
-same-length c = search needs
-
 returns : tie.Need-returns
 returns c =
     let a = c .before .before .before .before .before .before .before .before .args in
     c .before .before .place .ensures ∙ fault-put (a .why) _ (a .tag) (replicate 12 0) (state (a .asm) (now (a .labels)) (now (a .jumps)) (now (a .buf))) (c .before .before .before .before .before .before .number .ensures)
 
 pub refuse-spec : {M : Type 1} → statement M
-refuse-spec = tie.close (tie.spec number-requires place-requires same-length returns)
+refuse-spec = tie.close (tie.spec (λ c κs. search needs) (λ c κs. search needs) (λ c. search needs) returns)
