@@ -11,9 +11,6 @@ use Rattle.assembler.specs.Put.{verdict, settled}
 use Rattle.frames.proofs.begin.Statement.{statement}
 use Rattle.frames.proofs.begin.Tie as tie
 
-ask-requires : tie.Need-ask-requires
-ask-requires c κs = search needs
-
 returns : tie.Need-returns
 returns c =
     let a = c .before .before .args in
@@ -22,4 +19,4 @@ returns c =
     c .ask .ensures (now (a .labels)) (now (a .jumps)) (now (a .buf)) ∙ ap (λ (k : ℕ). settled (verdict k (a .taken) (a .words) (a .count) (length (now (a .buf))) (a .asm)) s s) f
 
 pub begin-spec : {M : Type 1} → statement M
-begin-spec = tie.close (tie.spec ask-requires returns)
+begin-spec = tie.close (tie.spec (λ c κs. search needs) returns)

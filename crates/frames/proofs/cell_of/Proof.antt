@@ -11,11 +11,8 @@ returns c = (omega arith ∙ cell-low (c .before .before .args .r) (c .before .i
 returns-2 : tie.Need-returns-2
 returns-2 c = (cell-low (c .before .before .args .r) (c .before .if1 .taken), search needs)
 
-sub-result : tie.Need-sub-result
-sub-result c = search needs
-
 returns-3 : tie.Need-returns-3
 returns-3 c = (cell-high (c .before .args .r) (c .if1 .left), search needs)
 
 pub cell-of-spec : {M : Type 1} → statement M
-cell-of-spec = tie.close (tie.spec returns returns-2 sub-result returns-3)
+cell-of-spec = tie.close (tie.spec returns returns-2 (λ c. search needs) returns-3)

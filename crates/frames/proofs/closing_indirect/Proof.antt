@@ -14,51 +14,6 @@ use borrow.Author.Needs.{needs}
 use Rattle.frames.proofs.closing_indirect.Statement.{statement}
 use Rattle.frames.proofs.closing_indirect.Tie as tie
 
-mv-requires : tie.Need-mv-requires
-mv-requires c κs = search needs
-
-ld-requires : tie.Need-ld-requires
-ld-requires c κs = search needs
-
-ld-requires-2 : tie.Need-ld-requires-2
-ld-requires-2 c κs = search needs
-
-ld-requires-3 : tie.Need-ld-requires-3
-ld-requires-3 c κs = search needs
-
-ld-requires-4 : tie.Need-ld-requires-4
-ld-requires-4 c κs = search needs
-
-five-requires : tie.Need-five-requires
-five-requires c κs = search needs
-
-ld-requires-5 : tie.Need-ld-requires-5
-ld-requires-5 c κs = search needs
-
-ld-requires-6 : tie.Need-ld-requires-6
-ld-requires-6 c κs = search needs
-
-ld-requires-7 : tie.Need-ld-requires-7
-ld-requires-7 c κs = search needs
-
-addi-requires : tie.Need-addi-requires
-addi-requires c κs = search needs
-
-more-requires : tie.Need-more-requires
-more-requires c κs = search needs
-
-xor-requires : tie.Need-xor-requires
-xor-requires c κs = search needs
-
-push-requires : tie.Need-push-requires
-push-requires c κs = search needs
-
-ret-requires : tie.Need-ret-requires
-ret-requires c κs = search needs
-
-push-requires-2 : tie.Need-push-requires-2
-push-requires-2 c κs = search needs
-
 returns : tie.Need-returns
 unfolding add-stack-code
 returns c =
@@ -71,19 +26,19 @@ pub closing-indirect-spec : {M : Type 1} → statement M
 closing-indirect-spec =
     tie.close
     (tie.spec
-    mv-requires
-    ld-requires
-    ld-requires-2
-    ld-requires-3
-    ld-requires-4
-    five-requires
-    ld-requires-5
-    ld-requires-6
-    ld-requires-7
-    addi-requires
-    more-requires
-    xor-requires
-    push-requires
-    ret-requires
-    push-requires-2
+    (λ c κs. search needs)
+    (λ c κs. search needs)
+    (λ c κs. search needs)
+    (λ c κs. search needs)
+    (λ c κs. search needs)
+    (λ c κs. search needs)
+    (λ c κs. search needs)
+    (λ c κs. search needs)
+    (λ c κs. search needs)
+    (λ c κs. search needs)
+    (λ c κs. search needs)
+    (λ c κs. search needs)
+    (λ c κs. search needs)
+    (λ c κs. search needs)
+    (λ c κs. search needs)
     returns)

@@ -15,37 +15,16 @@ use borrow.Author.Needs.{needs}
 use Rattle.frames.proofs.copies.Statement.{statement}
 use Rattle.frames.proofs.copies.Tie as tie
 
-no-plan-requires : tie.Need-no-plan-requires
-no-plan-requires c κs = search needs
-
-place-requires : tie.Need-place-requires
-place-requires c κs = search needs
-
-same-length : tie.Need-same-length
-same-length c = search needs
-
 returns : tie.Need-returns
 unfolding jumps
 returns c =
     let a = c .before .before .before .before .before .before .before .before .before .args in
     c .before .before .place .ensures ∙ plan-code _ [] (c .before .before .before .before .before .before .no-plan .ensures) (omega arith) tt 0 _ ∙ untagged 0 (a .tag) 0 [] _ refl ∙ ap (λ (is : List Item). put (a .tag) 0 is (state (a .asm) (now (a .labels)) (now (a .jumps)) (now (a .buf)))) (sym (none-are (a .out) (a .states) (a .n) (c .before .before .before .before .before .before .before .if1 .taken)))
 
-straight-requires : tie.Need-straight-requires
-straight-requires c κs = search needs
-
-same-length-2 : tie.Need-same-length-2
-same-length-2 c = search needs
-
 returns-2 : tie.Need-returns-2
 returns-2 c =
     let a = c .before .before .before .before .before .before .before .before .before .args in
     c .before .before .straight .ensures ∙ untagged 0 (a .tag) 0 _ _ (jumps-code (copy-first (a .out) (a .states) ++ times-over (a .n) (copy-each (a .out)))) ∙ ap (λ (is : List Item). put (a .tag) 0 is (state (a .asm) (now (a .labels)) (now (a .jumps)) (now (a .buf)))) (sym (few-are (a .out) (a .states) (a .n) (c .before .before .before .before .before .before .before .if1 .left) (c .before .before .before .before .before .before .if2 .taken)))
-
-looped-requires : tie.Need-looped-requires
-looped-requires c κs = search needs
-
-same-length-3 : tie.Need-same-length-3
-same-length-3 c = search needs
 
 returns-3 : tie.Need-returns-3
 returns-3 c =
@@ -56,13 +35,13 @@ pub copies-spec : {M : Type 1} → statement M
 copies-spec =
     tie.close
     (tie.spec
-    no-plan-requires
-    place-requires
-    same-length
+    (λ c κs. search needs)
+    (λ c κs. search needs)
+    (λ c. search needs)
     returns
-    straight-requires
-    same-length-2
+    (λ c κs. search needs)
+    (λ c. search needs)
     returns-2
-    looped-requires
-    same-length-3
+    (λ c κs. search needs)
+    (λ c. search needs)
     returns-3)

@@ -23,28 +23,10 @@ Inv-loop out n buf₀ labels₀ jumps₀ p ok a₀ i₀ buf labels jumps a i =
 abbrev μ-loop : tie.MeasureT-loop
 μ-loop out n buf₀ labels₀ jumps₀ p ok a₀ i₀ buf labels jumps a i = n - i
 
-copy-plan-requires : tie.Need-copy-plan-requires Inv-loop μ-loop
-copy-plan-requires c κs = search needs
-
-mul-begin : tie.Need-mul-begin Inv-loop μ-loop
-mul-begin c = search needs
-
-begin-requires : tie.Need-begin-requires Inv-loop μ-loop
-begin-requires c κs = search needs
-
-accepted-requires : tie.Need-accepted-requires Inv-loop μ-loop
-accepted-requires c κs = search needs
-
 loop-holds : tie.Need-loop-holds Inv-loop μ-loop
 loop-holds c =
     let z : c .before .before .before .before .before .before .before .before .before .before .before .args .n - 0 ≡ c .before .before .before .before .before .before .before .before .before .before .before .args .n = omega arith in
     (search needs, search needs, λ u h. rw z h)
-
-place-requires : tie.Need-place-requires Inv-loop μ-loop
-place-requires c κs = search needs
-
-add-i : tie.Need-add-i Inv-loop μ-loop
-add-i c = search needs
 
 loop-less : tie.Need-loop-less Inv-loop μ-loop
 loop-less c = omega arith
@@ -72,9 +54,6 @@ returns c =
     let o = opens 0 w s _ _ (row-number (a .out) 0 (a .n) s) (c .before .before .before .before .before .before .before .begin .ensures) (sym (c .before .before .before .before .accepted .ensures) ∙ c .before .before .before .if1 .taken) in
     closed 0 w (code (times-over (a .n - l .i) (copy-each (a .out)))) s _ _ o (rw z) (l .inv .2 _ (o .left))
 
-same-length-2 : tie.Need-same-length-2 Inv-loop μ-loop
-same-length-2 c = search needs
-
 returns-2 : tie.Need-returns-2 Inv-loop μ-loop
 returns-2 c =
     let a = c .before .before .before .before .before .before .before .before .before .before .args in
@@ -87,16 +66,16 @@ copy-row-spec =
     (tie.spec
     Inv-loop
     μ-loop
-    copy-plan-requires
-    mul-begin
-    begin-requires
-    accepted-requires
+    (λ c κs. search needs)
+    (λ c. search needs)
+    (λ c κs. search needs)
+    (λ c κs. search needs)
     loop-holds
-    place-requires
-    add-i
+    (λ c κs. search needs)
+    (λ c. search needs)
     loop-less
     loop-again
     same-length
     returns
-    same-length-2
+    (λ c. search needs)
     returns-2)

@@ -13,32 +13,11 @@ returns c =
     let a = c .before .args in
     (rw (none-are (a .out) (a .states) (a .n) (c .if1 .taken)), search needs)
 
-first-words-requires : tie.Need-first-words-requires
-first-words-requires c κs = search needs
-
-mul-result : tie.Need-mul-result
-mul-result c = search needs
-
-add-result : tie.Need-add-result
-add-result c = search needs
-
 returns-2 : tie.Need-returns-2
 returns-2 c =
     let a = c .before .before .before .args in
     let f = c .first-words .ensures in
     (rw (few-are (a .out) (a .states) (a .n) (c .before .before .if1 .left) (c .before .if2 .taken)) (ap (λ (k : ℕ). k + 6 * a .n) (f .0) ∙ sym (straight-words (a .out) (a .states) (a .n))), omega (arith, f .1))
-
-first-words-requires-2 : tie.Need-first-words-requires-2
-first-words-requires-2 c κs = search needs
-
-li-words-requires : tie.Need-li-words-requires
-li-words-requires c κs = search needs
-
-add-result-2 : tie.Need-add-result-2
-add-result-2 c = search needs
-
-add-result-3 : tie.Need-add-result-3
-add-result-3 c = search needs
 
 returns-3 : tie.Need-returns-3
 returns-3 c =
@@ -52,12 +31,12 @@ copy-words-spec =
     tie.close
     (tie.spec
     returns
-    first-words-requires
-    mul-result
-    add-result
+    (λ c κs. search needs)
+    (λ c. search needs)
+    (λ c. search needs)
     returns-2
-    first-words-requires-2
-    li-words-requires
-    add-result-2
-    add-result-3
+    (λ c κs. search needs)
+    (λ c κs. search needs)
+    (λ c. search needs)
+    (λ c. search needs)
     returns-3)

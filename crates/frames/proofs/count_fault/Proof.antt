@@ -13,17 +13,8 @@ returns-2 c = (no-cells (c .before .before .before .before .args .h) (c .before 
 returns-3 : tie.Need-returns-3
 returns-3 c = (no-cells (c .before .before .before .before .before .before .args .h) (c .before .before .before .before .if1 .left) (omega (arith, c .if3 .taken)), search needs)
 
-add-if4 : tie.Need-add-if4
-add-if4 c = search needs
-
 returns-4 : tie.Need-returns-4
 returns-4 c = (no-cells (c .before .before .before .before .before .before .before .before .args .h) (c .before .before .before .before .before .before .if1 .left) (c .if4 .taken), search needs)
-
-enum-told : tie.Need-enum-told
-enum-told c = search needs
-
-enum-told-2 : tie.Need-enum-told-2
-enum-told-2 c = search needs
 
 returns-5 : tie.Need-returns-5
 returns-5 c = (many-states (c .before .before .before .before .before .before .before .before .before .before .before .before .args .h) (c .before .before .before .before .before .before .before .before .before .before .if1 .left) (c .before .before .before .before .if4 .left) (c .before .before .enum-told .given .1) (c .if5 .taken), search needs)
@@ -44,10 +35,10 @@ count-fault-spec =
     returns
     returns-2
     returns-3
-    add-if4
+    (λ c. search needs)
     returns-4
-    enum-told
-    enum-told-2
+    (λ c. search needs)
+    (λ c. search needs)
     returns-5
     returns-6
     returns-7

@@ -3,17 +3,11 @@ use borrow.Author.Needs.{needs}
 use Rattle.frames.proofs.end_taken.Statement.{statement}
 use Rattle.frames.proofs.end_taken.Tie as tie
 
-copy-taken-requires : tie.Need-copy-taken-requires
-copy-taken-requires c κs = search needs
-
 returns : tie.Need-returns
 returns c = rw (sym (c .before .copy-taken .ensures) ∙ c .if1 .taken)
-
-is-taken-requires : tie.Need-is-taken-requires
-is-taken-requires c κs = search needs
 
 returns-2 : tie.Need-returns-2
 returns-2 c = c .is-taken .ensures ∙ rw (sym (c .before .before .copy-taken .ensures) ∙ c .before .if1 .left)
 
 pub end-taken-spec : {M : Type 1} → statement M
-end-taken-spec = tie.close (tie.spec copy-taken-requires returns is-taken-requires returns-2)
+end-taken-spec = tie.close (tie.spec (λ c κs. search needs) returns (λ c κs. search needs) returns-2)

@@ -18,45 +18,6 @@ use borrow.Author.Needs.{needs}
 use Rattle.frames.proofs.enter.Statement.{statement}
 use Rattle.frames.proofs.enter.Tie as tie
 
-element-copy-out-is-taken : tie.Need-element-copy-out-is-taken
-element-copy-out-is-taken c = search needs
-
-is-taken-requires : tie.Need-is-taken-requires
-is-taken-requires c κs = search needs
-
-begin-requires : tie.Need-begin-requires
-begin-requires c κs = search needs
-
-accepted-requires : tie.Need-accepted-requires
-accepted-requires c κs = search needs
-
-set-label-requires : tie.Need-set-label-requires
-set-label-requires c κs = search needs
-
-opening-indirect-requires : tie.Need-opening-indirect-requires
-opening-indirect-requires c κs = search needs
-
-place-requires : tie.Need-place-requires
-place-requires c κs = search needs
-
-mv-requires : tie.Need-mv-requires
-mv-requires c κs = search needs
-
-mv-requires-2 : tie.Need-mv-requires-2
-mv-requires-2 c κs = search needs
-
-mv-requires-3 : tie.Need-mv-requires-3
-mv-requires-3 c κs = search needs
-
-mv-requires-4 : tie.Need-mv-requires-4
-mv-requires-4 c κs = search needs
-
-four-requires : tie.Need-four-requires
-four-requires c κs = search needs
-
-place-requires-2 : tie.Need-place-requires-2
-place-requires-2 c κs = search needs
-
 same-length : tie.Need-same-length
 same-length c = omega (arith, c .before .buf4 .given, c .before .before .before .before .before .before .before .before .before .before .before .before .buf3 .given, c .before .before .before .before .before .before .before .before .before .before .before .before .before .before .before .before .before .before .before .buf2 .given, c .before .before .before .before .before .before .before .before .before .before .before .before .before .before .before .before .before .before .before .before .before .before .before .before .before .before .before .buf .given)
 
@@ -74,9 +35,6 @@ returns c =
     let f2 = front-piece (a .tag) (opening Indirect) arguments _ _ _ e2 past f1 in
     closes (a .tag) entry (code arguments ++ past) s _ _ _ o f2 e3
 
-same-length-2 : tie.Need-same-length-2
-same-length-2 c = search needs
-
 returns-2 : tie.Need-returns-2
 returns-2 c =
     let a = c .before .before .before .before .before .before .before .before .before .before .before .args in
@@ -87,20 +45,20 @@ pub enter-spec : {M : Type 1} → statement M
 enter-spec =
     tie.close
     (tie.spec
-    element-copy-out-is-taken
-    is-taken-requires
-    begin-requires
-    accepted-requires
-    set-label-requires
-    opening-indirect-requires
-    place-requires
-    mv-requires
-    mv-requires-2
-    mv-requires-3
-    mv-requires-4
-    four-requires
-    place-requires-2
+    (λ c. search needs)
+    (λ c κs. search needs)
+    (λ c κs. search needs)
+    (λ c κs. search needs)
+    (λ c κs. search needs)
+    (λ c κs. search needs)
+    (λ c κs. search needs)
+    (λ c κs. search needs)
+    (λ c κs. search needs)
+    (λ c κs. search needs)
+    (λ c κs. search needs)
+    (λ c κs. search needs)
+    (λ c κs. search needs)
     same-length
     returns
-    same-length-2
+    (λ c. search needs)
     returns-2)

@@ -18,15 +18,6 @@ use borrow.Author.Needs.{needs}
 use Rattle.frames.proofs.epilogue_fast.Statement.{statement}
 use Rattle.frames.proofs.epilogue_fast.Tie as tie
 
-result-fault-requires : tie.Need-result-fault-requires
-result-fault-requires c κs = search needs
-
-begin-requires : tie.Need-begin-requires
-begin-requires c κs = search needs
-
-same-length : tie.Need-same-length
-same-length c = search needs
-
 returns : tie.Need-returns
 returns c =
     let a = c .before .before .before .before .before .before .before .before .before .args in
@@ -39,12 +30,6 @@ fast-end-requires c κs =
     let a = c .before .before .before .args in
     let H : Head = record { frame = Fast; cap = a .cap; states = a .states; obs = a .obs; last = a .last; mask = 0 } in
     near-result H (sym (c .before .result-fault .ensures .0) ∙ c .if1 .left) refl
-
-place-requires : tie.Need-place-requires
-place-requires c κs = search needs
-
-same-length-2 : tie.Need-same-length-2
-same-length-2 c = search needs
 
 returns-2 : tie.Need-returns-2
 unfolding epilogue
@@ -59,11 +44,11 @@ pub epilogue-fast-spec : {M : Type 1} → statement M
 epilogue-fast-spec =
     tie.close
     (tie.spec
-    result-fault-requires
-    begin-requires
-    same-length
+    (λ c κs. search needs)
+    (λ c κs. search needs)
+    (λ c. search needs)
     returns
     fast-end-requires
-    place-requires
-    same-length-2
+    (λ c κs. search needs)
+    (λ c. search needs)
     returns-2)

@@ -10,15 +10,6 @@ use borrow.Author.Needs.{needs}
 use Rattle.frames.proofs.epilogue_indirect.Statement.{statement}
 use Rattle.frames.proofs.epilogue_indirect.Tie as tie
 
-result-fault-requires : tie.Need-result-fault-requires
-result-fault-requires c κs = search needs
-
-begin-requires : tie.Need-begin-requires
-begin-requires c κs = search needs
-
-same-length : tie.Need-same-length
-same-length c = search needs
-
 returns : tie.Need-returns
 returns c =
     let a = c .before .before .before .before .before .before .before .before .before .args in
@@ -32,9 +23,6 @@ indirect-end-requires c κs =
     let H : Head = record { frame = Indirect; cap = a .cap; states = a .states; obs = a .obs; last = a .last; mask = 0 } in
     end-cells H (sym (c .before .before .before .before .result-fault .ensures .0) ∙ c .before .before .before .if1 .left)
 
-same-length-2 : tie.Need-same-length-2
-same-length-2 c = search needs
-
 returns-2 : tie.Need-returns-2
 unfolding epilogue
 returns-2 c =
@@ -47,10 +35,10 @@ pub epilogue-indirect-spec : {M : Type 1} → statement M
 epilogue-indirect-spec =
     tie.close
     (tie.spec
-    result-fault-requires
-    begin-requires
-    same-length
+    (λ c κs. search needs)
+    (λ c κs. search needs)
+    (λ c. search needs)
     returns
     indirect-end-requires
-    same-length-2
+    (λ c. search needs)
     returns-2)

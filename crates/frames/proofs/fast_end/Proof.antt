@@ -15,45 +15,6 @@ use borrow.Author.Needs.{needs}
 use Rattle.frames.proofs.fast_end.Statement.{statement}
 use Rattle.frames.proofs.fast_end.Tie as tie
 
-mul-fld : tie.Need-mul-fld
-mul-fld c = search needs
-
-cast-fld : tie.Need-cast-fld
-cast-fld c = search needs
-
-fld-requires : tie.Need-fld-requires
-fld-requires c κs = search needs
-
-mv-requires : tie.Need-mv-requires
-mv-requires c κs = search needs
-
-ld-requires : tie.Need-ld-requires
-ld-requires c κs = search needs
-
-ld-requires-2 : tie.Need-ld-requires-2
-ld-requires-2 c κs = search needs
-
-ld-requires-3 : tie.Need-ld-requires-3
-ld-requires-3 c κs = search needs
-
-five-requires : tie.Need-five-requires
-five-requires c κs = search needs
-
-ld-requires-4 : tie.Need-ld-requires-4
-ld-requires-4 c κs = search needs
-
-addi-requires : tie.Need-addi-requires
-addi-requires c κs = search needs
-
-xor-requires : tie.Need-xor-requires
-xor-requires c κs = search needs
-
-ret-requires : tie.Need-ret-requires
-ret-requires c κs = search needs
-
-more-requires : tie.Need-more-requires
-more-requires c κs = search needs
-
 returns : tie.Need-returns
 unfolding add-stack-code
 returns c =
@@ -66,17 +27,17 @@ pub fast-end-spec : {M : Type 1} → statement M
 fast-end-spec =
     tie.close
     (tie.spec
-    mul-fld
-    cast-fld
-    fld-requires
-    mv-requires
-    ld-requires
-    ld-requires-2
-    ld-requires-3
-    five-requires
-    ld-requires-4
-    addi-requires
-    xor-requires
-    ret-requires
-    more-requires
+    (λ c. search needs)
+    (λ c. search needs)
+    (λ c κs. search needs)
+    (λ c κs. search needs)
+    (λ c κs. search needs)
+    (λ c κs. search needs)
+    (λ c κs. search needs)
+    (λ c κs. search needs)
+    (λ c κs. search needs)
+    (λ c κs. search needs)
+    (λ c κs. search needs)
+    (λ c κs. search needs)
+    (λ c κs. search needs)
     returns)

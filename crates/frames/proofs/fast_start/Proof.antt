@@ -20,62 +20,8 @@ use borrow.Author.Needs.{needs}
 use Rattle.frames.proofs.fast_start.Statement.{statement}
 use Rattle.frames.proofs.fast_start.Tie as tie
 
-add-size-of : tie.Need-add-size-of
-add-size-of c = search needs
-
-size-of-requires : tie.Need-size-of-requires
-size-of-requires c κs = search needs
-
-size-of-requires-2 : tie.Need-size-of-requires-2
-size-of-requires-2 c κs = search needs
-
-sub-words-requires : tie.Need-sub-words-requires
-sub-words-requires c κs = search needs
-
-sub-words-requires-2 : tie.Need-sub-words-requires-2
-sub-words-requires-2 c κs = search needs
-
-add-w : tie.Need-add-w
-add-w c = search needs
-
-add-w-2 : tie.Need-add-w-2
-add-w-2 c = search needs
-
-add-w-3 : tie.Need-add-w-3
-add-w-3 c = search needs
-
-begin-requires : tie.Need-begin-requires
-begin-requires c κs = search needs
-
-accepted-requires : tie.Need-accepted-requires
-accepted-requires c κs = search needs
-
-opening-fast-requires : tie.Need-opening-fast-requires
-opening-fast-requires c κs = search needs
-
-place-requires : tie.Need-place-requires
-place-requires c κs = search needs
-
-sub-stack-requires : tie.Need-sub-stack-requires
-sub-stack-requires c κs = search needs
-
-mv-requires : tie.Need-mv-requires
-mv-requires c κs = search needs
-
-one-requires : tie.Need-one-requires
-one-requires c κs = search needs
-
-place-requires-2 : tie.Need-place-requires-2
-place-requires-2 c κs = search needs
-
-sub-stack-requires-2 : tie.Need-sub-stack-requires-2
-sub-stack-requires-2 c κs = search needs
-
 states-plan-requires : tie.Need-states-plan-requires
 states-plan-requires c κs = c .before .before .before .before .before .before .before .before .before .before .before .before .before .before .before .before .before .before .before .before .before .before .before .before .before .before .before .before .before .before .before .before .before .before .before .before .before .before .before .before .pre .2
-
-place-requires-3 : tie.Need-place-requires-3
-place-requires-3 c κs = search needs
 
 same-length : tie.Need-same-length
 same-length c = omega (arith, c .before .buf6 .given, c .before .before .before .before .before .before .before .before .buf5 .given, c .before .before .before .before .before .before .before .before .before .before .before .before .before .before .buf4 .given, c .before .before .before .before .before .before .before .before .before .before .before .before .before .before .before .before .before .before .before .before .before .before .buf3 .given, c .before .before .before .before .before .before .before .before .before .before .before .before .before .before .before .before .before .before .before .before .before .before .before .before .before .before .before .before .buf2 .given, c .before .before .before .before .before .before .before .before .before .before .before .before .before .before .before .before .before .before .before .before .before .before .before .before .before .before .before .before .before .before .before .before .before .before .before .before .before .buf .given)
@@ -100,9 +46,6 @@ returns c =
     let f4 = code-piece 0 stack states _ _ _ e4 f3 in
     closes 0 (prologue-fast H) (code states) s _ _ _ o f4 e5
 
-same-length-2 : tie.Need-same-length-2
-same-length-2 c = search needs
-
 returns-2 : tie.Need-returns-2
 returns-2 c =
     let a = c .before .before .before .before .before .before .before .before .before .before .before .before .before .args in
@@ -114,26 +57,26 @@ pub fast-start-spec : {M : Type 1} → statement M
 fast-start-spec =
     tie.close
     (tie.spec
-    add-size-of
-    size-of-requires
-    size-of-requires-2
-    sub-words-requires
-    sub-words-requires-2
-    add-w
-    add-w-2
-    add-w-3
-    begin-requires
-    accepted-requires
-    opening-fast-requires
-    place-requires
-    sub-stack-requires
-    mv-requires
-    one-requires
-    place-requires-2
-    sub-stack-requires-2
+    (λ c. search needs)
+    (λ c κs. search needs)
+    (λ c κs. search needs)
+    (λ c κs. search needs)
+    (λ c κs. search needs)
+    (λ c. search needs)
+    (λ c. search needs)
+    (λ c. search needs)
+    (λ c κs. search needs)
+    (λ c κs. search needs)
+    (λ c κs. search needs)
+    (λ c κs. search needs)
+    (λ c κs. search needs)
+    (λ c κs. search needs)
+    (λ c κs. search needs)
+    (λ c κs. search needs)
+    (λ c κs. search needs)
     states-plan-requires
-    place-requires-3
+    (λ c κs. search needs)
     same-length
     returns
-    same-length-2
+    (λ c. search needs)
     returns-2)

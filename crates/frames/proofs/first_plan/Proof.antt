@@ -15,21 +15,6 @@ use borrow.Author.Needs.{needs}
 use Rattle.frames.proofs.first_plan.Statement.{statement}
 use Rattle.frames.proofs.first_plan.Tie as tie
 
-mul-li-plan : tie.Need-mul-li-plan
-mul-li-plan c = search needs
-
-cast-li-plan : tie.Need-cast-li-plan
-cast-li-plan c = search needs
-
-li-plan-requires : tie.Need-li-plan-requires
-li-plan-requires c κs = search needs
-
-add-requires : tie.Need-add-requires
-add-requires c κs = search needs
-
-push-requires : tie.Need-push-requires
-push-requires c κs = search needs
-
 returns : tie.Need-returns
 returns c =
     let n = 8 * c .before .before .before .before .args .states in
@@ -38,12 +23,6 @@ returns c =
     ∙ ap (λ (p : Plan). pushed p (c .before .add .result)) (c .before .before .li-plan .ensures ∙ ap (λ (z : ℤ). plan-of (li-code 6 z)) (back-small n (omega arith)))
     ∙ pushed-last (li-code 6 (pos n)) (R ADD 6 6 9) (answered _ _ (c .before .add .ensures)))
 
-mv-requires : tie.Need-mv-requires
-mv-requires c κs = search needs
-
-one-requires : tie.Need-one-requires
-one-requires c κs = search needs
-
 returns-2 : tie.Need-returns-2
 returns-2 c = rw (c .before .before .if1 .left) (c .one .ensures ∙ collected (c .before .mv .result ∷ []) (mv 6 9 ∷ []) (answered _ _ (c .before .mv .ensures), tt))
 
@@ -51,12 +30,12 @@ pub first-plan-spec : {M : Type 1} → statement M
 first-plan-spec =
     tie.close
     (tie.spec
-    mul-li-plan
-    cast-li-plan
-    li-plan-requires
-    add-requires
-    push-requires
+    (λ c. search needs)
+    (λ c. search needs)
+    (λ c κs. search needs)
+    (λ c κs. search needs)
+    (λ c κs. search needs)
     returns
-    mv-requires
-    one-requires
+    (λ c κs. search needs)
+    (λ c κs. search needs)
     returns-2)

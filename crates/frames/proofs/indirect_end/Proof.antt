@@ -20,47 +20,8 @@ use borrow.Author.Needs.{needs}
 use Rattle.frames.proofs.indirect_end.Statement.{statement}
 use Rattle.frames.proofs.indirect_end.Tie as tie
 
-element-copy-out-end-taken : tie.Need-element-copy-out-end-taken
-element-copy-out-end-taken c = search needs
-
-element-copy-out-end-taken-2 : tie.Need-element-copy-out-end-taken-2
-element-copy-out-end-taken-2 c = search needs
-
-end-taken-requires : tie.Need-end-taken-requires
-end-taken-requires c κs = search needs
-
-copy-words-requires : tie.Need-copy-words-requires
-copy-words-requires c κs = search needs
-
-add-w : tie.Need-add-w
-add-w c = search needs
-
-copy-jumps-requires : tie.Need-copy-jumps-requires
-copy-jumps-requires c κs = search needs
-
-add-begin : tie.Need-add-begin
-add-begin c = search needs
-
-begin-requires : tie.Need-begin-requires
-begin-requires c κs = search needs
-
-accepted-requires : tie.Need-accepted-requires
-accepted-requires c κs = search needs
-
-jump-requires : tie.Need-jump-requires
-jump-requires c κs = search needs
-
 copies-requires : tie.Need-copies-requires
 copies-requires c κs = omega (arith, c .before .before .before .before .before .before .before .before .before .before .before .before .before .before .before .before .before .before .before .before .before .before .before .pre)
-
-set-label-requires : tie.Need-set-label-requires
-set-label-requires c κs = search needs
-
-closing-indirect-requires : tie.Need-closing-indirect-requires
-closing-indirect-requires c κs = search needs
-
-place-requires : tie.Need-place-requires
-place-requires c κs = search needs
 
 same-length : tie.Need-same-length
 same-length c = omega (arith, c .before .buf5 .given, c .before .before .before .before .before .before .before .before .buf4 .given, c .before .before .before .before .before .before .before .before .before .before .before .before .before .before .buf3 .given, c .before .before .before .before .before .before .before .before .before .before .before .before .before .before .before .before .before .before .before .before .buf2 .given, c .before .before .before .before .before .before .before .before .before .before .before .before .before .before .before .before .before .before .before .before .before .before .before .before .before .before .before .before .buf .given)
@@ -80,9 +41,6 @@ returns c =
     let f3 = piece (a .tag) (label at-done ∷ []) (code end) _ _ _ f2 e3 in
     closes (a .tag) (epilogue-indirect H) (code end) s _ _ _ o f3 e4
 
-same-length-2 : tie.Need-same-length-2
-same-length-2 c = search needs
-
 returns-2 : tie.Need-returns-2
 returns-2 c =
     let a = c .before .before .before .before .before .before .before .before .before .before .before .before .before .before .args in
@@ -94,21 +52,21 @@ pub indirect-end-spec : {M : Type 1} → statement M
 indirect-end-spec =
     tie.close
     (tie.spec
-    element-copy-out-end-taken
-    element-copy-out-end-taken-2
-    end-taken-requires
-    copy-words-requires
-    add-w
-    copy-jumps-requires
-    add-begin
-    begin-requires
-    accepted-requires
-    jump-requires
+    (λ c. search needs)
+    (λ c. search needs)
+    (λ c κs. search needs)
+    (λ c κs. search needs)
+    (λ c. search needs)
+    (λ c κs. search needs)
+    (λ c. search needs)
+    (λ c κs. search needs)
+    (λ c κs. search needs)
+    (λ c κs. search needs)
     copies-requires
-    set-label-requires
-    closing-indirect-requires
-    place-requires
+    (λ c κs. search needs)
+    (λ c κs. search needs)
+    (λ c κs. search needs)
     same-length
     returns
-    same-length-2
+    (λ c. search needs)
     returns-2)

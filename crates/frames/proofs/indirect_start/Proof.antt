@@ -26,83 +26,8 @@ use borrow.Author.Needs.{needs}
 use Rattle.frames.proofs.indirect_start.Statement.{statement}
 use Rattle.frames.proofs.indirect_start.Tie as tie
 
-add-size-of : tie.Need-add-size-of
-add-size-of c = search needs
-
-size-of-requires : tie.Need-size-of-requires
-size-of-requires c κs = search needs
-
-size-of-requires-2 : tie.Need-size-of-requires-2
-size-of-requires-2 c κs = search needs
-
-element-copy-out-start-taken : tie.Need-element-copy-out-start-taken
-element-copy-out-start-taken c = search needs
-
-element-copy-out-start-taken-2 : tie.Need-element-copy-out-start-taken-2
-element-copy-out-start-taken-2 c = search needs
-
-element-copy-out-start-taken-3 : tie.Need-element-copy-out-start-taken-3
-element-copy-out-start-taken-3 c = search needs
-
-start-taken-requires : tie.Need-start-taken-requires
-start-taken-requires c κs = search needs
-
-sub-words-requires : tie.Need-sub-words-requires
-sub-words-requires c κs = search needs
-
-add-w : tie.Need-add-w
-add-w c = search needs
-
-copy-words-requires : tie.Need-copy-words-requires
-copy-words-requires c κs = search needs
-
-add-w-2 : tie.Need-add-w-2
-add-w-2 c = search needs
-
-allocate-words-requires : tie.Need-allocate-words-requires
-allocate-words-requires c κs = search needs
-
-add-w-3 : tie.Need-add-w-3
-add-w-3 c = search needs
-
-copy-jumps-requires : tie.Need-copy-jumps-requires
-copy-jumps-requires c κs = search needs
-
-add-begin : tie.Need-add-begin
-add-begin c = search needs
-
-begin-requires : tie.Need-begin-requires
-begin-requires c κs = search needs
-
-accepted-requires : tie.Need-accepted-requires
-accepted-requires c κs = search needs
-
-enter-requires : tie.Need-enter-requires
-enter-requires c κs = search needs
-
-sub-stack-requires : tie.Need-sub-stack-requires
-sub-stack-requires c κs = search needs
-
-mv-requires : tie.Need-mv-requires
-mv-requires c κs = search needs
-
-slli-requires : tie.Need-slli-requires
-slli-requires c κs = search needs
-
-two-requires : tie.Need-two-requires
-two-requires c κs = search needs
-
-place-requires : tie.Need-place-requires
-place-requires c κs = search needs
-
 copies-requires : tie.Need-copies-requires
 copies-requires c κs = omega (arith, c .before .before .before .before .before .before .before .before .before .before .before .before .before .before .before .before .before .before .before .before .before .before .before .before .before .before .before .before .before .before .before .before .before .before .before .before .before .before .before .before .before .before .before .pre)
-
-set-label-requires : tie.Need-set-label-requires
-set-label-requires c κs = search needs
-
-allocate-stack-requires : tie.Need-allocate-stack-requires
-allocate-stack-requires c κs = search needs
 
 same-length : tie.Need-same-length
 same-length c = omega (arith, c .before .buf7 .given, c .before .before .before .before .before .before .before .buf6 .given, c .before .before .before .before .before .before .before .before .before .before .before .before .before .buf5 .given, c .before .before .before .before .before .before .before .before .before .before .before .before .before .before .before .before .before .before .before .buf4 .given, c .before .before .before .before .before .before .before .before .before .before .before .before .before .before .before .before .before .before .before .before .before .before .before .before .before .before .before .before .buf3 .given, c .before .before .before .before .before .before .before .before .before .before .before .before .before .before .before .before .before .before .before .before .before .before .before .before .before .before .before .before .before .before .before .before .before .before .buf2 .given, c .before .before .before .before .before .before .before .before .before .before .before .before .before .before .before .before .before .before .before .before .before .before .before .before .before .before .before .before .before .before .before .before .before .before .before .before .before .before .before .before .before .before .buf .given)
@@ -127,9 +52,6 @@ returns c =
     let f5 = piece (a .tag) (label at-main ∷ []) (code stack) _ _ _ f4 e5 in
     closes (a .tag) (prologue-indirect H) (code stack) s _ _ _ o f5 e6
 
-same-length-2 : tie.Need-same-length-2
-same-length-2 c = search needs
-
 returns-2 : tie.Need-returns-2
 returns-2 c =
     let a = c .before .before .before .before .before .before .before .before .before .before .before .before .before .before .before .before .before .before .before .args in
@@ -141,33 +63,33 @@ pub indirect-start-spec : {M : Type 1} → statement M
 indirect-start-spec =
     tie.close
     (tie.spec
-    add-size-of
-    size-of-requires
-    size-of-requires-2
-    element-copy-out-start-taken
-    element-copy-out-start-taken-2
-    element-copy-out-start-taken-3
-    start-taken-requires
-    sub-words-requires
-    add-w
-    copy-words-requires
-    add-w-2
-    allocate-words-requires
-    add-w-3
-    copy-jumps-requires
-    add-begin
-    begin-requires
-    accepted-requires
-    enter-requires
-    sub-stack-requires
-    mv-requires
-    slli-requires
-    two-requires
-    place-requires
+    (λ c. search needs)
+    (λ c κs. search needs)
+    (λ c κs. search needs)
+    (λ c. search needs)
+    (λ c. search needs)
+    (λ c. search needs)
+    (λ c κs. search needs)
+    (λ c κs. search needs)
+    (λ c. search needs)
+    (λ c κs. search needs)
+    (λ c. search needs)
+    (λ c κs. search needs)
+    (λ c. search needs)
+    (λ c κs. search needs)
+    (λ c. search needs)
+    (λ c κs. search needs)
+    (λ c κs. search needs)
+    (λ c κs. search needs)
+    (λ c κs. search needs)
+    (λ c κs. search needs)
+    (λ c κs. search needs)
+    (λ c κs. search needs)
+    (λ c κs. search needs)
     copies-requires
-    set-label-requires
-    allocate-stack-requires
+    (λ c κs. search needs)
+    (λ c κs. search needs)
     same-length
     returns
-    same-length-2
+    (λ c. search needs)
     returns-2)

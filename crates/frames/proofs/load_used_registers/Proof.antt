@@ -21,51 +21,6 @@ use borrow.Author.Needs.{needs}
 use Rattle.frames.proofs.load_used_registers.Statement.{statement}
 use Rattle.frames.proofs.load_used_registers.Tie as tie
 
-used-count-requires : tie.Need-used-count-requires
-used-count-requires c κs = search needs
-
-element-copy-out-one-taken : tie.Need-element-copy-out-one-taken
-element-copy-out-one-taken c = search needs
-
-element-copy-out-one-taken-2 : tie.Need-element-copy-out-one-taken-2
-element-copy-out-one-taken-2 c = search needs
-
-one-taken-requires : tie.Need-one-taken-requires
-one-taken-requires c κs = search needs
-
-cast-begin : tie.Need-cast-begin
-cast-begin c = search needs
-
-add-begin : tie.Need-add-begin
-add-begin c = search needs
-
-begin-requires : tie.Need-begin-requires
-begin-requires c κs = search needs
-
-accepted-requires : tie.Need-accepted-requires
-accepted-requires c κs = search needs
-
-set-label-requires : tie.Need-set-label-requires
-set-label-requires c κs = search needs
-
-addi-requires : tie.Need-addi-requires
-addi-requires c κs = search needs
-
-one-requires : tie.Need-one-requires
-one-requires c κs = search needs
-
-place-requires : tie.Need-place-requires
-place-requires c κs = search needs
-
-set-label-requires-2 : tie.Need-set-label-requires-2
-set-label-requires-2 c κs = search needs
-
-used-plan-requires : tie.Need-used-plan-requires
-used-plan-requires c κs = search needs
-
-place-requires-2 : tie.Need-place-requires-2
-place-requires-2 c κs = search needs
-
 same-length : tie.Need-same-length
 same-length c = omega (arith, c .before .buf5 .given, c .before .before .before .before .before .before .before .before .buf4 .given, c .before .before .before .before .before .before .before .before .before .before .before .before .before .before .buf3 .given, c .before .before .before .before .before .before .before .before .before .before .before .before .before .before .before .before .before .before .before .before .before .before .buf2 .given, c .before .before .before .before .before .before .before .before .before .before .before .before .before .before .before .before .before .before .before .before .before .before .before .before .before .before .before .before .before .before .buf .given)
 
@@ -84,9 +39,6 @@ returns c =
     let f3 = piece 0 (label 2038 ∷ []) (code is) _ _ _ f2 (c .before .before .before .before .before .before .before .before .before .set-label2 .ensures) in
     closes 0 (reloads (a .mask)) (code is) s _ _ _ o f3 e4
 
-same-length-2 : tie.Need-same-length-2
-same-length-2 c = search needs
-
 returns-2 : tie.Need-returns-2
 returns-2 c =
     let a = c .before .before .before .before .before .before .before .before .before .before .before .before .before .args in
@@ -97,22 +49,22 @@ pub load-used-registers-spec : {M : Type 1} → statement M
 load-used-registers-spec =
     tie.close
     (tie.spec
-    used-count-requires
-    element-copy-out-one-taken
-    element-copy-out-one-taken-2
-    one-taken-requires
-    cast-begin
-    add-begin
-    begin-requires
-    accepted-requires
-    set-label-requires
-    addi-requires
-    one-requires
-    place-requires
-    set-label-requires-2
-    used-plan-requires
-    place-requires-2
+    (λ c κs. search needs)
+    (λ c. search needs)
+    (λ c. search needs)
+    (λ c κs. search needs)
+    (λ c. search needs)
+    (λ c. search needs)
+    (λ c κs. search needs)
+    (λ c κs. search needs)
+    (λ c κs. search needs)
+    (λ c κs. search needs)
+    (λ c κs. search needs)
+    (λ c κs. search needs)
+    (λ c κs. search needs)
+    (λ c κs. search needs)
+    (λ c κs. search needs)
     same-length
     returns
-    same-length-2
+    (λ c. search needs)
     returns-2)

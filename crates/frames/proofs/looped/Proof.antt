@@ -31,68 +31,8 @@ use borrow.Author.Needs.{needs}
 use Rattle.frames.proofs.looped.Statement.{statement}
 use Rattle.frames.proofs.looped.Tie as tie
 
-label-of-requires : tie.Need-label-of-requires
-label-of-requires c κs = search needs
-
-cast-i : tie.Need-cast-i
-cast-i c = search needs
-
-first-words-requires : tie.Need-first-words-requires
-first-words-requires c κs = search needs
-
-li-words-requires : tie.Need-li-words-requires
-li-words-requires c κs = search needs
-
-add-w : tie.Need-add-w
-add-w c = search needs
-
-add-w-2 : tie.Need-add-w-2
-add-w-2 c = search needs
-
-mul-is-taken : tie.Need-mul-is-taken
-mul-is-taken c = search needs
-
-element-copy-out-is-taken : tie.Need-element-copy-out-is-taken
-element-copy-out-is-taken c = search needs
-
-is-taken-requires : tie.Need-is-taken-requires
-is-taken-requires c κs = search needs
-
-begin-requires : tie.Need-begin-requires
-begin-requires c κs = search needs
-
-accepted-requires : tie.Need-accepted-requires
-accepted-requires c κs = search needs
-
-first-plan-requires : tie.Need-first-plan-requires
-first-plan-requires c κs = search needs
-
-place-requires : tie.Need-place-requires
-place-requires c κs = search needs
-
 cast-li-plan : tie.Need-cast-li-plan
 cast-li-plan c = omega (arith, c .before .before .before .before .before .before .before .before .before .before .before .before .before .before .before .before .before .before .before .before .before .pre)
-
-li-plan-requires : tie.Need-li-plan-requires
-li-plan-requires c κs = search needs
-
-place-requires-2 : tie.Need-place-requires-2
-place-requires-2 c κs = search needs
-
-set-label-requires : tie.Need-set-label-requires
-set-label-requires c κs = search needs
-
-copy-plan-requires : tie.Need-copy-plan-requires
-copy-plan-requires c κs = search needs
-
-addi-requires : tie.Need-addi-requires
-addi-requires c κs = search needs
-
-push-requires : tie.Need-push-requires
-push-requires c κs = search needs
-
-place-requires-3 : tie.Need-place-requires-3
-place-requires-3 c κs = search needs
 
 same-length : tie.Need-same-length
 same-length c = omega (arith, c .before .buf5 .given, c .before .before .before .before .before .before .before .before .before .before .buf4 .given, c .before .before .before .before .before .before .before .before .before .before .before .before .before .before .before .before .buf3 .given, c .before .before .before .before .before .before .before .before .before .before .before .before .before .before .before .before .before .before .before .before .before .before .before .buf2 .given, c .before .before .before .before .before .before .before .before .before .before .before .before .before .before .before .before .before .before .before .before .before .before .before .before .before .before .before .before .before .before .before .before .buf .given)
@@ -119,9 +59,6 @@ returns c =
     let f3 = piece (a .tag) (label l ∷ []) inner _ _ _ f2 e3 in
     closes (a .tag) (looped (a .out) (a .states) (a .n)) inner s _ _ _ o f3 e4
 
-same-length-2 : tie.Need-same-length-2
-same-length-2 c = search needs
-
 returns-2 : tie.Need-returns-2
 returns-2 c =
     let a = c .before .before .before .before .before .before .before .before .before .before .before .before .before .before .args in
@@ -132,28 +69,28 @@ pub looped-spec : {M : Type 1} → statement M
 looped-spec =
     tie.close
     (tie.spec
-    label-of-requires
-    cast-i
-    first-words-requires
-    li-words-requires
-    add-w
-    add-w-2
-    mul-is-taken
-    element-copy-out-is-taken
-    is-taken-requires
-    begin-requires
-    accepted-requires
-    first-plan-requires
-    place-requires
+    (λ c κs. search needs)
+    (λ c. search needs)
+    (λ c κs. search needs)
+    (λ c κs. search needs)
+    (λ c. search needs)
+    (λ c. search needs)
+    (λ c. search needs)
+    (λ c. search needs)
+    (λ c κs. search needs)
+    (λ c κs. search needs)
+    (λ c κs. search needs)
+    (λ c κs. search needs)
+    (λ c κs. search needs)
     cast-li-plan
-    li-plan-requires
-    place-requires-2
-    set-label-requires
-    copy-plan-requires
-    addi-requires
-    push-requires
-    place-requires-3
+    (λ c κs. search needs)
+    (λ c κs. search needs)
+    (λ c κs. search needs)
+    (λ c κs. search needs)
+    (λ c κs. search needs)
+    (λ c κs. search needs)
+    (λ c κs. search needs)
     same-length
     returns
-    same-length-2
+    (λ c. search needs)
     returns-2)

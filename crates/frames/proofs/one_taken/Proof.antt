@@ -3,17 +3,11 @@ use borrow.Author.Needs.{needs}
 use Rattle.frames.proofs.one_taken.Statement.{statement}
 use Rattle.frames.proofs.one_taken.Tie as tie
 
-is-taken-requires : tie.Need-is-taken-requires
-is-taken-requires c κs = search needs
-
 returns : tie.Need-returns
 returns c = rw (sym (c .before .is-taken .ensures) ∙ c .if1 .taken)
-
-is-taken-requires-2 : tie.Need-is-taken-requires-2
-is-taken-requires-2 c κs = search needs
 
 returns-2 : tie.Need-returns-2
 returns-2 c = c .is-taken2 .ensures ∙ rw (sym (c .before .before .is-taken .ensures) ∙ c .before .if1 .left)
 
 pub one-taken-spec : {M : Type 1} → statement M
-one-taken-spec = tie.close (tie.spec is-taken-requires returns is-taken-requires-2 returns-2)
+one-taken-spec = tie.close (tie.spec (λ c κs. search needs) returns (λ c κs. search needs) returns-2)

@@ -13,30 +13,6 @@ use borrow.Author.Needs.{needs}
 use Rattle.frames.proofs.opening_fast.Statement.{statement}
 use Rattle.frames.proofs.opening_fast.Tie as tie
 
-addi-requires : tie.Need-addi-requires
-addi-requires c κs = search needs
-
-sd-requires : tie.Need-sd-requires
-sd-requires c κs = search needs
-
-sd-requires-2 : tie.Need-sd-requires-2
-sd-requires-2 c κs = search needs
-
-sd-requires-3 : tie.Need-sd-requires-3
-sd-requires-3 c κs = search needs
-
-sd-requires-4 : tie.Need-sd-requires-4
-sd-requires-4 c κs = search needs
-
-five-requires : tie.Need-five-requires
-five-requires c κs = search needs
-
-mv-requires : tie.Need-mv-requires
-mv-requires c κs = search needs
-
-push-requires : tie.Need-push-requires
-push-requires c κs = search needs
-
 returns : tie.Need-returns
 unfolding sub-stack-code
 returns c =
@@ -49,12 +25,12 @@ pub opening-fast-spec : {M : Type 1} → statement M
 opening-fast-spec =
     tie.close
     (tie.spec
-    addi-requires
-    sd-requires
-    sd-requires-2
-    sd-requires-3
-    sd-requires-4
-    five-requires
-    mv-requires
-    push-requires
+    (λ c κs. search needs)
+    (λ c κs. search needs)
+    (λ c κs. search needs)
+    (λ c κs. search needs)
+    (λ c κs. search needs)
+    (λ c κs. search needs)
+    (λ c κs. search needs)
+    (λ c κs. search needs)
     returns)

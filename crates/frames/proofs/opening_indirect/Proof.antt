@@ -13,39 +13,6 @@ use borrow.Author.Needs.{needs}
 use Rattle.frames.proofs.opening_indirect.Statement.{statement}
 use Rattle.frames.proofs.opening_indirect.Tie as tie
 
-addi-requires : tie.Need-addi-requires
-addi-requires c κs = search needs
-
-sd-requires : tie.Need-sd-requires
-sd-requires c κs = search needs
-
-sd-requires-2 : tie.Need-sd-requires-2
-sd-requires-2 c κs = search needs
-
-sd-requires-3 : tie.Need-sd-requires-3
-sd-requires-3 c κs = search needs
-
-sd-requires-4 : tie.Need-sd-requires-4
-sd-requires-4 c κs = search needs
-
-five-requires : tie.Need-five-requires
-five-requires c κs = search needs
-
-sd-requires-5 : tie.Need-sd-requires-5
-sd-requires-5 c κs = search needs
-
-sd-requires-6 : tie.Need-sd-requires-6
-sd-requires-6 c κs = search needs
-
-sd-requires-7 : tie.Need-sd-requires-7
-sd-requires-7 c κs = search needs
-
-mv-requires : tie.Need-mv-requires
-mv-requires c κs = search needs
-
-more-requires : tie.Need-more-requires
-more-requires c κs = search needs
-
 returns : tie.Need-returns
 unfolding sub-stack-code
 returns c =
@@ -58,15 +25,15 @@ pub opening-indirect-spec : {M : Type 1} → statement M
 opening-indirect-spec =
     tie.close
     (tie.spec
-    addi-requires
-    sd-requires
-    sd-requires-2
-    sd-requires-3
-    sd-requires-4
-    five-requires
-    sd-requires-5
-    sd-requires-6
-    sd-requires-7
-    mv-requires
-    more-requires
+    (λ c κs. search needs)
+    (λ c κs. search needs)
+    (λ c κs. search needs)
+    (λ c κs. search needs)
+    (λ c κs. search needs)
+    (λ c κs. search needs)
+    (λ c κs. search needs)
+    (λ c κs. search needs)
+    (λ c κs. search needs)
+    (λ c κs. search needs)
+    (λ c κs. search needs)
     returns)

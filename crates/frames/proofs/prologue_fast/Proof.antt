@@ -10,15 +10,6 @@ use borrow.Author.Needs.{needs}
 use Rattle.frames.proofs.prologue_fast.Statement.{statement}
 use Rattle.frames.proofs.prologue_fast.Tie as tie
 
-count-fault-requires : tie.Need-count-fault-requires
-count-fault-requires c κs = search needs
-
-begin-requires : tie.Need-begin-requires
-begin-requires c κs = search needs
-
-same-length : tie.Need-same-length
-same-length c = search needs
-
 returns : tie.Need-returns
 returns c =
     let a = c .before .before .before .before .before .before .before .before .before .args in
@@ -32,9 +23,6 @@ fast-start-requires c κs =
     let H : Head = record { frame = Fast; cap = a .cap; states = a .states; obs = a .obs; last = a .last; mask = 0 } in
     (bounds H (sym (c .before .before .before .before .count-fault .ensures .0) ∙ c .before .before .before .if1 .left) .0, bounds H (sym (c .before .before .before .before .count-fault .ensures .0) ∙ c .before .before .before .if1 .left) .1, fast-bound H (sym (c .before .before .before .before .count-fault .ensures .0) ∙ c .before .before .before .if1 .left) refl)
 
-same-length-2 : tie.Need-same-length-2
-same-length-2 c = search needs
-
 returns-2 : tie.Need-returns-2
 unfolding prologue
 returns-2 c =
@@ -47,10 +35,10 @@ pub prologue-fast-spec : {M : Type 1} → statement M
 prologue-fast-spec =
     tie.close
     (tie.spec
-    count-fault-requires
-    begin-requires
-    same-length
+    (λ c κs. search needs)
+    (λ c κs. search needs)
+    (λ c. search needs)
     returns
     fast-start-requires
-    same-length-2
+    (λ c. search needs)
     returns-2)

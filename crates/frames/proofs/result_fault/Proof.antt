@@ -5,23 +5,14 @@ use borrow.Author.Needs.{needs}
 use Rattle.frames.proofs.result_fault.Statement.{statement}
 use Rattle.frames.proofs.result_fault.Tie as tie
 
-count-fault-requires : tie.Need-count-fault-requires
-count-fault-requires c κs = search needs
-
 returns : tie.Need-returns
 returns c = (counts-first (c .before .before .args .h) _ (c .before .count-fault .ensures .0) (c .if1 .taken), search needs)
-
-enum-told : tie.Need-enum-told
-enum-told c = search needs
 
 returns-2 : tie.Need-returns-2
 returns-2 c = (result-far (c .before .before .before .before .before .before .args .h) (sym (c .before .before .before .before .before .count-fault .ensures .0) ∙ c .before .before .before .before .if1 .left) (c .before .before .enum-told .given .1) (c .if2 .taken), search needs)
 
 add-if3 : tie.Need-add-if3
 add-if3 c = omega (arith, bounds (c .before .before .before .before .before .before .before .args .h) (sym (c .before .before .before .before .before .before .count-fault .ensures .0) ∙ c .before .before .before .before .before .if1 .left))
-
-enum-told-2 : tie.Need-enum-told-2
-enum-told-2 c = search needs
 
 returns-3 : tie.Need-returns-3
 returns-3 c = (result-good (c .before .before .before .before .before .before .before .before .before .args .h) (sym (c .before .before .before .before .before .before .before .before .count-fault .ensures .0) ∙ c .before .before .before .before .before .before .before .if1 .left) (c .before .before .before .before .before .enum-told .given .1) (c .before .before .before .if2 .left) (c .if3 .taken), search needs)
@@ -36,12 +27,12 @@ pub result-fault-spec : {M : Type 1} → statement M
 result-fault-spec =
     tie.close
     (tie.spec
-    count-fault-requires
+    (λ c κs. search needs)
     returns
-    enum-told
+    (λ c. search needs)
     returns-2
     add-if3
-    enum-told-2
+    (λ c. search needs)
     returns-3
     returns-4
     returns-5)

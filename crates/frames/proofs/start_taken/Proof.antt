@@ -3,17 +3,11 @@ use borrow.Author.Needs.{needs}
 use Rattle.frames.proofs.start_taken.Statement.{statement}
 use Rattle.frames.proofs.start_taken.Tie as tie
 
-is-taken-requires : tie.Need-is-taken-requires
-is-taken-requires c κs = search needs
-
 returns : tie.Need-returns
 returns c = rw (sym (c .before .is-taken .ensures) ∙ c .if1 .taken)
-
-end-taken-requires : tie.Need-end-taken-requires
-end-taken-requires c κs = search needs
 
 returns-2 : tie.Need-returns-2
 returns-2 c = c .end-taken .ensures ∙ rw (sym (c .before .before .is-taken .ensures) ∙ c .before .if1 .left)
 
 pub start-taken-spec : {M : Type 1} → statement M
-start-taken-spec = tie.close (tie.spec is-taken-requires returns end-taken-requires returns-2)
+start-taken-spec = tie.close (tie.spec (λ c κs. search needs) returns (λ c κs. search needs) returns-2)

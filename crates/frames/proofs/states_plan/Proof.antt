@@ -21,35 +21,14 @@ Inv-loop states p₀ i₀ p i = (i ≤ states) × (plan-of (mv 21 2 ∷ states-f
 abbrev μ-loop : tie.MeasureT-loop
 μ-loop states p₀ i₀ p i = states - i
 
-mv-requires : tie.Need-mv-requires Inv-loop μ-loop
-mv-requires c κs = search needs
-
-one-requires : tie.Need-one-requires Inv-loop μ-loop
-one-requires c κs = search needs
-
 loop-holds : tie.Need-loop-holds Inv-loop μ-loop
 loop-holds c =
     let n = c .before .before .args .states in
     let z : n - 0 ≡ n = omega arith in
     (search needs, rw z (ap (λ (p : Plan). pushes-from p (map answer-of (states-from 0 n))) (sym (c .one .ensures ∙ ap (pushed no-words) (answered _ (mv 21 2) (c .before .mv .ensures))))))
 
-add-fsd : tie.Need-add-fsd Inv-loop μ-loop
-add-fsd c = search needs
-
-mul-fsd : tie.Need-mul-fsd Inv-loop μ-loop
-mul-fsd c = search needs
-
 cast-fsd : tie.Need-cast-fsd Inv-loop μ-loop
 cast-fsd c = omega arith
-
-fsd-requires : tie.Need-fsd-requires Inv-loop μ-loop
-fsd-requires c κs = search needs
-
-push-requires : tie.Need-push-requires Inv-loop μ-loop
-push-requires c κs = search needs
-
-add-i : tie.Need-add-i Inv-loop μ-loop
-add-i c = search needs
 
 loop-less : tie.Need-loop-less Inv-loop μ-loop
 loop-less c = omega arith
@@ -80,15 +59,15 @@ states-plan-spec =
     (tie.spec
     Inv-loop
     μ-loop
-    mv-requires
-    one-requires
+    (λ c κs. search needs)
+    (λ c κs. search needs)
     loop-holds
-    add-fsd
-    mul-fsd
+    (λ c. search needs)
+    (λ c. search needs)
     cast-fsd
-    fsd-requires
-    push-requires
-    add-i
+    (λ c κs. search needs)
+    (λ c κs. search needs)
+    (λ c. search needs)
     loop-less
     loop-again
     returns)

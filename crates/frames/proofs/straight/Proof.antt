@@ -14,32 +14,8 @@ use borrow.Author.Needs.{needs}
 use Rattle.frames.proofs.straight.Statement.{statement}
 use Rattle.frames.proofs.straight.Tie as tie
 
-first-words-requires : tie.Need-first-words-requires
-first-words-requires c κs = search needs
-
-mul-w : tie.Need-mul-w
-mul-w c = search needs
-
-add-w : tie.Need-add-w
-add-w c = search needs
-
-begin-requires : tie.Need-begin-requires
-begin-requires c κs = search needs
-
-accepted-requires : tie.Need-accepted-requires
-accepted-requires c κs = search needs
-
-first-plan-requires : tie.Need-first-plan-requires
-first-plan-requires c κs = search needs
-
-place-requires : tie.Need-place-requires
-place-requires c κs = search needs
-
 copy-row-requires : tie.Need-copy-row-requires
 copy-row-requires c κs = c .before .before .before .before .before .before .before .before .before .before .before .before .before .before .before .before .before .before .before .before .pre .1
-
-same-length : tie.Need-same-length
-same-length c = search needs
 
 returns : tie.Need-returns
 returns c =
@@ -51,9 +27,6 @@ returns c =
     let e = c .before .before .before .before .before .before .before .before .place .ensures ∙ plan-code _ first (c .before .before .before .before .before .before .before .before .before .before .before .before .first-plan .ensures) (omega (arith, c .before .before .before .before .before .before .before .before .before .before .before .before .before .before .before .before .before .before .before .before .before .first-words .ensures .0, c .before .before .before .before .before .before .before .before .before .before .before .before .before .before .before .before .before .before .before .before .before .first-words .ensures .1)) (first-valid (a .out) (a .states)) 0 _ in
     closes 0 (code (first ++ rest)) (code rest) s _ _ _ o (code-piece 0 first rest _ _ _ e (o .left)) (c .before .before .copy-row .ensures)
 
-same-length-2 : tie.Need-same-length-2
-same-length-2 c = search needs
-
 returns-2 : tie.Need-returns-2
 returns-2 c =
     let a = c .before .before .before .before .before .before .before .before .before .before .args in
@@ -64,15 +37,15 @@ pub straight-spec : {M : Type 1} → statement M
 straight-spec =
     tie.close
     (tie.spec
-    first-words-requires
-    mul-w
-    add-w
-    begin-requires
-    accepted-requires
-    first-plan-requires
-    place-requires
+    (λ c κs. search needs)
+    (λ c. search needs)
+    (λ c. search needs)
+    (λ c κs. search needs)
+    (λ c κs. search needs)
+    (λ c κs. search needs)
+    (λ c κs. search needs)
     copy-row-requires
-    same-length
+    (λ c. search needs)
     returns
-    same-length-2
+    (λ c. search needs)
     returns-2)

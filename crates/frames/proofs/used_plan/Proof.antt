@@ -76,9 +76,6 @@ loop-holds c =
 add-k : tie.Need-add-k Inv-loop μ-loop
 add-k c = omega (arith, step c .0)
 
-is-preserved-requires : tie.Need-is-preserved-requires Inv-loop μ-loop
-is-preserved-requires c κs = search needs
-
 used-word-requires : tie.Need-used-word-requires Inv-loop μ-loop
 used-word-requires c κs = sym (c .before .is-preserved .ensures) ∙ c .if1 .taken
 
@@ -129,7 +126,7 @@ used-plan-spec =
     μ-loop
     loop-holds
     add-k
-    is-preserved-requires
+    (λ c κs. search needs)
     used-word-requires
     mul-w
     array-write-w

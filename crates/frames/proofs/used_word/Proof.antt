@@ -31,20 +31,11 @@ valid c = (omega (arith, small c, c .cell-of .ensures .0), omega (arith, small c
 told-word : (i : Instr) → Valid i → (e : Encoded) (w : ℕ) → e ≡ answer-of i → w ≡ word-of e → answer-of i ≡ Word w
 told-word i v e w q h = word i v ∙ ap Word (sym (h ∙ ap word-of (q ∙ word i v)))
 
-cell-of-requires : tie.Need-cell-of-requires
-cell-of-requires c κs = search needs
-
 mul-n : tie.Need-mul-n
 mul-n c = omega (arith, small c)
 
 cast-fld : tie.Need-cast-fld
 cast-fld c = omega (arith, small (c .before))
-
-fld-requires : tie.Need-fld-requires
-fld-requires c κs = search needs
-
-word-requires : tie.Need-word-requires
-word-requires c κs = search needs
 
 returns : tie.Need-returns
 returns c =
@@ -55,12 +46,6 @@ returns c =
 
 cast-fsd : tie.Need-cast-fsd
 cast-fsd c = omega (arith, small (c .before))
-
-fsd-requires : tie.Need-fsd-requires
-fsd-requires c κs = search needs
-
-word-requires-2 : tie.Need-word-requires-2
-word-requires-2 c κs = search needs
 
 returns-2 : tie.Need-returns-2
 returns-2 c =
@@ -73,13 +58,13 @@ pub used-word-spec : {M : Type 1} → statement M
 used-word-spec =
     tie.close
     (tie.spec
-    cell-of-requires
+    (λ c κs. search needs)
     mul-n
     cast-fld
-    fld-requires
-    word-requires
+    (λ c κs. search needs)
+    (λ c κs. search needs)
     returns
     cast-fsd
-    fsd-requires
-    word-requires-2
+    (λ c κs. search needs)
+    (λ c κs. search needs)
     returns-2)
