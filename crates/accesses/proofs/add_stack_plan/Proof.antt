@@ -18,15 +18,6 @@ use Rattle.accesses.specs.Code.{sub-stack-code, add-stack-code, allocate
 use Rattle.accesses.proofs.add_stack_plan.Statement.{statement}
 use Rattle.accesses.proofs.add_stack_plan.Tie as tie
 
-cast-addi : tie.Need-cast-addi
-cast-addi c = search needs
-
-addi-requires : tie.Need-addi-requires
-addi-requires c κs = search needs
-
-one-requires : tie.Need-one-requires
-one-requires c κs = search needs
-
 returns : tie.Need-returns
 unfolding add-stack-code
 returns c =
@@ -35,15 +26,6 @@ returns c =
     (c .one .ensures
     ∙ collected (c .before .addi .result ∷ []) (I ADDI 2 2 (pos (a .n)) ∷ [])
     (answered-at _ (λ (z : ℤ). I ADDI 2 2 z) (c .before .addi .ensures) (back-small (a .n) (omega arith)), tt))
-
-li-offset-requires : tie.Need-li-offset-requires
-li-offset-requires c κs = search needs
-
-add-requires : tie.Need-add-requires
-add-requires c κs = search needs
-
-push-requires : tie.Need-push-requires
-push-requires c κs = search needs
 
 returns-2 : tie.Need-returns-2
 unfolding add-stack-code
@@ -58,11 +40,11 @@ pub add-stack-plan-spec : {M : Type 1} → statement M
 add-stack-plan-spec =
     tie.close
     (tie.spec
-    cast-addi
-    addi-requires
-    one-requires
+    (λ c. search needs)
+    (λ c κs. search needs)
+    (λ c κs. search needs)
     returns
-    li-offset-requires
-    add-requires
-    push-requires
+    (λ c κs. search needs)
+    (λ c κs. search needs)
+    (λ c κs. search needs)
     returns-2)

@@ -18,18 +18,6 @@ use Rattle.accesses.specs.Code.{sub-stack-code, add-stack-code, allocate
 use Rattle.accesses.proofs.allocate_stack_plan.Statement.{statement}
 use Rattle.accesses.proofs.allocate_stack_plan.Tie as tie
 
-minus-requires : tie.Need-minus-requires
-minus-requires c κs = search needs
-
-addi-requires : tie.Need-addi-requires
-addi-requires c κs = search needs
-
-mv-requires : tie.Need-mv-requires
-mv-requires c κs = search needs
-
-two-requires : tie.Need-two-requires
-two-requires c κs = search needs
-
 returns : tie.Need-returns
 unfolding allocate-stack-code
 returns c =
@@ -40,21 +28,6 @@ returns c =
       answered-at _ (λ (z : ℤ). I ADDI 2 2 z) (c .before .before .addi .ensures) (back _ (negℤ (pos (a .n))) (c .before .before .before .minus .ensures) (mag-neg (a .n) (omega arith))),
       (answered _ _ (c .before .mv .ensures), tt),
     ))
-
-li-offset-requires : tie.Need-li-offset-requires
-li-offset-requires c κs = search needs
-
-sub-requires : tie.Need-sub-requires
-sub-requires c κs = search needs
-
-push-requires : tie.Need-push-requires
-push-requires c κs = search needs
-
-mv-requires-2 : tie.Need-mv-requires-2
-mv-requires-2 c κs = search needs
-
-push-requires-2 : tie.Need-push-requires-2
-push-requires-2 c κs = search needs
 
 returns-2 : tie.Need-returns-2
 unfolding allocate-stack-code
@@ -72,14 +45,14 @@ pub allocate-stack-plan-spec : {M : Type 1} → statement M
 allocate-stack-plan-spec =
     tie.close
     (tie.spec
-    minus-requires
-    addi-requires
-    mv-requires
-    two-requires
+    (λ c κs. search needs)
+    (λ c κs. search needs)
+    (λ c κs. search needs)
+    (λ c κs. search needs)
     returns
-    li-offset-requires
-    sub-requires
-    push-requires
-    mv-requires-2
-    push-requires-2
+    (λ c κs. search needs)
+    (λ c κs. search needs)
+    (λ c κs. search needs)
+    (λ c κs. search needs)
+    (λ c κs. search needs)
     returns-2)

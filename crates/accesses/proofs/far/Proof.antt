@@ -16,24 +16,6 @@ use Rattle.accesses.proofs.Numbers.{answered-at, back-hi, back-lo}
 use Rattle.accesses.proofs.far.Statement.{statement}
 use Rattle.accesses.proofs.far.Tie as tie
 
-hi-requires : tie.Need-hi-requires
-hi-requires c κs = search needs
-
-lui-requires : tie.Need-lui-requires
-lui-requires c κs = search needs
-
-lo-requires : tie.Need-lo-requires
-lo-requires c κs = search needs
-
-addi-requires : tie.Need-addi-requires
-addi-requires c κs = search needs
-
-add-requires : tie.Need-add-requires
-add-requires c κs = search needs
-
-four-requires : tie.Need-four-requires
-four-requires c κs = search needs
-
 returns : tie.Need-returns
 unfolding point-code
 returns c =
@@ -51,10 +33,10 @@ pub far-spec : {M : Type 1} → statement M
 far-spec =
     tie.close
     (tie.spec
-    hi-requires
-    lui-requires
-    lo-requires
-    addi-requires
-    add-requires
-    four-requires
+    (λ c κs. search needs)
+    (λ c κs. search needs)
+    (λ c κs. search needs)
+    (λ c κs. search needs)
+    (λ c κs. search needs)
+    (λ c κs. search needs)
     returns)

@@ -11,57 +11,21 @@ use Rattle.accesses.proofs.word.Reads as word-reads
 use Rattle.assembler.proofs.push.Reads as push-reads
 
 -- src/lib.rt:100:8
-is-word-requires : tie.Need-is-word-requires
-is-word-requires c κs = search needs
-
 -- src/lib.rt:100:22
-is-word-requires-2 : tie.Need-is-word-requires-2
-is-word-requires-2 c κs = search needs
-
 -- src/lib.rt:100:36
-is-word-requires-3 : tie.Need-is-word-requires-3
-is-word-requires-3 c κs = search needs
-
 -- src/lib.rt:100:50
-is-word-requires-4 : tie.Need-is-word-requires-4
-is-word-requires-4 c κs = search needs
-
 -- src/lib.rt:100:64
-is-word-requires-5 : tie.Need-is-word-requires-5
-is-word-requires-5 c κs = search needs
-
 -- src/lib.rt:105:17
-word-requires : tie.Need-word-requires
-word-requires c κs = search needs
-
 -- src/lib.rt:106:17
-word-requires-2 : tie.Need-word-requires-2
-word-requires-2 c κs = search needs
-
 -- src/lib.rt:107:17
-word-requires-3 : tie.Need-word-requires-3
-word-requires-3 c κs = search needs
-
 -- src/lib.rt:108:17
-word-requires-4 : tie.Need-word-requires-4
-word-requires-4 c κs = search needs
-
 -- src/lib.rt:109:17
-word-requires-5 : tie.Need-word-requires-5
-word-requires-5 c κs = search needs
-
 -- src/lib.rt:101:9
 returns : tie.Need-returns
 returns c = rw (c .before .before .before .before .word .ensures, c .before .before .before .word2 .ensures, c .before .before .word3 .ensures, c .before .word4 .ensures, c .word5 .ensures) (words-five _ _ _ _ _ (sym (c .before .before .before .before .before .before .before .before .before .before .before .before .before .before .is-word .ensures) ∙ c .before .before .before .before .before .before .before .before .before .before .before .before .before .if1 .taken) (sym (c .before .before .before .before .before .before .before .before .before .before .before .before .is-word2 .ensures) ∙ c .before .before .before .before .before .before .before .before .before .before .before .if2 .taken) (sym (c .before .before .before .before .before .before .before .before .before .before .is-word3 .ensures) ∙ c .before .before .before .before .before .before .before .before .before .if3 .taken) (sym (c .before .before .before .before .before .before .before .before .is-word4 .ensures) ∙ c .before .before .before .before .before .before .before .if4 .taken) (sym (c .before .before .before .before .before .before .is-word5 .ensures) ∙ c .before .before .before .before .before .if5 .taken))
 
 -- src/lib.rt:120:21
-four-requires : tie.Need-four-requires
-four-requires c κs = search needs
-
 -- src/lib.rt:120:5
-push-requires : tie.Need-push-requires
-push-requires c κs = search needs
-
 -- src/lib.rt:97:1
 returns-2 : tie.Need-returns-2
 returns-2 c = cc
@@ -70,17 +34,17 @@ pub five-spec : {M : Type 1} → statement M
 five-spec =
     tie.close
     (tie.spec
-    is-word-requires
-    is-word-requires-2
-    is-word-requires-3
-    is-word-requires-4
-    is-word-requires-5
-    word-requires
-    word-requires-2
-    word-requires-3
-    word-requires-4
-    word-requires-5
+    (λ c κs. search needs)
+    (λ c κs. search needs)
+    (λ c κs. search needs)
+    (λ c κs. search needs)
+    (λ c κs. search needs)
+    (λ c κs. search needs)
+    (λ c κs. search needs)
+    (λ c κs. search needs)
+    (λ c κs. search needs)
+    (λ c κs. search needs)
     returns
-    four-requires
-    push-requires
+    (λ c κs. search needs)
+    (λ c κs. search needs)
     returns-2)

@@ -11,49 +11,19 @@ use Rattle.accesses.proofs.word.Reads as word-reads
 use Rattle.assembler.proofs.push.Reads as push-reads
 
 -- src/lib.rt:87:8
-is-word-requires : tie.Need-is-word-requires
-is-word-requires c κs = search needs
-
 -- src/lib.rt:87:22
-is-word-requires-2 : tie.Need-is-word-requires-2
-is-word-requires-2 c κs = search needs
-
 -- src/lib.rt:87:36
-is-word-requires-3 : tie.Need-is-word-requires-3
-is-word-requires-3 c κs = search needs
-
 -- src/lib.rt:87:50
-is-word-requires-4 : tie.Need-is-word-requires-4
-is-word-requires-4 c κs = search needs
-
 -- src/lib.rt:91:17
-word-requires : tie.Need-word-requires
-word-requires c κs = search needs
-
 -- src/lib.rt:91:26
-word-requires-2 : tie.Need-word-requires-2
-word-requires-2 c κs = search needs
-
 -- src/lib.rt:91:35
-word-requires-3 : tie.Need-word-requires-3
-word-requires-3 c κs = search needs
-
 -- src/lib.rt:91:44
-word-requires-4 : tie.Need-word-requires-4
-word-requires-4 c κs = search needs
-
 -- src/lib.rt:88:9
 returns : tie.Need-returns
 returns c = rw (c .before .before .before .word .ensures, c .before .before .word2 .ensures, c .before .word3 .ensures, c .word4 .ensures) (words-four _ _ _ _ (sym (c .before .before .before .before .before .before .before .before .before .before .before .is-word .ensures) ∙ c .before .before .before .before .before .before .before .before .before .before .if1 .taken) (sym (c .before .before .before .before .before .before .before .before .before .is-word2 .ensures) ∙ c .before .before .before .before .before .before .before .before .if2 .taken) (sym (c .before .before .before .before .before .before .before .is-word3 .ensures) ∙ c .before .before .before .before .before .before .if3 .taken) (sym (c .before .before .before .before .before .is-word4 .ensures) ∙ c .before .before .before .before .if4 .taken))
 
 -- src/lib.rt:94:21
-three-requires : tie.Need-three-requires
-three-requires c κs = search needs
-
 -- src/lib.rt:94:5
-push-requires : tie.Need-push-requires
-push-requires c κs = search needs
-
 -- src/lib.rt:84:1
 returns-2 : tie.Need-returns-2
 returns-2 c = cc
@@ -62,15 +32,15 @@ pub four-spec : {M : Type 1} → statement M
 four-spec =
     tie.close
     (tie.spec
-    is-word-requires
-    is-word-requires-2
-    is-word-requires-3
-    is-word-requires-4
-    word-requires
-    word-requires-2
-    word-requires-3
-    word-requires-4
+    (λ c κs. search needs)
+    (λ c κs. search needs)
+    (λ c κs. search needs)
+    (λ c κs. search needs)
+    (λ c κs. search needs)
+    (λ c κs. search needs)
+    (λ c κs. search needs)
+    (λ c κs. search needs)
     returns
-    three-requires
-    push-requires
+    (λ c κs. search needs)
+    (λ c κs. search needs)
     returns-2)

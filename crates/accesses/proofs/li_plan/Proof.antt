@@ -21,18 +21,6 @@ use Rattle.encoder.proofs.Signs.{handed}
 use Rattle.accesses.proofs.li_plan.Statement.{statement}
 use Rattle.accesses.proofs.li_plan.Tie as tie
 
-split-requires : tie.Need-split-requires
-split-requires c κs = search needs
-
-enum-known-s : tie.Need-enum-known-s
-enum-known-s c = search needs
-
-addi-requires : tie.Need-addi-requires
-addi-requires c κs = search needs
-
-one-requires : tie.Need-one-requires
-one-requires c κs = search needs
-
 returns : tie.Need-returns
 returns c =
     let a = c .before .before .before .before .before .before .before .args in
@@ -42,18 +30,6 @@ returns c =
     (answered-at _ (λ (z : ℤ). I ADDI (a .d) 0 z) (c .before .addi .ensures) (toZ-ofZ w32 (a .z) (c .before .before .before .before .before .before .before .fits .z)), tt)
     ∙ ap plan-of (li-near (a .d) (a .z) (rw m (c .before .before .if1 .taken)))
 
-wide-requires : tie.Need-wide-requires
-wide-requires c κs = search needs
-
-enum-known-s-2 : tie.Need-enum-known-s-2
-enum-known-s-2 c = search needs
-
-addi-requires-2 : tie.Need-addi-requires-2
-addi-requires-2 c κs = search needs
-
-one-requires-2 : tie.Need-one-requires-2
-one-requires-2 c κs = search needs
-
 returns-2 : tie.Need-returns-2
 returns-2 c =
     let a = c .before .before .before .before .before .before .before .args in
@@ -62,12 +38,6 @@ returns-2 c =
     ∙ collected (c .before .addi2 .result ∷ []) (I ADDI (a .d) 0 (a .z) ∷ [])
     (answered-at _ (λ (z : ℤ). I ADDI (a .d) 0 z) (c .before .addi2 .ensures) (toZ-ofZ w32 (a .z) (c .before .before .before .before .before .before .before .fits .z)), tt)
     ∙ ap plan-of (li-near (a .d) (a .z) (rw m (c .before .before .if2 .taken)))
-
-sub-wide : tie.Need-sub-wide
-sub-wide c = search needs
-
-wide-requires-2 : tie.Need-wide-requires-2
-wide-requires-2 c κs = search needs
 
 returns-3 : tie.Need-returns-3
 returns-3 c =
@@ -89,17 +59,17 @@ pub li-plan-spec : {M : Type 1} → statement M
 li-plan-spec =
     tie.close
     (tie.spec
-    split-requires
-    enum-known-s
-    addi-requires
-    one-requires
+    (λ c κs. search needs)
+    (λ c. search needs)
+    (λ c κs. search needs)
+    (λ c κs. search needs)
     returns
-    wide-requires
-    enum-known-s-2
-    addi-requires-2
-    one-requires-2
+    (λ c κs. search needs)
+    (λ c. search needs)
+    (λ c κs. search needs)
+    (λ c κs. search needs)
     returns-2
-    sub-wide
-    wide-requires-2
+    (λ c. search needs)
+    (λ c κs. search needs)
     returns-3
     returns-4)

@@ -13,30 +13,12 @@ use Rattle.accesses.proofs.Placed.{pair-taken}
 use Rattle.accesses.proofs.load_complex.Statement.{statement}
 use Rattle.accesses.proofs.load_complex.Tie as tie
 
-pair-refusal-requires : tie.Need-pair-refusal-requires
-pair-refusal-requires c κs = search needs
-
-no-plan-requires : tie.Need-no-plan-requires
-no-plan-requires c κs = search needs
-
-settle-requires : tie.Need-settle-requires
-settle-requires c κs = search needs
-
-same-length : tie.Need-same-length
-same-length c = search needs
-
 returns : tie.Need-returns
 returns c =
     settled-as (load-complex-code (c .before .before .before .before .before .before .before .before .before .before .args .r) (c .before .before .before .before .before .before .before .before .before .before .args .base) (c .before .before .before .before .before .before .before .before .before .before .args .n)) _ _ _ _ _ (c .before .before .settle .ensures) (c .before .before .before .before .before .before .before .before .pair-refusal .ensures .0) (λ z. absurd (c .before .before .before .before .before .before .before .if1 .taken z))
 
 load-complex-plan-requires : tie.Need-load-complex-plan-requires
 load-complex-plan-requires c κs = pair-taken (c .before .before .before .args .r) (c .before .before .before .args .base) (c .before .before .before .args .n) (sym (c .before .pair-refusal .ensures .0) ∙ c .if1 .left)
-
-settle-requires-2 : tie.Need-settle-requires-2
-settle-requires-2 c κs = search needs
-
-same-length-2 : tie.Need-same-length-2
-same-length-2 c = search needs
 
 returns-2 : tie.Need-returns-2
 returns-2 c =
@@ -46,12 +28,12 @@ pub load-complex-spec : {M : Type 1} → statement M
 load-complex-spec =
     tie.close
     (tie.spec
-    pair-refusal-requires
-    no-plan-requires
-    settle-requires
-    same-length
+    (λ c κs. search needs)
+    (λ c κs. search needs)
+    (λ c κs. search needs)
+    (λ c. search needs)
     returns
     load-complex-plan-requires
-    settle-requires-2
-    same-length-2
+    (λ c κs. search needs)
+    (λ c. search needs)
     returns-2)

@@ -16,27 +16,6 @@ use Rattle.accesses.specs.Code.{access-code, point-code}
 use Rattle.accesses.proofs.load_complex_plan.Statement.{statement}
 use Rattle.accesses.proofs.load_complex_plan.Tie as tie
 
-cast-fld : tie.Need-cast-fld
-cast-fld c = search needs
-
-fld-requires : tie.Need-fld-requires
-fld-requires c κs = search needs
-
-add-fld : tie.Need-add-fld
-add-fld c = search needs
-
-add-fld-2 : tie.Need-add-fld-2
-add-fld-2 c = search needs
-
-cast-fld-2 : tie.Need-cast-fld-2
-cast-fld-2 c = search needs
-
-fld-requires-2 : tie.Need-fld-requires-2
-fld-requires-2 c κs = search needs
-
-two-requires : tie.Need-two-requires
-two-requires c κs = search needs
-
 returns : tie.Need-returns
 unfolding access-code
 returns c =
@@ -47,24 +26,6 @@ returns c =
       answered-at _ (λ (z : ℤ). I FLD (a .r) (a .base) z) (c .before .before .fld .ensures) (back-small (a .n) (omega arith)),
       (answered-at _ (λ (z : ℤ). I FLD (a .r + 1) (a .base) z) (c .before .fld2 .ensures) (back-small (a .n + 8) (omega arith)), tt),
     ))
-
-point-requires : tie.Need-point-requires
-point-requires c κs = search needs
-
-fld-requires-3 : tie.Need-fld-requires-3
-fld-requires-3 c κs = search needs
-
-push-requires : tie.Need-push-requires
-push-requires c κs = search needs
-
-add-fld-3 : tie.Need-add-fld-3
-add-fld-3 c = search needs
-
-fld-requires-4 : tie.Need-fld-requires-4
-fld-requires-4 c κs = search needs
-
-push-requires-2 : tie.Need-push-requires-2
-push-requires-2 c κs = search needs
 
 returns-2 : tie.Need-returns-2
 unfolding access-code
@@ -81,18 +42,18 @@ pub load-complex-plan-spec : {M : Type 1} → statement M
 load-complex-plan-spec =
     tie.close
     (tie.spec
-    cast-fld
-    fld-requires
-    add-fld
-    add-fld-2
-    cast-fld-2
-    fld-requires-2
-    two-requires
+    (λ c. search needs)
+    (λ c κs. search needs)
+    (λ c. search needs)
+    (λ c. search needs)
+    (λ c. search needs)
+    (λ c κs. search needs)
+    (λ c κs. search needs)
     returns
-    point-requires
-    fld-requires-3
-    push-requires
-    add-fld-3
-    fld-requires-4
-    push-requires-2
+    (λ c κs. search needs)
+    (λ c κs. search needs)
+    (λ c κs. search needs)
+    (λ c. search needs)
+    (λ c κs. search needs)
+    (λ c κs. search needs)
     returns-2)

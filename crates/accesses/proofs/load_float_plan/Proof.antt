@@ -14,15 +14,6 @@ use Rattle.accesses.proofs.Collect.{pushed-last}
 use Rattle.accesses.proofs.load_float_plan.Statement.{statement}
 use Rattle.accesses.proofs.load_float_plan.Tie as tie
 
-cast-fld : tie.Need-cast-fld
-cast-fld c = search needs
-
-fld-requires : tie.Need-fld-requires
-fld-requires c κs = search needs
-
-one-requires : tie.Need-one-requires
-one-requires c κs = search needs
-
 returns : tie.Need-returns
 unfolding access-code
 returns c =
@@ -31,12 +22,6 @@ returns c =
     (c .one .ensures
     ∙ collected (c .before .fld .result ∷ []) (I FLD (a .d) (a .base) (pos (a .n)) ∷ [])
     (answered-at _ (λ (z : ℤ). I FLD (a .d) (a .base) z) (c .before .fld .ensures) (back-small (a .n) (omega arith)), tt))
-
-fld-requires-2 : tie.Need-fld-requires-2
-fld-requires-2 c κs = search needs
-
-far-requires : tie.Need-far-requires
-far-requires c κs = search needs
 
 returns-2 : tie.Need-returns-2
 unfolding access-code
@@ -50,10 +35,10 @@ pub load-float-plan-spec : {M : Type 1} → statement M
 load-float-plan-spec =
     tie.close
     (tie.spec
-    cast-fld
-    fld-requires
-    one-requires
+    (λ c. search needs)
+    (λ c κs. search needs)
+    (λ c κs. search needs)
     returns
-    fld-requires-2
-    far-requires
+    (λ c κs. search needs)
+    (λ c κs. search needs)
     returns-2)

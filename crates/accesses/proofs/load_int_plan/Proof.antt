@@ -14,15 +14,6 @@ use Rattle.accesses.proofs.Collect.{pushed-last}
 use Rattle.accesses.proofs.load_int_plan.Statement.{statement}
 use Rattle.accesses.proofs.load_int_plan.Tie as tie
 
-cast-ld : tie.Need-cast-ld
-cast-ld c = search needs
-
-ld-requires : tie.Need-ld-requires
-ld-requires c κs = search needs
-
-one-requires : tie.Need-one-requires
-one-requires c κs = search needs
-
 returns : tie.Need-returns
 unfolding access-code
 returns c =
@@ -31,12 +22,6 @@ returns c =
     (c .one .ensures
     ∙ collected (c .before .ld .result ∷ []) (I LD (a .d) (a .base) (pos (a .n)) ∷ [])
     (answered-at _ (λ (z : ℤ). I LD (a .d) (a .base) z) (c .before .ld .ensures) (back-small (a .n) (omega arith)), tt))
-
-ld-requires-2 : tie.Need-ld-requires-2
-ld-requires-2 c κs = search needs
-
-far-requires : tie.Need-far-requires
-far-requires c κs = search needs
 
 returns-2 : tie.Need-returns-2
 unfolding access-code
@@ -50,10 +35,10 @@ pub load-int-plan-spec : {M : Type 1} → statement M
 load-int-plan-spec =
     tie.close
     (tie.spec
-    cast-ld
-    ld-requires
-    one-requires
+    (λ c. search needs)
+    (λ c κs. search needs)
+    (λ c κs. search needs)
     returns
-    ld-requires-2
-    far-requires
+    (λ c κs. search needs)
+    (λ c κs. search needs)
     returns-2)

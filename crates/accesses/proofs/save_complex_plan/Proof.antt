@@ -16,27 +16,6 @@ use Rattle.accesses.specs.Code.{access-code, point-code}
 use Rattle.accesses.proofs.save_complex_plan.Statement.{statement}
 use Rattle.accesses.proofs.save_complex_plan.Tie as tie
 
-cast-fsd : tie.Need-cast-fsd
-cast-fsd c = search needs
-
-fsd-requires : tie.Need-fsd-requires
-fsd-requires c κs = search needs
-
-add-fsd : tie.Need-add-fsd
-add-fsd c = search needs
-
-add-fsd-2 : tie.Need-add-fsd-2
-add-fsd-2 c = search needs
-
-cast-fsd-2 : tie.Need-cast-fsd-2
-cast-fsd-2 c = search needs
-
-fsd-requires-2 : tie.Need-fsd-requires-2
-fsd-requires-2 c κs = search needs
-
-two-requires : tie.Need-two-requires
-two-requires c κs = search needs
-
 returns : tie.Need-returns
 unfolding access-code
 returns c =
@@ -47,24 +26,6 @@ returns c =
       answered-at _ (λ (z : ℤ). S FSD (a .base) (a .r) z) (c .before .before .fsd .ensures) (back-small (a .n) (omega arith)),
       (answered-at _ (λ (z : ℤ). S FSD (a .base) (a .r + 1) z) (c .before .fsd2 .ensures) (back-small (a .n + 8) (omega arith)), tt),
     ))
-
-point-requires : tie.Need-point-requires
-point-requires c κs = search needs
-
-fsd-requires-3 : tie.Need-fsd-requires-3
-fsd-requires-3 c κs = search needs
-
-push-requires : tie.Need-push-requires
-push-requires c κs = search needs
-
-add-fsd-3 : tie.Need-add-fsd-3
-add-fsd-3 c = search needs
-
-fsd-requires-4 : tie.Need-fsd-requires-4
-fsd-requires-4 c κs = search needs
-
-push-requires-2 : tie.Need-push-requires-2
-push-requires-2 c κs = search needs
 
 returns-2 : tie.Need-returns-2
 unfolding access-code
@@ -81,18 +42,18 @@ pub save-complex-plan-spec : {M : Type 1} → statement M
 save-complex-plan-spec =
     tie.close
     (tie.spec
-    cast-fsd
-    fsd-requires
-    add-fsd
-    add-fsd-2
-    cast-fsd-2
-    fsd-requires-2
-    two-requires
+    (λ c. search needs)
+    (λ c κs. search needs)
+    (λ c. search needs)
+    (λ c. search needs)
+    (λ c. search needs)
+    (λ c κs. search needs)
+    (λ c κs. search needs)
     returns
-    point-requires
-    fsd-requires-3
-    push-requires
-    add-fsd-3
-    fsd-requires-4
-    push-requires-2
+    (λ c κs. search needs)
+    (λ c κs. search needs)
+    (λ c κs. search needs)
+    (λ c. search needs)
+    (λ c κs. search needs)
+    (λ c κs. search needs)
     returns-2)

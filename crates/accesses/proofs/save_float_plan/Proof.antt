@@ -14,15 +14,6 @@ use Rattle.accesses.proofs.Collect.{pushed-last}
 use Rattle.accesses.proofs.save_float_plan.Statement.{statement}
 use Rattle.accesses.proofs.save_float_plan.Tie as tie
 
-cast-fsd : tie.Need-cast-fsd
-cast-fsd c = search needs
-
-fsd-requires : tie.Need-fsd-requires
-fsd-requires c κs = search needs
-
-one-requires : tie.Need-one-requires
-one-requires c κs = search needs
-
 returns : tie.Need-returns
 unfolding access-code
 returns c =
@@ -31,12 +22,6 @@ returns c =
     (c .one .ensures
     ∙ collected (c .before .fsd .result ∷ []) (S FSD (a .base) (a .s) (pos (a .n)) ∷ [])
     (answered-at _ (λ (z : ℤ). S FSD (a .base) (a .s) z) (c .before .fsd .ensures) (back-small (a .n) (omega arith)), tt))
-
-fsd-requires-2 : tie.Need-fsd-requires-2
-fsd-requires-2 c κs = search needs
-
-far-requires : tie.Need-far-requires
-far-requires c κs = search needs
 
 returns-2 : tie.Need-returns-2
 unfolding access-code
@@ -50,10 +35,10 @@ pub save-float-plan-spec : {M : Type 1} → statement M
 save-float-plan-spec =
     tie.close
     (tie.spec
-    cast-fsd
-    fsd-requires
-    one-requires
+    (λ c. search needs)
+    (λ c κs. search needs)
+    (λ c κs. search needs)
     returns
-    fsd-requires-2
-    far-requires
+    (λ c κs. search needs)
+    (λ c κs. search needs)
     returns-2)

@@ -13,30 +13,12 @@ use Rattle.accesses.proofs.Placed.{stack-taken}
 use Rattle.accesses.proofs.sub_stack.Statement.{statement}
 use Rattle.accesses.proofs.sub_stack.Tie as tie
 
-stack-refusal-requires : tie.Need-stack-refusal-requires
-stack-refusal-requires c κs = search needs
-
-no-plan-requires : tie.Need-no-plan-requires
-no-plan-requires c κs = search needs
-
-settle-requires : tie.Need-settle-requires
-settle-requires c κs = search needs
-
-same-length : tie.Need-same-length
-same-length c = search needs
-
 returns : tie.Need-returns
 returns c =
     settled-as (sub-stack-code (c .before .before .before .before .before .before .before .before .before .before .args .n)) _ _ _ _ _ (c .before .before .settle .ensures) (c .before .before .before .before .before .before .before .before .stack-refusal .ensures .0) (λ z. absurd (c .before .before .before .before .before .before .before .if1 .taken z))
 
 sub-stack-plan-requires : tie.Need-sub-stack-plan-requires
 sub-stack-plan-requires c κs = stack-taken (c .before .before .before .args .n) (sym (c .before .stack-refusal .ensures .0) ∙ c .if1 .left)
-
-settle-requires-2 : tie.Need-settle-requires-2
-settle-requires-2 c κs = search needs
-
-same-length-2 : tie.Need-same-length-2
-same-length-2 c = search needs
 
 returns-2 : tie.Need-returns-2
 returns-2 c =
@@ -46,12 +28,12 @@ pub sub-stack-spec : {M : Type 1} → statement M
 sub-stack-spec =
     tie.close
     (tie.spec
-    stack-refusal-requires
-    no-plan-requires
-    settle-requires
-    same-length
+    (λ c κs. search needs)
+    (λ c κs. search needs)
+    (λ c κs. search needs)
+    (λ c. search needs)
     returns
     sub-stack-plan-requires
-    settle-requires-2
-    same-length-2
+    (λ c κs. search needs)
+    (λ c. search needs)
     returns-2)

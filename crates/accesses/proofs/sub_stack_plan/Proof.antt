@@ -19,15 +19,6 @@ use Rattle.accesses.specs.Code.{sub-stack-code, add-stack-code, allocate
 use Rattle.accesses.proofs.sub_stack_plan.Statement.{statement}
 use Rattle.accesses.proofs.sub_stack_plan.Tie as tie
 
-minus-requires : tie.Need-minus-requires
-minus-requires c κs = search needs
-
-addi-requires : tie.Need-addi-requires
-addi-requires c κs = search needs
-
-one-requires : tie.Need-one-requires
-one-requires c κs = search needs
-
 returns : tie.Need-returns
 unfolding sub-stack-code
 returns c =
@@ -36,18 +27,6 @@ returns c =
     (c .one .ensures
     ∙ collected (c .before .addi .result ∷ []) (I ADDI 2 2 (negℤ (pos (a .n))) ∷ [])
     (answered-at _ (λ (z : ℤ). I ADDI 2 2 z) (c .before .addi .ensures) (back _ (negℤ (pos (a .n))) (c .before .before .minus .ensures) (mag-neg (a .n) (omega arith))), tt))
-
-minus-requires-2 : tie.Need-minus-requires-2
-minus-requires-2 c κs = search needs
-
-li-plan-requires : tie.Need-li-plan-requires
-li-plan-requires c κs = search needs
-
-add-requires : tie.Need-add-requires
-add-requires c κs = search needs
-
-push-requires : tie.Need-push-requires
-push-requires c κs = search needs
 
 returns-2 : tie.Need-returns-2
 unfolding sub-stack-code
@@ -63,12 +42,12 @@ pub sub-stack-plan-spec : {M : Type 1} → statement M
 sub-stack-plan-spec =
     tie.close
     (tie.spec
-    minus-requires
-    addi-requires
-    one-requires
+    (λ c κs. search needs)
+    (λ c κs. search needs)
+    (λ c κs. search needs)
     returns
-    minus-requires-2
-    li-plan-requires
-    add-requires
-    push-requires
+    (λ c κs. search needs)
+    (λ c κs. search needs)
+    (λ c κs. search needs)
+    (λ c κs. search needs)
     returns-2)

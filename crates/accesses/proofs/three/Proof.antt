@@ -11,41 +11,17 @@ use Rattle.accesses.proofs.word.Reads as word-reads
 use Rattle.assembler.proofs.push.Reads as push-reads
 
 -- src/lib.rt:74:8
-is-word-requires : tie.Need-is-word-requires
-is-word-requires c κs = search needs
-
 -- src/lib.rt:74:22
-is-word-requires-2 : tie.Need-is-word-requires-2
-is-word-requires-2 c κs = search needs
-
 -- src/lib.rt:74:36
-is-word-requires-3 : tie.Need-is-word-requires-3
-is-word-requires-3 c κs = search needs
-
 -- src/lib.rt:78:17
-word-requires : tie.Need-word-requires
-word-requires c κs = search needs
-
 -- src/lib.rt:78:26
-word-requires-2 : tie.Need-word-requires-2
-word-requires-2 c κs = search needs
-
 -- src/lib.rt:78:35
-word-requires-3 : tie.Need-word-requires-3
-word-requires-3 c κs = search needs
-
 -- src/lib.rt:75:9
 returns : tie.Need-returns
 returns c = rw (c .before .before .word .ensures, c .before .word2 .ensures, c .word3 .ensures) (words-three _ _ _ (sym (c .before .before .before .before .before .before .before .before .is-word .ensures) ∙ c .before .before .before .before .before .before .before .if1 .taken) (sym (c .before .before .before .before .before .before .is-word2 .ensures) ∙ c .before .before .before .before .before .if2 .taken) (sym (c .before .before .before .before .is-word3 .ensures) ∙ c .before .before .before .if3 .taken))
 
 -- src/lib.rt:81:21
-two-requires : tie.Need-two-requires
-two-requires c κs = search needs
-
 -- src/lib.rt:81:5
-push-requires : tie.Need-push-requires
-push-requires c κs = search needs
-
 -- src/lib.rt:71:1
 returns-2 : tie.Need-returns-2
 returns-2 c = cc
@@ -54,13 +30,13 @@ pub three-spec : {M : Type 1} → statement M
 three-spec =
     tie.close
     (tie.spec
-    is-word-requires
-    is-word-requires-2
-    is-word-requires-3
-    word-requires
-    word-requires-2
-    word-requires-3
+    (λ c κs. search needs)
+    (λ c κs. search needs)
+    (λ c κs. search needs)
+    (λ c κs. search needs)
+    (λ c κs. search needs)
+    (λ c κs. search needs)
     returns
-    two-requires
-    push-requires
+    (λ c κs. search needs)
+    (λ c κs. search needs)
     returns-2)

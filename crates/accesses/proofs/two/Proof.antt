@@ -11,33 +11,15 @@ use Rattle.accesses.proofs.word.Reads as word-reads
 use Rattle.assembler.proofs.push.Reads as push-reads
 
 -- src/lib.rt:61:8
-is-word-requires : tie.Need-is-word-requires
-is-word-requires c κs = search needs
-
 -- src/lib.rt:61:22
-is-word-requires-2 : tie.Need-is-word-requires-2
-is-word-requires-2 c κs = search needs
-
 -- src/lib.rt:65:17
-word-requires : tie.Need-word-requires
-word-requires c κs = search needs
-
 -- src/lib.rt:65:26
-word-requires-2 : tie.Need-word-requires-2
-word-requires-2 c κs = search needs
-
 -- src/lib.rt:62:9
 returns : tie.Need-returns
 returns c = rw (c .before .word .ensures, c .word2 .ensures) (words-two _ _ (sym (c .before .before .before .before .before .is-word .ensures) ∙ c .before .before .before .before .if1 .taken) (sym (c .before .before .before .is-word2 .ensures) ∙ c .before .before .if2 .taken))
 
 -- src/lib.rt:68:21
-one-requires : tie.Need-one-requires
-one-requires c κs = search needs
-
 -- src/lib.rt:68:5
-push-requires : tie.Need-push-requires
-push-requires c κs = search needs
-
 -- src/lib.rt:58:1
 returns-2 : tie.Need-returns-2
 returns-2 c = cc
@@ -46,11 +28,11 @@ pub two-spec : {M : Type 1} → statement M
 two-spec =
     tie.close
     (tie.spec
-    is-word-requires
-    is-word-requires-2
-    word-requires
-    word-requires-2
+    (λ c κs. search needs)
+    (λ c κs. search needs)
+    (λ c κs. search needs)
+    (λ c κs. search needs)
     returns
-    one-requires
-    push-requires
+    (λ c κs. search needs)
+    (λ c κs. search needs)
     returns-2)

@@ -13,21 +13,6 @@ use Rattle.isa.specs.Instr.{U, LUI, I, ADDI}
 use Rattle.accesses.proofs.wide.Statement.{statement}
 use Rattle.accesses.proofs.wide.Tie as tie
 
-hi-requires : tie.Need-hi-requires
-hi-requires c κs = search needs
-
-lui-requires : tie.Need-lui-requires
-lui-requires c κs = search needs
-
-lo-requires : tie.Need-lo-requires
-lo-requires c κs = search needs
-
-addi-requires : tie.Need-addi-requires
-addi-requires c κs = search needs
-
-two-requires : tie.Need-two-requires
-two-requires c κs = search needs
-
 returns : tie.Need-returns
 returns c =
     let a = c .before .before .before .before .before .args in
@@ -39,4 +24,4 @@ returns c =
 
 pub wide-spec : {M : Type 1} → statement M
 wide-spec =
-    tie.close (tie.spec hi-requires lui-requires lo-requires addi-requires two-requires returns)
+    tie.close (tie.spec (λ c κs. search needs) (λ c κs. search needs) (λ c κs. search needs) (λ c κs. search needs) (λ c κs. search needs) returns)
