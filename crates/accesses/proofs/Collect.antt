@@ -2,13 +2,13 @@
 use mathlib.Core.Path.{_≡_, refl, sym, ap, ap₂, _∙_}
 use mathlib.Core.Bool.{Bool, true, false, cond}
 use mathlib.Core.List.{List, [], _∷_, _++_, map, map-append, append-nil}
-use Prim.Native.Nat.{ℕ, zero, suc, _+_, _-_, _%_, _≤_, _<_, min}
+use Prim.Native.Nat.{ℕ, _+_, _-_, _%_, _≤_, _<_, min}
 use native.Mathlib.Nat.{min-eq-left, mod-eq-of-lt}
 use native.Mathlib.Omega.{arith}
 use native.Mathlib.Numerals.{add-one}
 use borrow.Author.Tests.{lt-ltb, le-ltb}
 use lib.Dec.{ltb, leb}
-use lib.ListN.{length, take, set, getD, length-set, length-append, length-map, replicate}
+use lib.ListN.{length, take, length-set, length-append, length-map}
 use lib.Seq.{take-suc-set, append-snoc}
 use lib.IntN.{ℤ, pos, negsuc}
 use lib.Signed.{mag}
@@ -17,7 +17,7 @@ use mir.Val.{SFits}
 use Rattle.isa.specs.Immediate.{twos, hi, lo}
 use Rattle.isa.specs.Instr.{Instr, I, U, ADDI, LUI, Valid, operands, registers-hold, valid}
 use Rattle.isa.specs.Encode.{encode}
-use Rattle.refusal.specs.Answer.{Answer, accepted, refused}
+use Rattle.refusal.specs.Answer.{accepted, refused}
 use Rattle.refusal.specs.Number.{number-of}
 use Rattle.refusal.specs.declared.Refusal.{Refusal}
 use Rattle.refusal.specs.declared.Refusal.the-variants.{Register, Value, Label, Twice, Unset, Far, Full, Closed, Count, Base, Unsaved, Line}
@@ -29,7 +29,7 @@ use Rattle.encoder.specs.declared.Encoded.{Encoded}
 use Rattle.encoder.specs.declared.Encoded.the-variants.{Word, Refused}
 use Rattle.machine.proofs.Placed.{Valids}
 use Rattle.isa.proofs.Validity.{Valid-valid, Valid-registers}
-use Rattle.assembler.specs.Plan.{no-words, pushed, plan-words}
+use Rattle.assembler.specs.Plan.{no-words, pushed}
 use Rattle.assembler.specs.declared.Plan.{Plan}
 use Rattle.accesses.specs.Plans.{answer-of, pushes-from, pushes, plan-of, Built}
 use Rattle.accesses.specs.Code.{li-code}

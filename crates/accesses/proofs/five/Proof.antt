@@ -3,12 +3,6 @@ use Rattle.accesses.proofs.Words.{words-five}
 use borrow.Author.Needs.{needs}
 use Rattle.accesses.proofs.five.Statement.{statement}
 use Rattle.accesses.proofs.five.Tie as tie
-use Rattle.accesses.proofs.five.Reads as reads
-use Rattle.accesses.proofs.five.Lts as lts
-use Rattle.accesses.proofs.four.Reads as four-reads
-use Rattle.accesses.proofs.is_word.Reads as is-word-reads
-use Rattle.accesses.proofs.word.Reads as word-reads
-use Rattle.assembler.proofs.push.Reads as push-reads
 
 -- src/lib.rt:100:8
 -- src/lib.rt:100:22

@@ -3,12 +3,6 @@ use Rattle.accesses.proofs.Words.{words-four}
 use borrow.Author.Needs.{needs}
 use Rattle.accesses.proofs.four.Statement.{statement}
 use Rattle.accesses.proofs.four.Tie as tie
-use Rattle.accesses.proofs.four.Reads as reads
-use Rattle.accesses.proofs.four.Lts as lts
-use Rattle.accesses.proofs.is_word.Reads as is-word-reads
-use Rattle.accesses.proofs.three.Reads as three-reads
-use Rattle.accesses.proofs.word.Reads as word-reads
-use Rattle.assembler.proofs.push.Reads as push-reads
 
 -- src/lib.rt:87:8
 -- src/lib.rt:87:22

@@ -4,12 +4,8 @@ use Rattle.encoder.proofs.Signs.{handed}
 use Rattle.accesses.specs.Fault.{li-fault}
 use Rattle.accesses.specs.Plans.{plan-of}
 use Rattle.accesses.proofs.Placed.{settled-as}
-use mathlib.Core.Path.{_≡_, sym, _∙_, ap}
-use mathlib.Core.List.{map}
-use Prim.Native.Nat.{ℕ, _≤_}
+use mathlib.Core.Path.{sym, _∙_}
 use native.Mathlib.Omega.{arith}
-use Rattle.assembler.specs.Item.{instr}
-use Rattle.assembler.specs.Put.{put}
 use Rattle.accesses.specs.Code.{li-code}
 use Rattle.accesses.proofs.LoadImmediate.{li-valid, li-accepted}
 use Rattle.accesses.proofs.Lengths.{li-length}

@@ -1,12 +1,10 @@
 use borrow.Author.Needs.{needs}
-use mathlib.Core.Path.{_≡_, refl, sym, _∙_, ap}
+use mathlib.Core.Path.{sym, _∙_, ap}
 use lib.IntN.{ℤ, pos}
 use Rattle.isa.specs.Immediate.{hi, lo}
-use Rattle.accesses.specs.Plans.{answer-of}
-use Rattle.accesses.proofs.Collect.{answered, collected}
-use Rattle.accesses.proofs.Numbers.{answered-at, back-hi, back-lo, back-small}
-use mathlib.Core.List.{[], _∷_, _++_}
-use borrow.Author.Tests.{lt-ltb, le-ltb}
+use Rattle.accesses.proofs.Collect.{collected}
+use Rattle.accesses.proofs.Numbers.{answered-at, back-small}
+use mathlib.Core.List.{[], _∷_}
 use native.Mathlib.Nat.{mod-eq-of-lt}
 use native.Mathlib.Omega.{arith}
 use Rattle.isa.specs.Instr.{I, ADDI, U, LUI}

@@ -1,14 +1,13 @@
 use borrow.Author.Needs.{needs}
-use mathlib.Core.List.{[], _∷_, _++_}
+use mathlib.Core.List.{[], _∷_}
 use Prim.Native.Nat.{ℕ}
 use Rattle.isa.specs.Instr.{U, LUI, I, ADDI}
 use Rattle.accesses.specs.Plans.{plan-of}
 use Rattle.accesses.proofs.Collect.{li-near, li-far, size-of, size-of-neg, bits-of, bits-of-neg}
-use mathlib.Core.Path.{_≡_, refl, sym, _∙_, ap}
+use mathlib.Core.Path.{sym, _∙_, ap}
 use lib.IntN.{ℤ, pos}
 use Rattle.isa.specs.Immediate.{hi, lo}
-use Rattle.accesses.specs.Plans.{answer-of}
-use Rattle.accesses.proofs.Collect.{answered, collected}
+use Rattle.accesses.proofs.Collect.{collected}
 use Rattle.accesses.proofs.Numbers.{answered-at}
 use Rattle.encoder.proofs.Signs.{handed}
 use mathlib.Core.List.{[], _∷_}
@@ -16,7 +15,6 @@ use mir.Syntax.{w32}
 use mir.ValLaws.{toZ-ofZ}
 use Rattle.isa.specs.Instr.{I, ADDI}
 use Rattle.encoder.specs.Field.{sign-of}
-use Rattle.encoder.specs.declared.Sign.the-variants.{NonNeg, Neg}
 use Rattle.encoder.proofs.Signs.{handed}
 use Rattle.accesses.proofs.li_plan.Statement.{statement}
 use Rattle.accesses.proofs.li_plan.Tie as tie

@@ -1,11 +1,9 @@
 use borrow.Author.Needs.{needs}
-use mathlib.Core.Path.{_≡_, refl, sym, _∙_, ap}
+use mathlib.Core.Path.{refl, _∙_, ap}
 use lib.IntN.{ℤ, pos}
-use Rattle.isa.specs.Immediate.{hi, lo}
-use Rattle.accesses.specs.Plans.{answer-of}
-use Rattle.accesses.proofs.Collect.{answered, collected}
-use Rattle.accesses.proofs.Numbers.{answered-at, back-hi, back-lo, back-small}
-use mathlib.Core.List.{[], _∷_, _++_}
+use Rattle.accesses.proofs.Collect.{collected}
+use Rattle.accesses.proofs.Numbers.{answered-at, back-small}
+use mathlib.Core.List.{[], _∷_}
 use borrow.Author.Tests.{lt-ltb, le-ltb}
 use Prim.Native.Nat.{_+_}
 use native.Mathlib.Omega.{arith}

@@ -1,10 +1,6 @@
 use borrow.Author.Needs.{needs}
 use Rattle.accesses.proofs.one.Statement.{statement}
 use Rattle.accesses.proofs.one.Tie as tie
-use Rattle.accesses.proofs.one.Reads as reads
-use Rattle.accesses.proofs.one.Lts as lts
-use Rattle.assembler.proofs.no_plan.Reads as no-plan-reads
-use Rattle.assembler.proofs.push.Reads as push-reads
 
 -- src/lib.rt:33:21
 no-plan-requires : tie.Need-no-plan-requires

@@ -1,11 +1,7 @@
 use borrow.Author.Needs.{needs}
-use mathlib.Core.Path.{_≡_, refl, sym, _∙_, ap}
-use lib.IntN.{ℤ, pos}
-use Rattle.isa.specs.Immediate.{hi, lo}
-use Rattle.accesses.specs.Plans.{answer-of}
-use Rattle.accesses.proofs.Collect.{answered, collected}
-use Rattle.accesses.proofs.Numbers.{answered-at, back-hi, back-lo, back-small}
-use mathlib.Core.List.{[], _∷_, _++_}
+use mathlib.Core.Path.{_∙_, ap}
+use lib.IntN.{pos}
+use Rattle.accesses.proofs.Collect.{answered}
 use Rattle.isa.specs.Instr.{R, ADD}
 use Rattle.assembler.specs.Plan.{pushed}
 use Rattle.accesses.specs.Code.{li-code, point-code}

@@ -3,10 +3,6 @@ use Rattle.accesses.specs.Plans.{settled-plan}
 use Rattle.accesses.proofs.Placed.{alone}
 use lib.ListN.{replicate}
 use borrow.Author.Tests.{eq-eqb, ne-eqb}
-use mathlib.Core.Path.{_≡_, _∙_, ap}
-use mathlib.Core.List.{[]}
-use Prim.Native.Nat.{ℕ}
-use Rattle.assembler.specs.Put.{put}
 use Rattle.accesses.proofs.settle.Statement.{statement}
 use Rattle.accesses.proofs.settle.Tie as tie
 

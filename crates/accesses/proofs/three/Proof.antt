@@ -3,12 +3,6 @@ use Rattle.accesses.proofs.Words.{words-three}
 use borrow.Author.Needs.{needs}
 use Rattle.accesses.proofs.three.Statement.{statement}
 use Rattle.accesses.proofs.three.Tie as tie
-use Rattle.accesses.proofs.three.Reads as reads
-use Rattle.accesses.proofs.three.Lts as lts
-use Rattle.accesses.proofs.is_word.Reads as is-word-reads
-use Rattle.accesses.proofs.two.Reads as two-reads
-use Rattle.accesses.proofs.word.Reads as word-reads
-use Rattle.assembler.proofs.push.Reads as push-reads
 
 -- src/lib.rt:74:8
 -- src/lib.rt:74:22

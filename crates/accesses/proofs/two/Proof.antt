@@ -3,12 +3,6 @@ use Rattle.accesses.proofs.Words.{words-two}
 use borrow.Author.Needs.{needs}
 use Rattle.accesses.proofs.two.Statement.{statement}
 use Rattle.accesses.proofs.two.Tie as tie
-use Rattle.accesses.proofs.two.Reads as reads
-use Rattle.accesses.proofs.two.Lts as lts
-use Rattle.accesses.proofs.is_word.Reads as is-word-reads
-use Rattle.accesses.proofs.one.Reads as one-reads
-use Rattle.accesses.proofs.word.Reads as word-reads
-use Rattle.assembler.proofs.push.Reads as push-reads
 
 -- src/lib.rt:61:8
 -- src/lib.rt:61:22

@@ -1,14 +1,11 @@
 use borrow.Author.Needs.{needs}
-use mathlib.Core.List.{[], _∷_, _++_}
-use mathlib.Core.Path.{_≡_, refl, sym, _∙_, ap}
-use Rattle.accesses.proofs.Collect.{answered, collected}
 use mathlib.Core.List.{[], _∷_}
-use mathlib.Core.Path.{_≡_}
+use mathlib.Core.Path.{_∙_}
+use Rattle.accesses.proofs.Collect.{collected}
+use mathlib.Core.List.{[], _∷_}
 use lib.IntN.{ℤ, pos}
 use Rattle.isa.specs.Immediate.{hi, lo}
-use Rattle.accesses.specs.Plans.{answer-of}
-use Rattle.accesses.proofs.Collect.{answered}
-use Rattle.accesses.proofs.Numbers.{answered-at, back-hi, back-lo, back-small}
+use Rattle.accesses.proofs.Numbers.{answered-at, back-hi, back-lo}
 use Rattle.isa.specs.Instr.{U, LUI, I, ADDI}
 use Rattle.accesses.proofs.wide.Statement.{statement}
 use Rattle.accesses.proofs.wide.Tie as tie
