@@ -298,7 +298,7 @@ fn unwind(
 }
 
 // The constant of the line that starts at `place`; 0 where there is none.
-fn constant_at(file: &[u8], place: u32) -> Constant
+fn constant_at(file: &[u8], place: u16) -> Constant
     ensures { λ c. ⌜ c ≡ constant-at (now (file .entry)) place ⌝ }
 {
     let p = place as usize;
@@ -318,7 +318,7 @@ fn constant_at(file: &[u8], place: u32) -> Constant
 // Behind the epilogue `u`: the constants at the first n places, and finishing.
 fn leave(
     file: &[u8],
-    places: &[u32; 1008],
+    places: &[u16; 1008],
     n: usize,
     head: Head,
     line: u32,
@@ -419,7 +419,7 @@ fn lines(
     requires { ⌜ (length (now file) ≤ 65536) × (at ≤ length (now file)) ⌝ }
     ensures { λ r. ⌜ made r (now (labels .exit)) (now (jumps .exit)) (now (buf .exit)) ≡ lines-run head 1 [] (lines-of (drop at (now (file .entry)))) (state asm (now (labels .entry)) (now (jumps .entry)) (now (buf .entry))) ⌝ }
 {
-    let mut places = [0u32; 1008];
+    let mut places = [0u16; 1008];
     let mut k = 0;
     let mut n: u32 = 1;
     while at < file.len() {
@@ -448,7 +448,7 @@ fn lines(
                 if k == 1008 {
                     return refused(Refusal::Count, n, asm);
                 }
-                places[k] = place as u32;
+                places[k] = place as u16;
                 k += 1;
                 continue;
             }
