@@ -2,7 +2,7 @@
 use mathlib.Core.Bool.{cond}
 use mathlib.Core.List.{List, [], _∷_, _++_, map}
 use Prim.Native.Nat.{ℕ, _+_, min}
-use lib.Dec.{ltb, leb, eqb}
+use lib.Dec.{ltb, leb}
 use lib.ListN.{getD, take, set, replicate}
 use Rattle.isa.specs.Instr.{Instr, operands, registers-hold, valid}
 use Rattle.refusal.specs.Number.{number-of}

@@ -2,7 +2,7 @@
 use mathlib.Core.Path.{_≡_, refl, sym, ap, _∙_}
 use mathlib.Core.Bool.{Bool, true, false, _&&_, cond, and-false}
 use mathlib.Core.List.{List, [], _∷_, _++_, map}
-use Prim.Native.Nat.{ℕ, zero, suc, _+_, _*_, _/_, _%_, _^_, _<_}
+use Prim.Native.Nat.{ℕ, zero, suc, _+_, _*_, _/_, _%_, _<_}
 use native.Mathlib.Omega.{arith}
 use borrow.Author.Tests.{ltb-true}
 use lib.Dec.{ltb}
@@ -16,7 +16,7 @@ use Rattle.isa.specs.Decode.{r-ops, f-ops, c-ops, m-ops, r4-ops, i-ops, shift-o
 use Rattle.isa.proofs.Validity.{both, valid-Valid, Valid-valid, Valid-registers}
 use Rattle.isa.proofs.Laws.{encode-small}
 use Rattle.isa.proofs.Words.{encode-R, encode-F, encode-C, encode-M, encode-R4, encode-I, encode-Shift, encode-S, encode-B, encode-U, encode-J}
-use Rattle.refusal.specs.Answer.{Answer, accepted, refused}
+use Rattle.refusal.specs.Answer.{accepted, refused}
 use Rattle.encoder.specs.Answer.{encoded}
 use Rattle.encoder.specs.Field.{packed}
 use Rattle.encoder.specs.Table.{rows, row-of}

@@ -2,7 +2,7 @@
 -- `toZ w (ofZ w z)`, which is z where z fits. Assumes nothing.
 use mathlib.Core.Path.{_≡_, refl, sym, ap, subst, _∙_}
 use mathlib.Core.Bool.{Bool, true, false, cond}
-use Prim.Native.Nat.{ℕ, suc, _+_, _-_, _<_, _≤_, _^_, zero-le, suc-le-suc}
+use Prim.Native.Nat.{ℕ, suc, _-_, zero-le, suc-le-suc}
 use native.Mathlib.Omega.{arith}
 use borrow.Author.Tests.{le-ltb, le-leb}
 use lib.Dec.{T, ltb}

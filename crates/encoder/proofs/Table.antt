@@ -1,10 +1,9 @@
 -- The table's rule: every base word is the encoding of its row. One test over the whole table, and what it says at each entry. Assumes nothing.
-use mathlib.Core.Path.{_≡_, refl, sym, ap, _∙_}
-use mathlib.Core.List.{List, [], _∷_, _++_, map}
-use Prim.Native.Nat.{ℕ, zero, suc, _+_, _<_}
+use mathlib.Core.Path.{_≡_, refl, ap, _∙_}
+use mathlib.Core.List.{List, [], _∷_, map}
+use Prim.Native.Nat.{ℕ, zero, suc, _<_}
 use native.Mathlib.Omega.{arith}
 use lib.ListN.{length, getD}
-use Rattle.isa.specs.Instr.{Instr}
 use Rattle.isa.specs.Encode.{encode, fields, join}
 use Rattle.encoder.specs.Table.{rows, row-of}
 

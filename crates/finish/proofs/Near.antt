@@ -9,7 +9,7 @@ use lib.IntN.{ℤ, pos, negsuc, subℕ, _-ℤ_}
 use lib.Signed.{mag}
 use mir.Syntax.{w32}
 use mir.Val.{SFits, toZ, ofZ}
-use Rattle.isa.specs.Immediate.{twos, hi, lo}
+use Rattle.isa.specs.Immediate.{twos, lo}
 use Rattle.isa.specs.Instr.{holds, offset, valid}
 use Rattle.isa.proofs.HiLo.{lo-fits, hi-fits}
 use Rattle.encoder.proofs.ReadBack.{sfits, back, back-small}

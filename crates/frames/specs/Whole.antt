@@ -3,14 +3,13 @@ use mathlib.Core.Bool.{Bool, true, false}
 use mathlib.Core.List.{List, [], _∷_, _++_}
 use Prim.Native.Nat.{ℕ}
 use lib.IntN.{pos}
-use Rattle.isa.specs.Instr.{Instr, R, ADD}
 use Rattle.refusal.specs.Answer.{Answer, accepted, refused}
 use Rattle.assembler.specs.Item.{Item, jump, label}
 use Rattle.accesses.specs.Code.{li-code}
 use Rattle.assembler.specs.declared.Kind.the-variants.{Beq, Bne}
 use Rattle.order.specs.declared.Frame.the-variants.{Indirect}
 use Rattle.framing.specs.Copies.{copy-first, copy-each, copy-label}
-use Rattle.framing.specs.Items.{code, mv, opening, at-self, at-main, count-down, state-copy, obs-copy, repeated, at-pro, at-epi}
+use Rattle.framing.specs.Items.{code, mv, opening, at-self, at-main, count-down}
 
 abbrev pub is-accepted : Answer (Unit {0}) → Bool
 is-accepted (accepted x) = true

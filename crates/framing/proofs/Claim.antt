@@ -4,11 +4,9 @@ use mathlib.Core.Path.{_≡_}
 use mathlib.Core.Bool.{Bool, true, false, not, _&&_, _||_, cond}
 use mathlib.Core.List.{List, _++_, List·Memᴰ}
 use Prim.Native.Nat.{ℕ, zero, suc, _+_, _-_, _*_, _%_, _^_, _≤_, _<_}
-use lib.Dec.{T, eqb, leb}
-use lib.IntN.{pos}
+use lib.Dec.{T, eqb}
 use lib.ListN.{length, getD}
 use Rattle.order.specs.Count.{cells}
-use Rattle.isa.specs.Instr.{Instr}
 use Rattle.machine.specs.Word.{w64, dist, upd, load8, store8}
 use Rattle.machine.specs.Floats.{Floats}
 use Rattle.machine.specs.State.{State, Sound}
@@ -17,11 +15,9 @@ use Rattle.machine.proofs.Stores.{Same, Off}
 use Rattle.order.specs.declared.Frame.{Frame}
 use Rattle.order.specs.declared.Frame.the-variants.{Fast, Indirect}
 use Rattle.order.specs.declared.Head.{Head}
-use Rattle.assembler.specs.Item.{Item}
 use Rattle.assembler.specs.Resolved.{resolved}
-use Rattle.accesses.specs.Code.{li-code, sub-stack-code, allocate-stack-code}
 use Rattle.framing.specs.Steps.{prologue-steps, epilogue-steps}
-use Rattle.framing.specs.Size.{uses-table, holds-mem, frame-size, stack-size, below-saves, whole-size}
+use Rattle.framing.specs.Size.{uses-table, holds-mem, stack-size, below-saves, whole-size}
 use Rattle.order.specs.Mask.{saved, save-cell}
 use Rattle.framing.specs.Items.{kept, prologue, saves, reloads, epilogue}
 use Rattle.framing.specs.Fault.{prologue-holds, epilogue-holds}

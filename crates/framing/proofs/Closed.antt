@@ -1,15 +1,13 @@
 -- Closed frames: their words compute to those that document 01 prints for `fast,0,1,0,0,0`, and counts at the limit to some others.
 use mathlib.Core.Path.{_≡_, refl}
-use mathlib.Core.List.{List, [], _∷_, _++_}
-use Prim.Native.Nat.{ℕ}
-use lib.ListN.{length}
+use mathlib.Core.List.{[], _∷_, _++_}
 use Rattle.isa.specs.Encode.{encode, join, fields}
-use Rattle.order.specs.declared.Frame.the-variants.{Fast, Indirect}
+use Rattle.order.specs.declared.Frame.the-variants.{Fast}
 use Rattle.order.specs.declared.Head.{Head}
 use Rattle.assembler.specs.Resolved.{resolved}
-use Rattle.accesses.specs.Code.{li-code, sub-stack-code, add-stack-code, allocate-stack-code}
+use Rattle.accesses.specs.Code.{li-code, sub-stack-code, add-stack-code}
 use Rattle.order.specs.Mask.{saved}
-use Rattle.framing.specs.Items.{repeated, prologue, epilogue, saves, reloads}
+use Rattle.framing.specs.Items.{prologue, epilogue, saves, reloads}
 
 abbrev sample : Head
 sample = record { frame = Fast; cap = 0; states = 1; obs = 0; last = 0; mask = 0 }

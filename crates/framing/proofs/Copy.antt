@@ -1,24 +1,23 @@
 -- One round of the states' copy: a cell by its pointer, into `mem`. Assumes nothing.
-use mathlib.Core.Path.{_≡_, refl, ap, sym, subst, _∙_}
+use mathlib.Core.Path.{_≡_, refl, _∙_}
 use mathlib.Core.Logic.{_≢_}
-use mathlib.Core.Bool.{Bool, true, false, not, _||_, cond}
-use mathlib.Core.List.{List, [], _∷_}
-use Prim.Native.Nat.{ℕ, zero, suc, _+_, _-_, _*_, _%_, _^_, _≤_, _<_}
+use mathlib.Core.Bool.{Bool, true, false, not, _||_}
+use mathlib.Core.List.{[], _∷_}
+use Prim.Native.Nat.{ℕ, zero, suc, _+_, _-_, _*_, _^_, _≤_, _<_}
 use native.Mathlib.Omega.{arith}
 use borrow.Author.Tests.{eqb-true, eqb-false, eq-eqb}
 use lib.Dec.{T, eqb}
-use lib.ListN.{length}
-use Rattle.machine.specs.Word.{w64, dist, upd, load8, store8}
+use Rattle.machine.specs.Word.{w64, upd, load8, store8}
 use Rattle.machine.specs.Floats.{Floats}
 use Rattle.machine.specs.State.{State, setx}
 use Rattle.machine.specs.Effect.{effect, apply, exec}
 use Rattle.machine.specs.Step.{execs, Fit}
-use Rattle.machine.proofs.Memory.{wrap-l, wrap-r, dist-ahead, upd-twice, load-store, load8-store, load8-small}
+use Rattle.machine.proofs.Memory.{wrap-l, dist-ahead, upd-twice, load-store, load8-store, load8-small}
 use Rattle.machine.proofs.Effects.{setx-same, setx-other}
 use Rattle.machine.proofs.Straight.{execs-x}
 use Rattle.machine.proofs.Stores.{Same, Off, Landing, landing-same, lands-in}
 use Rattle.framing.specs.Items.{mv, state-copy}
-use Rattle.framing.proofs.Land.{In, landing-wider, load8-same, not-or, or-not}
+use Rattle.framing.proofs.Land.{In, landing-wider, load8-same}
 use Rattle.framing.proofs.Row.{cells-apart}
 use Rattle.framing.proofs.Seg.{Seg}
 use Rattle.framing.proofs.Repeat.{Round, Free}

@@ -1,29 +1,25 @@
 -- Prologue and saves of a fast frame. Assumes nothing.
-use mathlib.Core.Path.{_≡_, refl, ap, sym, subst, _∙_}
+use mathlib.Core.Path.{_≡_, refl, ap, subst, _∙_}
 use mathlib.Core.Logic.{_≢_}
-use mathlib.Core.Bool.{Bool, true, false, not, _&&_, _||_, cond}
+use mathlib.Core.Bool.{Bool, not, _||_}
 use mathlib.Core.List.{List, [], _∷_, _++_, map, List·Memᴰ, append-assoc}
-use Prim.Native.Nat.{ℕ, zero, suc, _+_, _-_, _*_, _%_, _^_, _≤_, _<_}
-use native.Mathlib.Nat.{zero-add, add-zero}
+use Prim.Native.Nat.{ℕ, zero, suc, _+_, _-_, _*_, _^_, _≤_, _<_}
 use native.Mathlib.Omega.{arith}
-use lib.Dec.{T, eqb, ltb, leb, leb→le, ltb→lt}
-use lib.IntN.{pos}
+use lib.Dec.{T, eqb, leb, leb→le}
 use lib.ListN.{length, length-append, length-map, getD}
-use Rattle.order.specs.Count.{cells}
 use Rattle.isa.specs.Instr.{Instr}
 use Rattle.isa.specs.Encode.{encode}
 use Rattle.machine.specs.Word.{w64, load8}
 use Rattle.machine.specs.Floats.{Floats}
-use Rattle.machine.specs.State.{State, Sound}
+use Rattle.machine.specs.State.{State}
 use Rattle.machine.specs.Step.{Run, stop}
 use Rattle.machine.proofs.Effects.{and-l, and-r}
-use Rattle.machine.proofs.Runs.{run-sound}
-use Rattle.machine.proofs.Stores.{Same, Off}
-use Rattle.order.specs.declared.Frame.the-variants.{Fast, Indirect}
+use Rattle.machine.proofs.Stores.{Off}
+use Rattle.order.specs.declared.Frame.the-variants.{Fast}
 use Rattle.order.specs.declared.Head.{Head}
 use Rattle.assembler.specs.Resolved.{resolved}
-use Rattle.accesses.specs.Code.{li-code, sub-stack-code}
-use Rattle.framing.specs.Size.{frame-size, stack-size, whole-size}
+use Rattle.accesses.specs.Code.{sub-stack-code}
+use Rattle.framing.specs.Size.{frame-size, stack-size}
 use Rattle.order.specs.Mask.{saved, save-cell}
 use Rattle.framing.specs.Items.{code, mv, kept, opening, states-from, save, prologue, saves}
 use Rattle.framing.proofs.Land.{In, load8-same, off-above, off-below, not-or, or-not}

@@ -1,13 +1,12 @@
 -- One round of the observations' copy: a cell of `mem` to an observation cell, by its pointer. Assumes nothing.
-use mathlib.Core.Path.{_≡_, refl, ap, sym, subst, _∙_}
+use mathlib.Core.Path.{_≡_, refl, ap, _∙_}
 use mathlib.Core.Logic.{_≢_}
-use mathlib.Core.Bool.{Bool, true, false, not, _||_, cond}
+use mathlib.Core.Bool.{Bool, true, false, not, _||_}
 use mathlib.Core.List.{List, [], _∷_, _++_}
 use Prim.Native.Nat.{ℕ, zero, suc, _+_, _-_, _*_, _%_, _^_, _≤_, _<_}
 use native.Mathlib.Omega.{arith}
 use lib.Dec.{T, eqb, le→leb}
 use lib.IntN.{pos}
-use lib.ListN.{length}
 use Rattle.isa.specs.Instr.{Instr, R, ADD}
 use Rattle.machine.specs.Word.{w64, dist, upd, load8, store8}
 use Rattle.machine.specs.Floats.{Floats}

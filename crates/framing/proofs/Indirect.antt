@@ -3,19 +3,19 @@ use mathlib.Core.Path.{_≡_, refl, ap, sym, subst, _∙_}
 use mathlib.Core.Logic.{_≢_}
 use mathlib.Core.Bool.{Bool, true, false, not, _&&_, _||_, cond}
 use mathlib.Core.List.{List, [], _∷_, _++_, map, List·Memᴰ, append-assoc}
-use Prim.Native.Nat.{ℕ, zero, suc, _+_, _-_, _*_, _%_, _^_, _≤_, _<_}
-use native.Mathlib.Nat.{zero-add, add-zero}
+use Prim.Native.Nat.{ℕ, _+_, _-_, _*_, _%_, _^_, _≤_, _<_}
+use native.Mathlib.Nat.{zero-add}
 use native.Mathlib.Omega.{arith}
 use borrow.Author.Tests.{eqb-true, eqb-false, le-ltb, ne-eqb}
-use lib.Dec.{T, eqb, ltb, leb, leb→le, ltb→lt}
+use lib.Dec.{T, eqb, leb, leb→le}
 use lib.IntN.{pos, subℕ}
 use lib.ListN.{length, length-append, length-map, getD}
 use Rattle.order.specs.Count.{cells}
-use Rattle.isa.specs.Instr.{Instr, Valid, B, Shift, SLLI, BEQ}
+use Rattle.isa.specs.Instr.{Instr, B, Shift, SLLI, BEQ}
 use Rattle.isa.specs.Encode.{encode}
 use Rattle.machine.specs.Word.{w64, upd, load8}
 use Rattle.machine.specs.Floats.{Floats}
-use Rattle.machine.specs.State.{State, Sound, setx}
+use Rattle.machine.specs.State.{State, setx}
 use Rattle.machine.specs.Effect.{effect, apply, exec}
 use Rattle.machine.specs.Step.{Run, stop, execs}
 use Rattle.machine.proofs.Memory.{upd-other}
@@ -23,24 +23,24 @@ use Rattle.machine.proofs.Effects.{and-l, and-r}
 use Rattle.machine.proofs.Runs.{run-sound}
 use Rattle.machine.proofs.Straight.{execs-x}
 use Rattle.machine.proofs.Stores.{Same, Off}
-use Rattle.order.specs.declared.Frame.the-variants.{Fast, Indirect}
+use Rattle.order.specs.declared.Frame.the-variants.{Indirect}
 use Rattle.order.specs.declared.Head.{Head}
-use Rattle.assembler.specs.Item.{Item, instr, jump, label}
-use Rattle.assembler.specs.declared.Kind.the-variants.{Beq, Bne}
+use Rattle.assembler.specs.Item.{Item, jump, label}
+use Rattle.assembler.specs.declared.Kind.the-variants.{Beq}
 use Rattle.assembler.specs.Resolved.{resolved}
-use Rattle.accesses.specs.Code.{li-code, sub-stack-code, allocate-stack-code}
+use Rattle.accesses.specs.Code.{sub-stack-code, allocate-stack-code}
 use Rattle.accesses.proofs.Lengths.{sub-stack-length}
-use Rattle.framing.specs.Size.{frame-size, stack-size, mem-size, whole-size}
+use Rattle.framing.specs.Size.{frame-size, stack-size, mem-size}
 use Rattle.order.specs.Mask.{saved, save-cell}
 use Rattle.framing.specs.Items.{at-self, at-main, at-pro, code, mv, kept, opening, state-copy, repeated, save, prologue, saves}
 use Rattle.framing.proofs.Land.{In, load8-same, off-above, off-below, not-or, or-not}
-use Rattle.framing.proofs.Walk.{resolved-code, resolved-all, resolved-append, Stands, Words, Stood, stood-left, stood-right, stood-code, piece, behind, behind-label, behind-jump, jump-word, Came, came-at, hop, run-rm}
+use Rattle.framing.proofs.Walk.{resolved-code, resolved-all, resolved-append, Words, Stood, stood-left, stood-right, stood-code, piece, behind, behind-label, behind-jump, jump-word, Came, came-at, hop, run-rm}
 use Rattle.framing.proofs.Seg.{Seg, seg-join, seg-wider, seg-same, onward-seg, Lowered, down-to, allocate-to, Begun, begun}
 use Rattle.framing.proofs.Rows.{Stored, saves-stored, not-ten}
 use Rattle.framing.proofs.Count.{repeated-words, repeated-none}
 use Rattle.framing.proofs.Repeat.{Round, repeat}
 use Rattle.framing.proofs.Copy.{off-part, copy-regs, Copied, copied-free, round, begin, floats-last}
-use Rattle.framing.specs.Steps.{prologue-steps, repeated-steps}
+use Rattle.framing.specs.Steps.{repeated-steps}
 use Rattle.framing.proofs.Claim.{Frame-at, Called, Ready, sets, table-cell, mem-at, state-of, floats-of}
 
 -- ---- the branch over the table's part

@@ -1,12 +1,12 @@
 -- Stores to a range, and to a part of it. Assumes nothing.
-use mathlib.Core.Path.{_≡_, refl, _∙_}
+use mathlib.Core.Path.{_≡_}
 use mathlib.Core.Bool.{Bool, true, false, not, _||_}
 use mathlib.Core.List.{List, [], _∷_, _++_}
-use Prim.Native.Nat.{ℕ, _+_, _*_, _^_, _≤_, _<_}
+use Prim.Native.Nat.{ℕ, _+_, _^_, _≤_, _<_}
 use native.Mathlib.Omega.{arith}
 use lib.Dec.{T}
 use Rattle.isa.specs.Instr.{Instr}
-use Rattle.machine.specs.Word.{dist, load8}
+use Rattle.machine.specs.Word.{load8}
 use Rattle.machine.specs.Floats.{Floats}
 use Rattle.machine.specs.State.{State}
 use Rattle.machine.specs.Effect.{Effect, write-x, write-f, store, jump, effect, exec}

@@ -1,37 +1,33 @@
 -- Reloads, and the return, as both frames have them. Assumes nothing.
-use mathlib.Core.Path.{_≡_, refl, ap, sym, subst, _∙_}
+use mathlib.Core.Path.{_≡_, refl, ap, subst, _∙_}
 use mathlib.Core.Logic.{_≢_}
-use mathlib.Core.Bool.{Bool, true, false, not, _&&_, _||_, cond}
+use mathlib.Core.Bool.{not}
 use mathlib.Core.List.{List, [], _∷_, _++_, map, map-append, List·Memᴰ}
-use Prim.Native.Nat.{ℕ, zero, suc, _+_, _-_, _*_, _/_, _%_, _^_, _≤_, _<_}
+use Prim.Native.Nat.{ℕ, _+_, _-_, _*_, _%_, _^_, _<_}
 use native.Mathlib.Omega.{arith}
-use borrow.Author.Tests.{ne-eqb}
-use lib.Dec.{T, eqb, ltb, leb, leb→le, ltb→lt}
+use lib.Dec.{T}
 use lib.IntN.{pos}
-use lib.ListN.{length, length-append, length-map, getD}
+use lib.ListN.{length, length-map, getD}
 use Rattle.isa.specs.Instr.{Instr, I, ADDI}
 use Rattle.isa.specs.Encode.{encode}
-use Rattle.machine.specs.Word.{w64, upd, load8}
+use Rattle.machine.specs.Word.{w64, load8}
 use Rattle.machine.specs.Floats.{Floats}
-use Rattle.machine.specs.State.{State, Sound, setx}
+use Rattle.machine.specs.State.{State, setx}
 use Rattle.machine.specs.Effect.{effect, apply, exec}
-use Rattle.machine.specs.Step.{Run, stop, execs}
-use Rattle.machine.proofs.Memory.{load8-small}
-use Rattle.machine.proofs.Effects.{and-l, and-r, setx-other}
-use Rattle.machine.proofs.Stores.{Same, Off}
+use Rattle.machine.specs.Step.{stop}
+use Rattle.machine.proofs.Effects.{setx-other}
 use Rattle.order.specs.declared.Frame.{Frame}
-use Rattle.order.specs.declared.Frame.the-variants.{Fast, Indirect}
 use Rattle.order.specs.declared.Head.{Head}
-use Rattle.assembler.specs.Item.{Item, instr, jump, label}
+use Rattle.assembler.specs.Item.{label}
 use Rattle.assembler.specs.Resolved.{resolved}
-use Rattle.framing.specs.Size.{save-size, below-saves, whole-size, stack-size}
+use Rattle.framing.specs.Size.{save-size}
 use Rattle.order.specs.Mask.{saved, save-cell}
 use Rattle.framing.specs.Items.{at-success, at-epilogue, code, kept, closing, reload, reloads, epilogue}
-use Rattle.framing.proofs.Walk.{resolved-all, resolved-append, resolved-code, Words, words-left, words-right, Stood, stood-left, stood-right, stood-code, piece, behind, behind-label, Came, came-at, hop}
-use Rattle.framing.proofs.Seg.{Seg, seg-join, onward-seg}
+use Rattle.framing.proofs.Walk.{resolved-all, Words, words-left, words-right, Stood, stood-left, stood-code, piece, behind, behind-label, Came, came-at, hop}
+use Rattle.framing.proofs.Seg.{Seg, onward-seg}
 use Rattle.framing.proofs.Rows.{saved-proper, proper-fits}
 use Rattle.framing.proofs.Reload.{Loaded, loaded, restoring, return, closing-is, closing-length, restored, Restored}
-use Rattle.framing.proofs.Claim.{Observed-at, exit-words, Leaving}
+use Rattle.framing.proofs.Claim.{Observed-at, Leaving}
 
 -- ---- the reloads
 

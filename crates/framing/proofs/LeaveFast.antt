@@ -1,11 +1,11 @@
 -- Reloads and epilogue of a fast frame. Assumes nothing.
 use mathlib.Core.Path.{_≡_, refl, ap, sym, subst, _∙_}
 use mathlib.Core.Logic.{_≢_}
-use mathlib.Core.Bool.{Bool, true, false, not, _&&_, _||_, cond}
-use mathlib.Core.List.{List, [], _∷_, _++_, List·Memᴰ}
+use mathlib.Core.Bool.{not, _&&_}
+use mathlib.Core.List.{[], _∷_}
 use Prim.Native.Nat.{ℕ, _+_, _*_, _%_, _^_, _≤_, _<_}
 use native.Mathlib.Omega.{arith}
-use lib.Dec.{T, eqb, ltb, leb, leb→le, ltb→lt}
+use lib.Dec.{T, leb, leb→le}
 use lib.IntN.{pos}
 use lib.ListN.{length, getD}
 use Rattle.isa.specs.Instr.{Instr, I, FLD}
@@ -23,7 +23,6 @@ use Rattle.framing.specs.Size.{frame-size, stack-size}
 use Rattle.order.specs.Mask.{saved}
 use Rattle.framing.specs.Items.{code, kept, closing, reloads, epilogue}
 use Rattle.framing.specs.Fault.{result-limit}
-use Rattle.framing.proofs.Land.{not-or}
 use Rattle.framing.proofs.Walk.{Stood, stood-right, piece, behind, Came, came-at, run-rm}
 use Rattle.framing.proofs.Seg.{Seg, onward-seg}
 use Rattle.framing.proofs.Rows.{not-ten}

@@ -1,25 +1,24 @@
 -- Reloads and epilogue of an indirect frame. Assumes nothing.
 use mathlib.Core.Path.{_≡_, refl, ap, sym, subst, _∙_}
 use mathlib.Core.Logic.{_≢_}
-use mathlib.Core.Bool.{Bool, true, false, not, _&&_, _||_, cond}
-use mathlib.Core.List.{List, [], _∷_, _++_, List·Memᴰ}
+use mathlib.Core.Bool.{Bool, true, false, not, _&&_, cond}
+use mathlib.Core.List.{List, [], _∷_, _++_}
 use Prim.Native.Nat.{ℕ, zero, suc, _+_, _*_, _%_, _^_, _≤_, _<_}
-use native.Mathlib.Nat.{add-assoc}
 use native.Mathlib.Omega.{arith}
 use borrow.Author.Tests.{eqb-true, eqb-false}
-use lib.Dec.{T, eqb, ltb, leb, leb→le}
+use lib.Dec.{T, eqb, leb, leb→le}
 use lib.IntN.{pos}
 use lib.ListN.{length, length-append, getD}
 use Rattle.isa.specs.Instr.{Instr, R, ADD}
 use Rattle.isa.specs.Encode.{encode}
-use Rattle.machine.specs.Word.{w64, dist, load8, store8}
+use Rattle.machine.specs.Word.{w64, load8}
 use Rattle.machine.specs.Floats.{Floats}
 use Rattle.machine.specs.State.{State}
 use Rattle.machine.specs.Effect.{exec}
 use Rattle.machine.specs.Step.{Run, execs}
 use Rattle.machine.proofs.Memory.{load8-small}
 use Rattle.machine.proofs.Effects.{and-l, and-r}
-use Rattle.machine.proofs.Stores.{Same, Off}
+use Rattle.machine.proofs.Stores.{Off}
 use Rattle.order.specs.declared.Frame.the-variants.{Indirect}
 use Rattle.order.specs.declared.Head.{Head}
 use Rattle.assembler.specs.Item.{Item, jump, label}

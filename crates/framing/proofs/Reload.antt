@@ -1,13 +1,13 @@
 -- Reloads of preserved float registers, and the closing of a frame. Assumes nothing.
-use mathlib.Core.Path.{_≡_, refl, ap, sym, subst, _∙_}
+use mathlib.Core.Path.{_≡_, refl, sym, _∙_}
 use mathlib.Core.Logic.{_≢_, _⊎_, inl, inr}
-use mathlib.Core.Bool.{Bool, true, false, not, _||_, cond}
+use mathlib.Core.Bool.{Bool, true, false, not, _||_}
 use mathlib.Core.List.{List, [], _∷_, _++_, map, List·Memᴰ, List·Memᴰ·head, List·Memᴰ·tail, List·Memᴰ·not-nil, List·Memᴰ·cases-cons}
-use Prim.Native.Nat.{ℕ, zero, suc, _+_, _-_, _*_, _/_, _%_, _^_, _≤_, _<_}
+use Prim.Native.Nat.{ℕ, zero, suc, _+_, _-_, _*_, _%_, _^_, _≤_, _<_}
 use native.Mathlib.Omega.{arith}
 use borrow.Author.Tests.{eqb-true, eqb-false}
 use lib.Bits.{xor-self}
-use lib.Dec.{T, eqb, ltb, ltb→lt}
+use lib.Dec.{T, eqb}
 use lib.IntN.{pos}
 use lib.ListN.{length, getD}
 use Rattle.isa.specs.Instr.{Instr, R, I, XOR, JALR}
@@ -15,18 +15,16 @@ use Rattle.machine.specs.Word.{w64, upd, load8}
 use Rattle.machine.specs.Floats.{Floats}
 use Rattle.machine.specs.State.{State, setx}
 use Rattle.machine.specs.Effect.{effect, apply, exec}
-use Rattle.machine.specs.Step.{execs, Fit}
+use Rattle.machine.specs.Step.{execs}
 use Rattle.machine.proofs.Memory.{upd-same, upd-other}
-use Rattle.machine.proofs.Effects.{and-l, and-r}
 use Rattle.machine.proofs.Straight.{fit-cut, execs-x}
 use Rattle.machine.proofs.Stores.{Landing}
 use Rattle.accesses.specs.Code.{add-stack-code}
 use Rattle.order.specs.declared.Frame.{Frame}
 use Rattle.order.specs.declared.Frame.the-variants.{Fast, Indirect}
 use Rattle.framing.specs.Size.{save-size}
-use Rattle.order.specs.Mask.{saved, save-cell}
+use Rattle.order.specs.Mask.{save-cell}
 use Rattle.framing.specs.Items.{mv, kept, loads-from, closing, reload}
-use Rattle.framing.proofs.Rows.{saved-proper}
 use Rattle.framing.proofs.Seg.{Seg}
 
 -- ---- float registers from their cells

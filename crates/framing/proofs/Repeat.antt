@@ -1,29 +1,29 @@
 -- Rounds one behind another, in a row or by the loop that counts t2 down. Assumes nothing.
-use mathlib.Core.Path.{_≡_, refl, ap, sym, subst, _∙_}
+use mathlib.Core.Path.{_≡_, refl, ap, subst, _∙_}
 use mathlib.Core.Logic.{_≢_}
-use mathlib.Core.Bool.{Bool, true, false, not, cond}
+use mathlib.Core.Bool.{Bool, true, false, cond}
 use mathlib.Core.List.{List, [], _∷_, _++_, map}
-use Prim.Native.Nat.{ℕ, zero, suc, _+_, _-_, _*_, _%_, _^_, _≤_, _<_}
+use Prim.Native.Nat.{ℕ, zero, suc, _+_, _-_, _*_, _^_, _≤_, _<_}
 use native.Mathlib.Omega.{arith}
 use borrow.Author.Tests.{lt-ltb, ne-eqb, eqb-true}
-use lib.Dec.{T, eqb, ltb, leb, le→leb}
+use lib.Dec.{eqb, leb, le→leb}
 use lib.IntN.{pos, negsuc, subℕ}
-use lib.ListN.{length, length-append, length-map}
-use Rattle.isa.specs.Instr.{Instr, I, B, ADDI, BNE}
+use lib.ListN.{length, length-append}
+use Rattle.isa.specs.Instr.{Instr, B, BNE}
 use Rattle.isa.specs.Encode.{encode}
-use Rattle.machine.specs.Word.{w64, upd}
+use Rattle.machine.specs.Word.{w64}
 use Rattle.machine.specs.Floats.{Floats}
 use Rattle.machine.specs.State.{State, setx}
 use Rattle.machine.specs.Effect.{effect, apply, exec}
 use Rattle.machine.specs.Step.{execs, Fit}
 use Rattle.machine.proofs.Effects.{setx-same, setx-other}
 use Rattle.machine.proofs.Stores.{Landing}
-use Rattle.assembler.specs.Item.{Item, instr, jump, label}
+use Rattle.assembler.specs.Item.{Item, jump, label}
 use Rattle.assembler.specs.Resolved.{resolved}
 use Rattle.assembler.specs.declared.Kind.the-variants.{Bne}
 use Rattle.accesses.specs.Code.{li-code}
 use Rattle.framing.specs.Items.{code, times-over, count-down, repeated}
-use Rattle.framing.proofs.Walk.{Stands, Words, Stood, piece, behind, behind-label, jump-word, stood-code, Came, came-at, onward, hop}
+use Rattle.framing.proofs.Walk.{Words, Stood, piece, behind, behind-label, jump-word, stood-code, Came, came-at, hop}
 use Rattle.framing.proofs.Stack.{li}
 use Rattle.framing.proofs.Count.{over-length, row-words, loop-words}
 use Rattle.framing.specs.Steps.{repeated-steps}

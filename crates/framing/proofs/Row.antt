@@ -9,13 +9,13 @@ use borrow.Author.Tests.{eqb-true, eqb-false}
 use lib.Dec.{eqb}
 use lib.IntN.{ℤ, pos}
 use Rattle.isa.specs.Instr.{Instr, S, SOp, SD, FSD}
-use Rattle.machine.specs.Word.{load8, store8}
+use Rattle.machine.specs.Word.{load8}
 use Rattle.machine.specs.Floats.{Floats}
 use Rattle.machine.specs.State.{State}
 use Rattle.machine.specs.Effect.{Effect, store, address, effect, apply, exec}
 use Rattle.machine.specs.Step.{execs, Fit}
 use Rattle.machine.proofs.Memory.{inside, load-store, load8-store, Apart}
-use Rattle.machine.proofs.Stores.{Lands, Landing, lands-in}
+use Rattle.machine.proofs.Stores.{Landing, lands-in}
 use Rattle.framing.proofs.Land.{In}
 
 -- two cells of a row

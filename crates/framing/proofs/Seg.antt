@@ -1,24 +1,24 @@
 -- Straight pieces one behind another: openings and changes of sp. Assumes nothing.
 use mathlib.Core.Path.{_≡_, refl, ap, sym, subst, _∙_}
 use mathlib.Core.Logic.{_≢_, _⊎_, inl, inr}
-use mathlib.Core.Bool.{Bool, true, false, not, _&&_, _||_, cond}
+use mathlib.Core.Bool.{Bool, true, false, not, _&&_, _||_}
 use mathlib.Core.List.{List, [], _∷_, _++_, map, List·Memᴰ, List·Memᴰ·head, List·Memᴰ·tail, List·Memᴰ·not-nil, List·Memᴰ·cases-cons}
-use Prim.Native.Nat.{ℕ, zero, suc, _+_, _-_, _*_, _%_, _^_, _≤_, _<_}
+use Prim.Native.Nat.{ℕ, zero, suc, _+_, _-_, _*_, _^_, _≤_, _<_}
 use native.Mathlib.Nat.{zero-add}
 use native.Mathlib.Omega.{arith}
-use borrow.Author.Tests.{eqb-true, eq-eqb}
-use lib.Dec.{T, eqb, ltb, leb, ltb→lt, eqb→eq}
+use borrow.Author.Tests.{eq-eqb}
+use lib.Dec.{T, eqb, ltb, ltb→lt, eqb→eq}
 use lib.IntN.{pos}
 use lib.ListN.{length, getD}
-use Rattle.isa.specs.Instr.{Instr, R, S, ADD, SD}
+use Rattle.isa.specs.Instr.{Instr, S, SD}
 use Rattle.isa.specs.Encode.{encode}
-use Rattle.machine.specs.Word.{w64, upd, load8}
+use Rattle.machine.specs.Word.{w64, load8}
 use Rattle.machine.specs.Floats.{Floats}
-use Rattle.machine.specs.State.{State, setx, Sound}
+use Rattle.machine.specs.State.{State, Sound}
 use Rattle.machine.specs.Effect.{effect, apply, exec}
 use Rattle.machine.specs.Step.{execs, Fit}
 use Rattle.machine.proofs.Effects.{and-l, and-r, setx-same, setx-other}
-use Rattle.machine.proofs.Straight.{execs-append, fit-join, execs-x}
+use Rattle.machine.proofs.Straight.{execs-append, fit-join}
 use Rattle.machine.proofs.Stores.{Same, Landing, landing-same}
 use Rattle.accesses.specs.Code.{sub-stack-code, allocate-stack-code}
 use Rattle.order.specs.declared.Frame.{Frame}

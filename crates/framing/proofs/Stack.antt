@@ -1,13 +1,13 @@
 -- What `li` and the changes of sp do, instruction by instruction. Assumes nothing.
-use mathlib.Core.Path.{_≡_, refl, ap, sym, _∙_}
+use mathlib.Core.Path.{_≡_, refl, _∙_}
 use mathlib.Core.Logic.{_≢_}
-use mathlib.Core.Bool.{Bool, true, false, not, _&&_, _||_, cond}
+use mathlib.Core.Bool.{Bool, true, false, not, _||_, cond}
 use mathlib.Core.List.{List, [], _∷_, _++_}
-use Prim.Native.Nat.{ℕ, zero, suc, _+_, _-_, _*_, _/_, _%_, _^_, _≤_, _<_}
+use Prim.Native.Nat.{ℕ, zero, suc, _+_, _-_, _^_, _≤_, _<_}
 use native.Mathlib.Omega.{arith}
 use borrow.Author.Tests.{ltb-true, eq-eqb, ne-eqb}
-use lib.Dec.{T, eqb, ltb, leb, lt→ltb, le→leb}
-use lib.IntN.{ℤ, pos, negsuc, negℤ}
+use lib.Dec.{T, eqb, ltb, lt→ltb, le→leb}
+use lib.IntN.{ℤ, pos, negℤ}
 use lib.Signed.{mag}
 use Rattle.isa.specs.Immediate.{twos, hi, lo}
 use Rattle.isa.specs.Instr.{Instr, R, I, U, ADD, SUB, ADDI, LUI}
@@ -15,12 +15,12 @@ use Rattle.isa.proofs.HiLo.{lo-fits, hi-fits}
 use Rattle.machine.specs.Word.{w64, upd}
 use Rattle.machine.specs.Floats.{Floats}
 use Rattle.machine.specs.State.{State, setx}
-use Rattle.machine.specs.Effect.{upper, effect, apply, exec}
+use Rattle.machine.specs.Effect.{upper, effect, apply}
 use Rattle.machine.specs.Step.{execs, Fit}
 use Rattle.machine.proofs.Effects.{setx-same, getx-same, twos-small}
-use Rattle.machine.proofs.Straight.{execs-append, fit-join, keeps, execs-x}
+use Rattle.machine.proofs.Straight.{execs-append, fit-join, execs-x}
 use Rattle.machine.proofs.Stores.{Landing}
-use Rattle.accesses.specs.Code.{li-code, sub-stack-code, add-stack-code, allocate-stack-code}
+use Rattle.accesses.specs.Code.{li-code, sub-stack-code}
 use Rattle.accesses.specs.Fault.{li-takes}
 use Rattle.accesses.proofs.Parts.{parts}
 use Rattle.framing.proofs.Land.{Nowhere, landing-join}

@@ -2,7 +2,7 @@
 use mathlib.Core.Path.{_≡_, refl, ap, sym, _∙_}
 use mathlib.Core.List.{List, [], _∷_, _++_, map, map-append}
 use mathlib.Core.Option.{Option, some, none, Option·map}
-use Prim.Native.Nat.{ℕ, zero, suc, _+_, _*_, _%_, _^_, _≤_, _<_}
+use Prim.Native.Nat.{ℕ, suc, _+_, _*_, _%_, _^_, _≤_}
 use native.Mathlib.Nat.{add-zero}
 use native.Mathlib.Omega.{arith}
 use lib.IntN.{subℕ}
@@ -10,9 +10,9 @@ use lib.ListN.{length, length-append, length-map}
 use Rattle.isa.specs.Instr.{Instr, Valid}
 use Rattle.isa.specs.Encode.{encode}
 use Rattle.isa.specs.Decode.{decode}
-use Rattle.machine.specs.Word.{w64, dist}
+use Rattle.machine.specs.Word.{w64}
 use Rattle.machine.specs.Floats.{Floats}
-use Rattle.machine.specs.State.{State, Sound}
+use Rattle.machine.specs.State.{State}
 use Rattle.machine.specs.Effect.{effect, exec}
 use Rattle.machine.specs.Step.{and-then, fetch, step, CodeAt, words, Run, stop, go, execs, Fit}
 use Rattle.machine.proofs.Memory.{dist-ahead}

@@ -1,5 +1,5 @@
 -- An order as one number: its kind's, and its operands before it in base 32, the first one lowest. The last may be an index below 4,096.
-use mathlib.Core.Bool.{Bool, true, false, cond}
+use mathlib.Core.Bool.{cond}
 use Prim.Native.Nat.{ℕ, _+_, _*_, _/_, _%_, _-_}
 use lib.Dec.{eqb, ltb}
 use Rattle.order.specs.declared.Place.{Place}

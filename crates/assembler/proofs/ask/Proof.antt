@@ -3,7 +3,7 @@ use mathlib.Core.Bool.{cond}
 use Prim.Native.Nat.{ℕ}
 use lib.Dec.{leb}
 use borrow.Author.Needs.{needs}
-use Rattle.assembler.specs.State.{State, state}
+use Rattle.assembler.specs.State.{state}
 use Rattle.assembler.specs.Put.{verdict, settled}
 use Rattle.assembler.proofs.Steps.{settled-yes, settled-refused}
 use Rattle.assembler.proofs.ask.Statement.{statement}

@@ -2,8 +2,6 @@ use Rattle.encoder.proofs.Table.{base-word}
 use borrow.Author.Needs.{needs}
 use Rattle.encoder.proofs.base.Statement.{statement}
 use Rattle.encoder.proofs.base.Tie as tie
-use Rattle.encoder.proofs.base.Reads as reads
-use Rattle.encoder.proofs.base.Lts as lts
 
 -- src/lib.rt:213:5
 -- src/lib.rt:213:5

@@ -3,8 +3,6 @@ use mathlib.Core.Bool.{and-true}
 use borrow.Author.Tests.{lt-ltb, le-ltb}
 use Rattle.encoder.proofs.registers.Statement.{statement}
 use Rattle.encoder.proofs.registers.Tie as tie
-use Rattle.encoder.proofs.registers.Reads as reads
-use Rattle.encoder.proofs.registers.Lts as lts
 
 -- src/lib.rt:229:9
 returns : tie.Need-returns

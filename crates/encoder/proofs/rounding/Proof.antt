@@ -1,8 +1,6 @@
 use borrow.Author.Tests.{le-leb, lt-leb}
 use Rattle.encoder.proofs.rounding.Statement.{statement}
 use Rattle.encoder.proofs.rounding.Tie as tie
-use Rattle.encoder.proofs.rounding.Reads as reads
-use Rattle.encoder.proofs.rounding.Lts as lts
 
 -- src/lib.rt:245:9
 returns : tie.Need-returns

@@ -2,8 +2,6 @@ use mir.Syntax.{w32}
 use Rattle.encoder.proofs.Signs.{cast-pos-of, minus-fits-of, cast-neg-of, is-pos-of, is-neg-of}
 use Rattle.encoder.proofs.split.Statement.{statement}
 use Rattle.encoder.proofs.split.Tie as tie
-use Rattle.encoder.proofs.split.Reads as reads
-use Rattle.encoder.proofs.split.Lts as lts
 
 -- src/lib.rt:260:22
 cast-t4 : tie.Need-cast-t4

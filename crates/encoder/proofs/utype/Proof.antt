@@ -9,7 +9,7 @@ use mir.Syntax.{w32}
 use mir.ValLaws.{toZ-ofZ}
 use Rattle.isa.specs.Immediate.{twos}
 use Rattle.isa.specs.Instr.{Operand, register, registers-hold, unsigned}
-use Rattle.encoder.specs.Field.{sign-of, signed-field, unsigned-field}
+use Rattle.encoder.specs.Field.{sign-of, unsigned-field}
 use Rattle.encoder.proofs.Fields.{Means, unsigned20}
 use Rattle.encoder.proofs.Answers.{inside, outside, bad-register, bad-value, small, good, word-U}
 use Rattle.encoder.proofs.utype.Statement.{statement}
