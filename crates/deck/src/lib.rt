@@ -464,7 +464,7 @@ fn packed_kind(k: u64, s: &[u8], a: usize) -> u64
 fn quick_body(s: &[u8]) -> u64
     ensures { λ r. ⌜ (r < 4294967296 → line-judged false (formed (read-fields (split (now (s .entry))))) ≡ accepted (order (unpacked r))) ⌝ }
 {
-    let e = text::field_end(s, 0);
+    let e = text::name_end(s);
     packed_kind(form::kind_number(&s[..e]), s, e + 1)
 }
 

@@ -1,4 +1,4 @@
--- The first byte 10 among eight. Assumes nothing.
+-- The first byte c among eight. Assumes nothing.
 use mathlib.Core.Path.{_≡_, refl, sym, _∙_}
 use mathlib.Core.Bool.{Bool, true, false, cond}
 use mathlib.Core.List.{List}
@@ -10,8 +10,7 @@ use lib.Bits.{shifted-half, shifted-even}
 use lib.Count.{trailingZeros}
 use lib.Dec.{eqb}
 use lib.ListN.{length, getD}
-use Rattle.text.specs.Bytes.{four-are, tens}
-use Rattle.text.proofs.Lined.{Ends, ends-here, ends-later}
+use Rattle.text.specs.Bytes.{four-are, marks}
 
 shifted : (j k n : ℕ) → trailingZeros (j + k) (n * 2 ^ j) ≡ j + trailingZeros k n
 unfolding trailingZeros
@@ -31,42 +30,43 @@ abbrev bytes-are : List ℕ → ℕ → ℕ → ℕ → Type 0
 bytes-are f i zero x = Unit {0}
 bytes-are f i (suc k) x = (x % 256 ≡ getD f i 0) × bytes-are f (i + 1) k (x / 256)
 
--- z marks those of k bytes that are 10: with none the line goes on behind them, else it ends at the first
-abbrev pub Found : List ℕ → ℕ → ℕ → ℕ → Type 0
-Found f i k z = (z ≡ 0 → (r : ℕ) → Ends f (i + k) r → Ends f i r) × ((z ≡ 0 → ⊥) → Ends f i (i + trailingZeros (k * 8) z / 8 + 1))
-
-module _ (f : List ℕ) (k i w : ℕ) (h : i < length f) where
-  s : suc k * 8 ≡ 8 + k * 8
-  s = omega arith
-
-  here : getD f i 0 ≡ 10 → Found f i (suc k) (w * 256 + 128)
-  here e =
-      let z : i + 7 / 8 + 1 ≡ i + 1 = omega arith in
-      (λ n. absurd (omega arith), λ n. rw (s, ten-first (k * 8) w, z) (ends-here f i h e))
-
-  later : (getD f i 0 ≡ 10 → ⊥) → Found f (i + 1) k w → Found f i (suc k) (w * 256 + 0)
-  later e v =
-      let t = trailingZeros (k * 8) w in
-      let a : i + 1 + k ≡ i + suc k = omega arith in
-      let d : i + (8 + t) / 8 + 1 ≡ i + 1 + t / 8 + 1 = omega arith in
-      let z : trailingZeros (suc k * 8) (w * 256 + 0) ≡ 8 + t = rw (s, add-zero (w * 256)) (shifted 8 (k * 8) w) in (
-        λ n r g. ends-later f i h r e (v .0 (omega arith) r (rw a g)),
-        λ n. rw (z, d) (ends-later f i h _ e (v .1 (λ g. n (omega arith)))),
-      )
-
-found : (f : List ℕ) (k i x : ℕ) → i + k ≤ length f → bytes-are f i k x → Found f i k (tens k x)
-unfolding tens
-found f zero i x h b = (λ e r g. rw add-zero at g, λ n. absurd (n refl))
-found f (suc k) i x h b = by (eqb (x % 256) 10) refl (found f k (i + 1) (x / 256) (omega arith) (b .1))
-  where
-    by : (t : Bool) → eqb (x % 256) 10 ≡ t → Found f (i + 1) k (tens k (x / 256)) → Found f i (suc k) (tens k (x / 256) * 256 + cond t 128 0)
-    by true q v = here f k i (tens k (x / 256)) (omega arith) (sym (b .0) ∙ eqb-true _ _ q)
-    by false q v = later f k i (tens k (x / 256)) (omega arith) (λ e. eqb-false _ _ q (b .0 ∙ e)) v
+-- z marks those of k bytes that are c. `P i r`: a search from i on ends at r. With none it goes on behind them, else it ends at the first, or d behind it.
+abbrev pub Found : (ℕ → ℕ → Type 0) → (d i k z : ℕ) → Type 0
+Found P d i k z = (z ≡ 0 → (r : ℕ) → P (i + k) r → P i r) × ((z ≡ 0 → ⊥) → P i (i + trailingZeros (k * 8) z / 8 + d))
 
 same-byte : (f : List ℕ) (p q i j : ℕ) → p ≡ q → j ≡ i → q % 256 ≡ getD f j 0 → p % 256 ≡ getD f i 0
 same-byte f p q i j d e h = rw (d, ← e) h
 
-pub found-eight : (f : List ℕ) (i x : ℕ) → i + 8 ≤ length f → four-are f i x → four-are f (i + 4) (x / 4294967296) → Found f i 8 (tens 8 x)
-found-eight f i x h a b =
-    let m = same-byte f in
-    found f 8 i x h (a .0, (a .1, (m _ _ _ _ (omega arith) (omega arith) (a .2), (m _ _ _ _ (omega arith) (omega arith) (a .3), (m _ _ _ _ (omega arith) (omega arith) (b .0), (m _ _ _ _ (omega arith) (omega arith) (b .1), (m _ _ _ _ (omega arith) (omega arith) (b .2), (m _ _ _ _ (omega arith) (omega arith) (b .3), tt))))))))
+module _ (f : List ℕ) (c d : ℕ) (P : ℕ → ℕ → Type 0) (stops : (i : ℕ) → i < length f → getD f i 0 ≡ c → P i (i + d)) (passes : (i r : ℕ) → i < length f → (getD f i 0 ≡ c → ⊥) → P (i + 1) r → P i r) where
+  module _ (k i w : ℕ) (h : i < length f) where
+    s : suc k * 8 ≡ 8 + k * 8
+    s = omega arith
+
+    here : getD f i 0 ≡ c → Found P d i (suc k) (w * 256 + 128)
+    here e =
+        let z : i + 7 / 8 + d ≡ i + d = omega arith in
+        (λ n. absurd (omega arith), λ n. rw (s, ten-first (k * 8) w, z) (stops i h e))
+
+    later : (getD f i 0 ≡ c → ⊥) → Found P d (i + 1) k w → Found P d i (suc k) (w * 256 + 0)
+    later e v =
+        let t = trailingZeros (k * 8) w in
+        let a : i + 1 + k ≡ i + suc k = omega arith in
+        let j : i + (8 + t) / 8 + d ≡ i + 1 + t / 8 + d = omega arith in
+        let z : trailingZeros (suc k * 8) (w * 256 + 0) ≡ 8 + t = rw (s, add-zero (w * 256)) (shifted 8 (k * 8) w) in (
+          λ n r g. passes i r h e (v .0 (omega arith) r (rw a g)),
+          λ n. rw (z, j) (passes i _ h e (v .1 (λ g. n (omega arith)))),
+        )
+
+  found : (k i x : ℕ) → i + k ≤ length f → bytes-are f i k x → Found P d i k (marks c k x)
+  unfolding marks
+  found zero i x h b = (λ e r g. rw add-zero at g, λ n. absurd (n refl))
+  found (suc k) i x h b = by (eqb (x % 256) c) refl (found k (i + 1) (x / 256) (omega arith) (b .1))
+    where
+      by : (t : Bool) → eqb (x % 256) c ≡ t → Found P d (i + 1) k (marks c k (x / 256)) → Found P d i (suc k) (marks c k (x / 256) * 256 + cond t 128 0)
+      by true q v = here k i (marks c k (x / 256)) (omega arith) (sym (b .0) ∙ eqb-true _ _ q)
+      by false q v = later k i (marks c k (x / 256)) (omega arith) (λ e. eqb-false _ _ q (b .0 ∙ e)) v
+
+  pub found-eight : (i x : ℕ) → i + 8 ≤ length f → four-are f i x → four-are f (i + 4) (x / 4294967296) → Found P d i 8 (marks c 8 x)
+  found-eight i x h a b =
+      let m = same-byte f in
+      found 8 i x h (a .0, (a .1, (m _ _ _ _ (omega arith) (omega arith) (a .2), (m _ _ _ _ (omega arith) (omega arith) (a .3), (m _ _ _ _ (omega arith) (omega arith) (b .0), (m _ _ _ _ (omega arith) (omega arith) (b .1), (m _ _ _ _ (omega arith) (omega arith) (b .2), (m _ _ _ _ (omega arith) (omega arith) (b .3), tt))))))))

@@ -10,7 +10,12 @@ use lib.ListN.{getD}
 abbrev pub four-are : List ℕ → ℕ → ℕ → Type 0
 four-are f i x = (x % 256 ≡ getD f i 0) × (x / 256 % 256 ≡ getD f (i + 1) 0) × (x / 65536 % 256 ≡ getD f (i + 2) 0) × (x / 16777216 % 256 ≡ getD f (i + 3) 0)
 
--- 128 in each of the k lowest bytes of x that is 10, and 0 in the others
-unfoldable pub tens : ℕ → ℕ → ℕ
-tens zero x = 0
-tens (suc k) x = tens k (x / 256) * 256 + cond (eqb (x % 256) 10) 128 0
+-- c in each of k bytes
+unfoldable pub each : (c k : ℕ) → ℕ
+each c zero = 0
+each c (suc k) = each c k * 256 + c
+
+-- 128 in each of the k lowest bytes of x that is c, and 0 in the others
+unfoldable pub marks : (c k x : ℕ) → ℕ
+marks c zero x = 0
+marks c (suc k) x = marks c k (x / 256) * 256 + cond (eqb (x % 256) c) 128 0

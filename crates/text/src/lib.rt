@@ -6,7 +6,7 @@ ghost use lib.ListN.{length, take, drop};
 ghost use Rattle.text.specs.Digits.{negative as negative-of, digit-value, read-from, read-decimal, read-integer, read-word, numeral, further, short-of, integer as integer-of, word as word-of};
 ghost use Rattle.text.specs.Fields.{same as same-of, fields-from, end-from, next-from, first-decimal};
 ghost use Rattle.text.specs.Lines.{lines-of, first-length};
-ghost use Rattle.text.specs.Bytes.{four-are, tens as tens-of};
+ghost use Rattle.text.specs.Bytes.{four-are, each, marks};
 
 // A number of any size.
 pub enum Number {
@@ -288,11 +288,15 @@ fn eight(file: &[u8], i: usize) -> u64
     four(file, i) + four(file, i + 4) * 4294967296
 }
 
-// 128 in each byte of x that is 10, and 0 in the others.
-fn tens(x: u64) -> u64
-    ensures { λ r. ⌜ r ≡ tens-of 8 x ⌝ }
+const TENS: u64 = 0x0a0a0a0a0a0a0a0a;
+
+const COMMAS: u64 = 0x2c2c2c2c2c2c2c2c;
+
+// 128 in each byte of x that is the byte in all of m, and 0 in the others.
+fn equal_bytes(x: u64, m: u64) -> u64
+    ensures { λ r. ⌜ (m ≡ each 10 8 → r ≡ marks 10 8 x) × (m ≡ each 44 8 → r ≡ marks 44 8 x) ⌝ }
 {
-    let y = x ^ 0x0a0a0a0a0a0a0a0a;
+    let y = x ^ m;
     let t = (y & 0x7f7f7f7f7f7f7f7f) + 0x7f7f7f7f7f7f7f7f;
     (t | y | 0x7f7f7f7f7f7f7f7f) ^ 0xffffffffffffffff
 }
@@ -323,7 +327,7 @@ pub fn line_end(file: &[u8], a: usize) -> usize
     }
     let mut i = a;
     while n - i >= 8 {
-        let z = tens(eight(file, i));
+        let z = equal_bytes(eight(file, i), TENS);
         if z != 0 {
             let t = u64::trailing_zeros(z);
             return i + t as usize / 8 + 1;
@@ -331,4 +335,19 @@ pub fn line_end(file: &[u8], a: usize) -> usize
         i += 8;
     }
     line_end_bytewise(file, i)
+}
+
+// Where a line's first field ends; its first eight bytes are looked at together.
+pub fn name_end(s: &[u8]) -> usize
+    ensures { λ r. ⌜ (r ≡ end-from (now (s .entry)) 0) × (r ≤ length (now (s .entry))) ⌝ }
+{
+    if s.len() < 8 {
+        return field_end(s, 0);
+    }
+    let z = equal_bytes(eight(s, 0), COMMAS);
+    if z == 0 {
+        return field_end(s, 8);
+    }
+    let t = u64::trailing_zeros(z);
+    t as usize / 8
 }

@@ -8,18 +8,18 @@ use Rattle.deck.proofs.quick_body.Statement.{statement}
 use Rattle.deck.proofs.quick_body.Tie as tie
 
 slice-aggregate-kind-number : tie.Need-slice-aggregate-kind-number
-slice-aggregate-kind-number c = sym (length-take-le _ _ (c .before .field-end .ensures .2 (omega arith)))
+slice-aggregate-kind-number c = sym (length-take-le _ _ (c .before .name-end .ensures .1))
 
 add-packed-kind : tie.Need-add-packed-kind
 add-packed-kind c =
-    let h = c .before .before .field-end .ensures .2 (omega arith) in
+    let h = c .before .before .name-end .ensures .1 in
     record { fits = omega arith }
 
 returns : tie.Need-returns
 returns c =
     let f = c .before .before .before in
     let a = f .before .before .args in
-    line-says (now (a .s)) (f .field-end .result) (c .before .kind-number .result) (c .packed-kind .result) (f .field-end .ensures .0) (c .before .kind-number .ensures) (c .packed-kind .ensures)
+    line-says (now (a .s)) (f .name-end .result) (c .before .kind-number .result) (c .packed-kind .result) (f .name-end .ensures .0) (c .before .kind-number .ensures) (c .packed-kind .ensures)
 
 pub quick-body-spec : {M : Type 1} → statement M
 quick-body-spec =

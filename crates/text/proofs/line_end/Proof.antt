@@ -4,7 +4,8 @@ use lib.Count.{trailing-le}
 use lib.ListN.{length}
 use denote.Ref.{now}
 use borrow.Author.Needs.{needs}
-use Rattle.text.proofs.Lined.{Ends, ends-behind}
+use Rattle.text.specs.Bytes.{each}
+use Rattle.text.proofs.Lined.{Ends, ends-behind, ends-here, ends-later}
 use Rattle.text.proofs.Eights.{Found, found-eight}
 use Rattle.text.proofs.line_end.Statement.{statement}
 use Rattle.text.proofs.line_end.Tie as tie
@@ -16,11 +17,13 @@ abbrev μ-loop : tie.MeasureT-loop
 μ-loop file a n i₀ i = length file - i
 
 -- what the marks of the eight bytes tell
-told : (c : tie.After-tens Inv-loop μ-loop) → Found (now (c .before .before .before .before .before .before .args .file)) (c .before .before .before .loop .i) 8 (c .tens .result)
+told : (c : tie.After-equal-bytes Inv-loop μ-loop) → Found (Ends (now (c .before .before .before .before .before .before .args .file))) 1 (c .before .before .before .loop .i) 8 (c .equal-bytes .result)
+unfolding each
 told c =
     let l = c .before .before .before in
     let e = c .before .eight in
-    rw (c .tens .ensures) (found-eight (now (l .before .before .before .args .file)) (l .loop .i) (e .result) (search needs) (e .ensures .0) (e .ensures .1))
+    let f = now (l .before .before .before .args .file) in
+    rw (c .equal-bytes .ensures .0 refl) (found-eight f 10 1 (Ends f) (ends-here f) (λ i r h. ends-later f i h r) (l .loop .i) (e .result) (search needs) (e .ensures .0) (e .ensures .1))
 
 returns : tie.Need-returns Inv-loop μ-loop
 returns c = ends-behind _ _ (search needs)
@@ -29,13 +32,13 @@ loop-holds : tie.Need-loop-holds Inv-loop μ-loop
 loop-holds c = (refl, search needs, λ r e. e)
 
 cast-result : tie.Need-cast-result Inv-loop μ-loop
-cast-result c = search (needs, trailing-le 64 (c .before .tens .result))
+cast-result c = search (needs, trailing-le 64 (c .before .equal-bytes .result))
 
 add-result : tie.Need-add-result Inv-loop μ-loop
-add-result c = search (needs, trailing-le 64 (c .before .tens .result))
+add-result c = search (needs, trailing-le 64 (c .before .equal-bytes .result))
 
 add-result-2 : tie.Need-add-result-2 Inv-loop μ-loop
-add-result-2 c = search (needs, trailing-le 64 (c .before .tens .result))
+add-result-2 c = search (needs, trailing-le 64 (c .before .equal-bytes .result))
 
 returns-2 : tie.Need-returns-2 Inv-loop μ-loop
 returns-2 c = c .before .before .before .before .loop .inv .2 _ (told (c .before) .1 (c .if2 .taken))
