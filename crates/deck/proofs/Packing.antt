@@ -3,10 +3,11 @@ use mathlib.Core.Path.{_≡_, ap, subst, _∙_}
 use mathlib.Core.Bool.{Bool}
 use mathlib.Core.Option.{Option, some, none, Option·map}
 use mathlib.Core.List.{List, [], _∷_}
-use Prim.Native.Nat.{ℕ, zero, suc, _*_, _/_, _%_, _+_, _-_, _<_, _≤_}
+use Prim.Native.Nat.{ℕ, zero, suc, _*_, _/_, _%_, _+_, _-_, _^_, _<_, _≤_}
 use native.Mathlib.Nat.{mul-add, mul-assoc, mul-le-mul-left}
 use native.Mathlib.Omega.{arith}
 use borrow.Author.Tests.{le-ltb}
+use lib.Dec.{eqb}
 use lib.ListN.{length, take, drop, length-drop}
 use lib.Seq.{take-all}
 use Rattle.text.specs.Digits.{read-decimal, short-of}
@@ -19,7 +20,11 @@ use Rattle.form.specs.Read.{first, all-places, read-values}
 use Rattle.form.specs.Form.{only, placed, flagged}
 use Rattle.form.specs.declared.Where.the-variants as Where
 use Rattle.form.specs.declared.Flag.the-variants as Flag
-use Rattle.deck.specs.Packing.{Packs}
+use Rattle.deck.specs.Packing.{Packs, registers-of}
+
+-- two bits for each kind
+abbrev pub two-bits : ℕ → Bool
+two-bits k = eqb (8794661366101 / 2 ^ (2 * k) % 4) (registers-of k)
 
 module _ (s : List ℕ) (a : ℕ) where
   -- a field that ends at a comma, and the fields behind it

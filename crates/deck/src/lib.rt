@@ -423,16 +423,13 @@ fn branch_packed(s: &[u8], a: usize) -> u64
 }
 
 // In an order of numbers alone (0 to 21): the registers before the last operand, and that one's bound, where 1000 stands for any above.
+// The first stand as two bits for each kind, so that no branch chooses.
 fn registers(k: u64) -> u64
+    requires { ⌜ k < 22 ⌝ }
     ensures { λ r. ⌜ (r ≡ registers-of k) × (r ≤ 3) ⌝ }
 {
-    if k < 5 {
-        return 1;
-    }
-    if k < 16 {
-        return 2;
-    }
-    if k < 21 { 3 } else { 1 }
+    let h = 0x7ffaaaaa955 >> (2 * k);
+    h % 4
 }
 
 fn last_bound(k: u64) -> u64
@@ -465,7 +462,7 @@ fn quick_body(s: &[u8]) -> u64
     ensures { λ r. ⌜ (r < 4294967296 → line-judged false (formed (read-fields (split (now (s .entry))))) ≡ accepted (order (unpacked r))) ⌝ }
 {
     let e = text::name_end(s);
-    packed_kind(form::kind_number(&s[..e]), s, e + 1)
+    packed_kind(form::name_number(s, e), s, e + 1)
 }
 
 // The order that a line says, as one number. An answer from NONE on says nothing: `read_line` judges such a line.

@@ -37,7 +37,7 @@ first-is f s (x ∷ xs) a e = go (same s (f x)) refl e (first-is f s xs a)
     go false h e r = r e
 
 -- each name is that of one kind, and has no comma
-names-differ : (k : Kind) → (kind-of (name k) ≡ some k) × (free (name k) ≡ true)
+pub names-differ : (k : Kind) → (kind-of (name k) ≡ some k) × (free (name k) ≡ true)
 unfolding first same
 names-differ (Kind.Head Frame.Fast) = (refl, refl)
 names-differ (Kind.Head Frame.Indirect) = (refl, refl)

@@ -1,5 +1,6 @@
 mod Names
 pub mod Numbered
 mod Chosen
+mod Looked
 pub mod Inverse
 pub mod Shapes

@@ -1,14 +1,19 @@
 -- Kinds as numbers: 0 to 30 as `packed` has them (`get`, `put` and `branch` have the first of theirs), then those of no order.
-use mathlib.Core.Bool.{Bool, cond}
+use mathlib.Core.Bool.{Bool, false, cond, _&&_}
 use mathlib.Core.Option.{Option, some, none}
-use Prim.Native.Nat.{ℕ}
+use mathlib.Core.List.{List, [], _∷_, _++_}
+use Prim.Native.Nat.{ℕ, _/_, _%_}
 use lib.Dec.{eqb, ltb}
+use lib.Pow.{areBytes}
+use Rattle.text.specs.Bytes.{joined}
 use Rattle.order.specs.declared.Frame.the-variants as Frame
 use Rattle.order.specs.declared.Unary.the-variants as Unary
 use Rattle.order.specs.declared.Scratched.the-variants as Scratched
 use Rattle.order.specs.declared.Binary.the-variants as Binary
 use Rattle.order.specs.declared.Fused.the-variants as Fused
 use Rattle.packed.specs.Packed.{unary-at, scratched-at, binary-at, fused-at}
+use Rattle.form.specs.Line.{name}
+use Rattle.form.specs.Read.{kinds}
 use Rattle.form.specs.declared.Kind.{Kind}
 use Rattle.form.specs.declared.Kind.the-variants as Kind
 
@@ -76,3 +81,17 @@ kind-at n =
     (cond (ltb n 16) (some (Kind.Binary (binary-at n)))
     (cond (ltb n 20) (some (Kind.Fused (fused-at n)))
     (later-at n))))
+
+-- ---- names by their bytes
+
+-- y has the bytes of the kind's name and a comma, and in its eighth byte the kind's number
+abbrev pub entry-of : ℕ → Option Kind → Bool
+entry-of y none = false
+entry-of y (some k) = areBytes (name k) && (eqb (kind-number k) (y / 72057594037927936) && eqb (y % 72057594037927936) (joined (name k ++ (44 ∷ []))))
+
+abbrev pub with-number : ℕ → List Kind → Option Kind
+with-number n [] = none
+with-number n (k ∷ ks) = cond (eqb (kind-number k) n) (some k) (with-number n ks)
+
+abbrev pub entry : ℕ → Bool
+entry y = entry-of y (with-number (y / 72057594037927936) kinds)

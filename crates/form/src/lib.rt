@@ -1,9 +1,12 @@
 // Document 01, "The deck file": a line's kind and fields. Ranges are judged above (`deck`).
 ghost use mathlib.Core.Path.{_≡_};
+ghost use mathlib.Core.Bool.{true};
 ghost use mathlib.Core.List.{[], _∷_};
+ghost use Prim.Native.Nat.{_%_, _<_};
+ghost use lib.ListN.{take};
 ghost use Rattle.text.specs.Fields.{split, same, fields-from, next-from};
 ghost use Rattle.form.specs.Line.{name, place-name, flag-name, number, place, flag};
-ghost use Rattle.form.specs.Kinds.{numbered, or-number, later-at, kind-at};
+ghost use Rattle.form.specs.Kinds.{numbered, or-number, later-at, kind-at, entry};
 ghost use Rattle.form.specs.Read.{first, names-two, names-three, names-four, names-five, names-six, names-longer, kind-of, all-places, all-flags, read-values, read-fields};
 ghost use Rattle.form.specs.Form.{form-of, formed, shaped, named, zeros, read-numbers, of-numbers, first-of, only, placed, cell, flagged};
 use order::Binary;
@@ -181,6 +184,60 @@ pub fn kind_number(s: &[u8]) -> u64
         return six(s);
     }
     longer(s)
+}
+
+// An order's name of up to six bytes with its comma, and its kind in the last byte; 0 where none is. The place is `name_place`'s.
+fn name_at(place: u64) -> u64
+    ensures { λ r. ⌜ (0 < r % 72057594037927936 → entry r ≡ true) ⌝ }
+{
+    match place {
+        0 => text::word_of(b"divide,\x09"),
+        3 => text::word_of(b"sign,\0\0\x05"),
+        4 => text::word_of(b"minus,\0\x07"),
+        5 => text::word_of(b"round,\0\x02"),
+        6 => text::word_of(b"and,\0\0\0\x0c"),
+        7 => text::word_of(b"xor,\0\0\0\x0f"),
+        8 => text::word_of(b"times,\0\x08"),
+        11 => text::word_of(b"label,\0\x1e"),
+        12 => text::word_of(b"recip,\0\x01"),
+        13 => text::word_of(b"floor,\0\x03"),
+        14 => text::word_of(b"fmov,\0\0\x00"),
+        15 => text::word_of(b"neq,\0\0\0\x0b"),
+        16 => text::word_of(b"ifelse,\x14"),
+        17 => text::word_of(b"frac,\0\0\x06"),
+        20 => text::word_of(b"get,\0\0\0\x16"),
+        21 => text::word_of(b"not,\0\0\0\x04"),
+        22 => text::word_of(b"put,\0\0\0\x19"),
+        26 => text::word_of(b"branch,\x1c"),
+        27 => text::word_of(b"or,\0\0\0\0\x0e"),
+        28 => text::word_of(b"gt,\0\0\0\0\x0a"),
+        31 => text::word_of(b"andnot,\x0d"),
+        _ => 0,
+    }
+}
+
+// A place of its own for each of those names, by its first four bytes.
+fn name_place(w: u64) -> u64
+    ensures { λ r. ⌜ r < 32 ⌝ }
+{
+    w % 0x100000000 * 0x16f251 / 0x100000000 % 32
+}
+
+// The number of the kind that the first e bytes of s name. A short name is compared at once with the one it can be.
+pub fn name_number(s: &[u8], e: usize) -> u64
+    ensures { λ r. ⌜ r ≡ numbered (kind-of (take e (now (s .entry)))) ⌝ }
+{
+    if s.len() < e {
+        return kind_number(s);
+    }
+    let w = text::word_to(s, e);
+    let y = name_at(name_place(w));
+    if w != 0 {
+        if y % 0x100000000000000 == w {
+            return y / 0x100000000000000;
+        }
+    }
+    kind_number(&s[..e])
 }
 
 // The kinds from 20 on.

@@ -2,12 +2,13 @@
 use mathlib.Core.Path.{_≡_, refl, ap, _∙_}
 use mathlib.Core.Bool.{Bool, true, false, not, _&&_, _||_, cond}
 use mathlib.Core.List.{List, [], _∷_, map}
-use Prim.Native.Nat.{ℕ, zero, suc, _+_, _-_, _≤_, _<_}
+use Prim.Native.Nat.{ℕ, zero, suc, _+_, _-_, _/_, _%_, _^_, _≤_, _<_}
 use native.Mathlib.Omega.{arith}
 use borrow.Author.Tests.{eqb-true, eqb-false, eq-eqb, ne-eqb}
 use lib.Dec.{eqb}
 use Rattle.order.specs.declared.Place.the-variants.{Stack}
 use Rattle.order.specs.declared.Unary.the-variants.{Fmov}
+use Rattle.text.proofs.Tested.{tested}
 use Rattle.order.specs.Mask.{preserved, in-mask, chosen, saved, save-cell}
 use Rattle.call.specs.Good.{member, free, open-cell, all-hold, unary-writes}
 
@@ -54,21 +55,22 @@ yes r = true
 member-spread : (r : ℕ) → member r preserved ≡ spread yes r 8 8 2 (spread yes r 18 18 10 false)
 member-spread r = simp (← and-true)
 
+-- a bit for each register that isn't preserved
+abbrev others : ℕ → Bool
+others r = eqb (4026793215 / 2 ^ r % 2) (cond (member r preserved) 0 1)
+
 module _ (mask r : ℕ) where
-  pub free-below : r < 8 → true ≡ free mask r
-  free-below h = rw (member-spread r, less yes r 8 8 2 _ h, less yes r 18 18 10 false (omega arith))
+  pub free-above : 32 ≤ r → true ≡ free mask r
+  free-above h = rw (member-spread r, more yes r 8 8 2 _ (omega arith), more yes r 18 18 10 false (omega arith))
 
-  pub free-between : 9 < r → r < 18 → true ≡ free mask r
-  free-between h g = rw (member-spread r, more yes r 8 8 2 _ h, less yes r 18 18 10 false g)
-
-  pub free-above : 27 < r → true ≡ free mask r
-  free-above h = rw (member-spread r, more yes r 8 8 2 _ (omega arith), more yes r 18 18 10 false h)
-
-  pub free-low : 8 ≤ r → r ≤ 9 → in-mask mask r ≡ free mask r
-  free-low h g = rw (member-spread r, within yes r 8 8 2 _ h (omega arith) (less yes r 18 18 10 false (omega arith)))
-
-  pub free-high : 18 ≤ r → r ≤ 27 → in-mask mask r ≡ free mask r
-  free-high h g = rw (member-spread r, more yes r 8 8 2 _ (omega arith), within yes r 18 18 10 false h (omega arith) refl)
+  pub free-bits : r < 32 → not (eqb (mask / 2 ^ r % 2 + 4026793215 / 2 ^ r % 2) 0) ≡ free mask r
+  free-bits h = rw (eqb-true (4026793215 / 2 ^ r % 2) (cond (member r preserved) 0 1) (tested others 32 r refl h)) (by (member r preserved) (mask / 2 ^ r % 2) (omega arith))
+    where
+      by : (t : Bool) (b : ℕ) → b < 2 → not (eqb (b + cond t 0 1) 0) ≡ not t || eqb b 1
+      by true zero k = refl
+      by true (suc zero) k = refl
+      by true (suc (suc b)) k = absurd (omega arith)
+      by false b k = rw (ne-eqb (b + 1) 0 (λ e. omega (arith, e)))
 
 -- ---- a cell
 

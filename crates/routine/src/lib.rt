@@ -97,23 +97,16 @@ fn is_in(mask: u32, r: u32) -> bool
     h % 2 == 1
 }
 
-// A register that isn't preserved, or is in the mask.
+// A register that isn't preserved, or is in the mask. The number has a bit for each that isn't.
 fn is_free(mask: u32, r: u32) -> bool
     ensures { λ b. ⌜ b ≡ free mask r ⌝ }
 {
-    if r < 8 {
+    if r >= 32 {
         return true;
     }
-    if r <= 9 {
-        return is_in(mask, r);
-    }
-    if r < 18 {
-        return true;
-    }
-    if r <= 27 {
-        return is_in(mask, r);
-    }
-    true
+    let h = mask >> r;
+    let k = 0xf003fcffu32 >> r;
+    h % 2 + k % 2 != 0
 }
 
 // No saved register's cell: f8, f9 have 4, 5 and f18..f27 have 6..15.

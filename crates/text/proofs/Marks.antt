@@ -1,14 +1,15 @@
 -- Which bytes of a number are c, by its bits. Assumes nothing.
 use mathlib.Core.Path.{_≡_, refl, ap, _∙_, subst}
-use mathlib.Core.Bool.{Bool, true, false, cond, _&&_}
+use mathlib.Core.Bool.{Bool, true, cond}
 use Prim.Native.Nat.{ℕ, zero, suc, _+_, _*_, _/_, _%_, _^_, _<_}
 use native.Mathlib.Omega.{arith}
-use borrow.Author.Tests.{eqb-true, eqb-false}
+use borrow.Author.Tests.{eqb-true}
 use lib.Arith.{lt-one}
 use lib.Bits.{bitAnd, bitOr, bitXor, and-le-r, or-lt, xor-lt, and-block, or-block, xor-block}
-use lib.Dec.{T, eqb, eqb→eq}
+use lib.Dec.{eqb}
 use lib.Pow.{shr-lt}
 use Rattle.text.specs.Bytes.{each, marks}
+use Rattle.text.proofs.Tested.{every, tested}
 
 -- what the bit operations make of x, where m, s and o have c, 127 and 255 in each byte
 abbrev pub marked : ℕ → ℕ → ℕ → ℕ → ℕ
@@ -19,23 +20,9 @@ mark c b = cond (eqb b c) 128 0
 
 -- one byte: a computed test of all
 abbrev pub right : ℕ → ℕ → Bool
-right c zero = true
-right c (suc n) = eqb (marked c 127 255 n) (mark c n) && right c n
+right c b = eqb (marked c 127 255 b) (mark c b)
 
-both : (p q : Bool) → T (p && q) → T p × T q
-both true true e = (tt, tt)
-both true false e = absurd e
-both false q e = absurd e
-
-one : (c n b : ℕ) → T (right c n) → b < n → marked c 127 255 b ≡ mark c b
-one c zero b e h = absurd (omega arith)
-one c (suc n) b e h = by (both (eqb (marked c 127 255 n) (mark c n)) (right c n) e) (one c n b) (eqb b n) refl
-  where
-    by : T (eqb (marked c 127 255 n) (mark c n)) × T (right c n) → (T (right c n) → b < n → marked c 127 255 b ≡ mark c b) → (t : Bool) → eqb b n ≡ t → marked c 127 255 b ≡ mark c b
-    by g rest true q = rw (eqb-true b n q) (eqb→eq _ _ (g .0))
-    by g rest false q = let d = eqb-false b n q in rest (g .1) (omega (arith, d))
-
-module _ (c : ℕ) (small : c < 256) (test : T (right c 256)) where
+module _ (c : ℕ) (small : c < 256) (test : every (right c) 256 ≡ true) where
   -- the operations keep to their bytes
   byte-apart : (x m s o b : ℕ) → b < 256 → marked (m * 256 + c) (s * 256 + 127) (o * 256 + 255) (x * 256 + b) ≡ marked m s o x * 256 + mark c b
   byte-apart x m s o b h =
@@ -55,7 +42,7 @@ module _ (c : ℕ) (small : c < 256) (test : T (right c 256)) where
         or-block 8 w v t y tl yl,
         or-block 8 (bitOr w v) s (bitOr t y) 127 ul (omega arith),
         xor-block 8 (bitOr (bitOr w v) s) o (bitOr (bitOr t y) 127) 255 vl (omega arith),
-        one c 256 b test h,
+        eqb-true (marked c 127 255 b) (mark c b) (tested (right c) 256 b test h),
       )
 
   pub marks-right : (k x : ℕ) → x < 2 ^ (k * 8) → marked (each c k) (each 127 k) (each 255 k) x ≡ marks c k x

@@ -104,6 +104,25 @@ first-below s h e = go (ltb (getD s 0 0) 48) refl
     go true f = no-digit s 0 (omega arith) (below (getD s 0 0) (ltb-true (getD s 0 0) 48 f))
     go false f = let g = ltb-false (getD s 0 0) 48 f in zero-led s h (omega arith)
 
+-- the first or the last of some bytes is none
+module _ (s : List ℕ) (n : ℕ) (h : n ≡ length s) (z : n ≡ 0 → ⊥) where
+  pub first-high : (a : ℕ) → a ≡ getD s 0 0 → 57 < a → 1000 ≡ short-of s
+  first-high a e f = no-digit s 0 (omega (arith, z)) (rw e at (above a f))
+
+  pub last-low : (b : ℕ) → b ≡ getD s (n - 1) 0 → b < 48 → 1000 ≡ short-of s
+  last-low b e f = no-digit s (n - 1) (omega (arith, z)) (rw e at (below b f))
+
+  pub last-high : (b : ℕ) → b ≡ getD s (n - 1) 0 → 57 < b → 1000 ≡ short-of s
+  last-high b e f = no-digit s (n - 1) (omega (arith, z)) (rw e at (above b f))
+
+-- with one digit or two
+pub first-low : (s : List ℕ) (n a : ℕ) → n ≡ length s → a ≡ getD s 0 0 → (n ≡ 0 → ⊥) → n ≤ 2 → a < 47 + n → 1000 ≡ short-of s
+first-low s n a h e z m f = go (ltb 1 n) refl
+  where
+    go : (t : Bool) → ltb 1 n ≡ t → 1000 ≡ short-of s
+    go true q = let g = ltb-true 1 n q in first-below s (omega arith) (omega (arith, e))
+    go false q = let g = ltb-false 1 n q in no-digit s 0 (omega (arith, z)) (below (getD s 0 0) (omega (arith, e, z)))
+
 -- ---- one, two and three digits
 
 is-short : (s : List ℕ) (n : ℕ) → length s ≤ 3 → read-decimal s ≡ some n → n ≡ short-of s
@@ -128,15 +147,37 @@ two-values (a ∷ b ∷ []) x y h ex ey k f g =
     is-short (a ∷ b ∷ []) (10 * x + y) (omega arith) (led (a ∷ b ∷ []) (λ e. omega arith) (λ e. omega arith) (not-zero a x ex k) ∙ rw (← ex, ← ey, lt-ltb x 10 f, lt-ltb y 10 g) (ap some n))
 two-values (a ∷ b ∷ c ∷ s) x y h ex ey k f g = absurd (omega arith)
 
-pub two-digits : (s : List ℕ) → length s ≡ 2 → 49 ≤ getD s 0 0 → getD s 0 0 ≤ 57 → 48 ≤ getD s 1 0 → getD s 1 0 ≤ 57 → 10 * (getD s 0 0 - 48) + (getD s 1 0 - 48) ≡ short-of s
-two-digits s h a b c d = two-values s _ _ h (within (getD s 0 0) (omega arith) b) (within (getD s 1 0) c d) (λ e. omega arith) (omega arith) (omega arith)
+pub times-few : (x n : ℕ) → x ≤ 90 → n ≤ 2 → x * (n - 1) ≤ 90
+times-few x zero h k = omega arith
+times-few x (suc zero) h k = omega arith
+times-few x (suc (suc zero)) h k = omega arith
+times-few x (suc (suc (suc n))) h k = absurd (omega arith)
 
-pub three-digits : (s : List ℕ) (x y z : ℕ) → length s ≡ 3 → x ≡ digit-value (getD s 0 0) → y ≡ digit-value (getD s 1 0) → z ≡ digit-value (getD s 2 0) → (x ≡ 0 → ⊥) → x < 10 → y < 10 → z < 10 → 100 * x + 10 * y + z ≡ short-of s
+-- one or two digits, which are first and last
+pub few-digits : (s : List ℕ) (n a b : ℕ) → n ≡ length s → a ≡ getD s 0 0 → b ≡ getD s (n - 1) 0 → (n ≡ 0 → ⊥) → n ≤ 2 → 47 + n ≤ a → a ≤ 57 → 48 ≤ b → b ≤ 57 → (a - 48) * 10 * (n - 1) + (b - 48) ≡ short-of s
+few-digits [] n a b h ea eb z m f g k l = absurd (z h)
+few-digits (x ∷ []) n a b h ea eb z m f g k l = by-one h eb
+  where
+    by-one : n ≡ 1 → b ≡ getD (x ∷ []) (n - 1) 0 → (a - 48) * 10 * (n - 1) + (b - 48) ≡ short-of (x ∷ [])
+    by-one e q = rw (e) (sum ∙ one-digit (x ∷ []) (b - 48) refl ((within b k l) ∙ ap digit-value (rw e at q)) (omega arith))
+      where
+        sum : (a - 48) * 10 * (1 - 1) + (b - 48) ≡ b - 48
+        sum = omega arith
+few-digits (x ∷ y ∷ []) n a b h ea eb z m f g k l = by-two h eb
+  where
+    by-two : n ≡ 2 → b ≡ getD (x ∷ y ∷ []) (n - 1) 0 → (a - 48) * 10 * (n - 1) + (b - 48) ≡ short-of (x ∷ y ∷ [])
+    by-two e q = rw (e) (sum ∙ two-values (x ∷ y ∷ []) (a - 48) (b - 48) refl (within a (omega arith) g ∙ ap digit-value ea) (within b k l ∙ ap digit-value (rw e at q)) (λ v. omega (arith, e, f, v)) (omega arith) (omega arith))
+      where
+        sum : (a - 48) * 10 * (2 - 1) + (b - 48) ≡ 10 * (a - 48) + (b - 48)
+        sum = omega arith
+few-digits (x ∷ y ∷ c ∷ s) n a b h ea eb z m f g k l = absurd (omega arith)
+
+pub three-values : (s : List ℕ) (x y z : ℕ) → length s ≡ 3 → x ≡ digit-value (getD s 0 0) → y ≡ digit-value (getD s 1 0) → z ≡ digit-value (getD s 2 0) → (x ≡ 0 → ⊥) → x < 10 → y < 10 → z < 10 → 100 * x + 10 * y + z ≡ short-of s
 unfolding read-from
-three-digits [] x y z h ex ey ez k f g i = absurd (omega arith)
-three-digits (a ∷ []) x y z h ex ey ez k f g i = absurd (omega arith)
-three-digits (a ∷ b ∷ []) x y z h ex ey ez k f g i = absurd (omega arith)
-three-digits (a ∷ b ∷ c ∷ []) x y z h ex ey ez k f g i =
+three-values [] x y z h ex ey ez k f g i = absurd (omega arith)
+three-values (a ∷ []) x y z h ex ey ez k f g i = absurd (omega arith)
+three-values (a ∷ b ∷ []) x y z h ex ey ez k f g i = absurd (omega arith)
+three-values (a ∷ b ∷ c ∷ []) x y z h ex ey ez k f g i =
     let n : ((0 * 10 + x) * 10 + y) * 10 + z ≡ 100 * x + 10 * y + z = omega arith in
     is-short (a ∷ b ∷ c ∷ []) (100 * x + 10 * y + z) (omega arith) (led (a ∷ b ∷ c ∷ []) (λ e. omega arith) (λ e. omega arith) (not-zero a x ex k) ∙ rw (← ex, ← ey, ← ez, lt-ltb x 10 f, lt-ltb y 10 g, lt-ltb z 10 i) (ap some n))
-three-digits (a ∷ b ∷ c ∷ d ∷ s) x y z h ex ey ez k f g i = absurd (omega arith)
+three-values (a ∷ b ∷ c ∷ d ∷ s) x y z h ex ey ez k f g i = absurd (omega arith)

@@ -1,5 +1,5 @@
 -- The readers' loops, byte by byte. Assumes nothing.
-use mathlib.Core.Path.{_≡_, refl, ap, _∙_}
+use mathlib.Core.Path.{_≡_, refl, sym, ap, _∙_}
 use mathlib.Core.Bool.{Bool, true, false, cond, _&&_}
 use mathlib.Core.Option.{none}
 use mathlib.Core.List.{List, [], _∷_}
@@ -7,7 +7,7 @@ use Prim.Native.Nat.{ℕ, suc, _+_, _*_, _-_, _/_, _^_, _<_, _≤_}
 use native.Mathlib.Nat.{le-mul-of-pos-right, le-div-iff-mul-le, div-lt-iff-lt-mul}
 use native.Mathlib.Numerals.{add-one}
 use native.Mathlib.Omega.{arith}
-use borrow.Author.Tests.{lt-ltb, le-ltb, ltb-false, eq-eqb, ne-eqb}
+use borrow.Author.Tests.{lt-ltb, le-ltb, ltb-false, eq-eqb, ne-eqb, eqb-false}
 use lib.Dec.{eqb, ltb}
 use lib.ListN.{length, getD, drop, drop-of-length-le}
 use lib.Seq.{drop-cons}
@@ -86,6 +86,16 @@ module _ (s : List ℕ) (i : ℕ) where
       behind : (t : Bool) → cond t i (i + upto (drop i s)) ≡ i
       behind true = refl
       behind false = rw (drop-of-length-le s h) (omega arith)
+
+-- one or two bytes, and the comma
+pub ends-near : (s : List ℕ) (a e : ℕ) → a + 2 < length s → (getD s a 0 ≡ 44 → ⊥) → e ≡ cond (eqb (getD s (a + 1) 0) 44) (a + 1) (a + 2) → getD s e 0 ≡ 44 → e ≡ end-from s a
+ends-near s a e h n q c = by (eqb (getD s (a + 1) 0) 44) refl q
+  where
+    by : (t : Bool) → eqb (getD s (a + 1) 0) 44 ≡ t → e ≡ cond t (a + 1) (a + 2) → e ≡ end-from s a
+    by true u v = v ∙ sym (ends-later s a (omega arith) n ∙ ends-here s (a + 1) (omega arith) (rw v at c))
+    by false u v =
+        let w : a + 1 + 1 ≡ a + 2 = omega arith in
+        v ∙ sym (ends-later s a (omega arith) n ∙ ends-later s (a + 1) (omega arith) (eqb-false _ _ u) ∙ rw w (ends-here s (a + 2) h (rw v at c)))
 
 -- ---- the same bytes
 

@@ -1,12 +1,16 @@
 // Document 01, "The deck file": numbers, fields and lines as bytes.
 ghost use mathlib.Core.Path.{_≡_};
+ghost use mathlib.Core.Bool.{true, cond};
 ghost use mathlib.Core.List.{_∷_};
 ghost use Prim.Native.Nat.{_+_, _-_, _/_, _≤_, _<_};
-ghost use lib.ListN.{length, take, drop};
+ghost use lib.Count.{trailingZeros};
+ghost use lib.Dec.{eqb};
+ghost use lib.ListN.{length, getD, take, drop};
+ghost use lib.Pow.{areBytes};
 ghost use Rattle.text.specs.Digits.{negative as negative-of, digit-value, read-from, read-decimal, read-integer, read-word, numeral, further, short-of, integer as integer-of, word as word-of};
 ghost use Rattle.text.specs.Fields.{same as same-of, fields-from, end-from, next-from, first-decimal};
 ghost use Rattle.text.specs.Lines.{lines-of, first-length};
-ghost use Rattle.text.specs.Bytes.{four-are, each, marks};
+ghost use Rattle.text.specs.Bytes.{four-are, each, marks, joined-eight, word-to};
 
 // A number of any size.
 pub enum Number {
@@ -98,21 +102,11 @@ pub fn read_number(s: &[u8]) -> Numeral
     digits(s, 10)
 }
 
-// One digit, or three.
-fn odd_number(s: &[u8]) -> u64
-    requires { ⌜ (length (now s) ≡ 2 → ⊥) ⌝ }
+// A decimal number of three digits, else 1000.
+fn three_digits(s: &[u8]) -> u64
+    requires { ⌜ 2 < length (now s) ⌝ }
     ensures { λ r. ⌜ r ≡ short-of (now (s .entry)) ⌝ }
 {
-    if s.len() == 1 {
-        let x = s[0];
-        if x < 48 {
-            return 1000;
-        }
-        if x > 57 {
-            return 1000;
-        }
-        return (x - 48) as u64;
-    }
     if s.len() != 3 {
         return 1000;
     }
@@ -140,16 +134,20 @@ fn odd_number(s: &[u8]) -> u64
     100 * (a - 48) as u64 + 10 * (b - 48) as u64 + (c - 48) as u64
 }
 
-// A decimal number of one, two or three digits, else 1000. Most fields have two.
+// A decimal number of one, two or three digits, else 1000. Which of one and two asks for no branch.
 pub fn short_number(s: &[u8]) -> u64
     ensures { λ r. ⌜ r ≡ short-of (now (s .entry)) ⌝ }
 {
-    if s.len() != 2 {
-        return odd_number(s);
+    let n = s.len();
+    if n == 0 {
+        return 1000;
     }
-    let a = s[0];
-    let b = s[1];
-    if a < 49 {
+    if n > 2 {
+        return three_digits(s);
+    }
+    let a = wide(s[0]);
+    let b = wide(s[n - 1]);
+    if a < 47 + n as u64 {
         return 1000;
     }
     if a > 57 {
@@ -161,7 +159,7 @@ pub fn short_number(s: &[u8]) -> u64
     if b > 57 {
         return 1000;
     }
-    10 * (a - 48) as u64 + (b - 48) as u64
+    (a - 48) * 10 * (n as u64 - 1) + (b - 48)
 }
 
 // A decimal number that may have a minus.
@@ -213,8 +211,8 @@ pub fn read_word(s: &[u8]) -> Word
     }
 }
 
-// Where the field that starts at a ends: at a comma, or with s.
-pub fn field_end(s: &[u8], a: usize) -> usize
+// Where the field that starts at a ends, byte by byte.
+fn field_end_bytewise(s: &[u8], a: usize) -> usize
     ensures { λ r. ⌜ (r ≡ end-from (now (s .entry)) a) × (a ≤ r) × (a ≤ length (now (s .entry)) → r ≤ length (now (s .entry))) ⌝ }
 {
     let mut i = a;
@@ -225,6 +223,35 @@ pub fn field_end(s: &[u8], a: usize) -> usize
         i += 1;
     }
     i
+}
+
+// Where a field of one or two bytes ends; which of them asks for no branch.
+fn near_end(s: &[u8], a: usize) -> usize
+    requires { ⌜ a + 2 < length (now s) ⌝ }
+    ensures { λ r. ⌜ (r ≡ cond (eqb (getD (now (s .entry)) (a + 1) 0) 44) (a + 1) (a + 2)) × (a < r) × (r ≤ a + 2) ⌝ }
+{
+    if s[a + 1] == 44 { a + 1 } else { a + 2 }
+}
+
+// Where the field that starts at a ends: at a comma, or with s. A field of one or two bytes, as most are, takes no loop.
+pub fn field_end(s: &[u8], a: usize) -> usize
+    ensures { λ r. ⌜ (r ≡ end-from (now (s .entry)) a) × (a ≤ r) × (a ≤ length (now (s .entry)) → r ≤ length (now (s .entry))) ⌝ }
+{
+    let n = s.len();
+    if n < 3 {
+        return field_end_bytewise(s, a);
+    }
+    if a > n - 3 {
+        return field_end_bytewise(s, a);
+    }
+    if s[a] == 44 {
+        return a;
+    }
+    let e = near_end(s, a);
+    if s[e] == 44 {
+        return e;
+    }
+    field_end_bytewise(s, a)
 }
 
 // The number in the field that starts at a.
@@ -262,7 +289,7 @@ pub fn same(s: &[u8], w: &[u8]) -> bool
     true
 }
 
-// ---- lines, eight bytes at a time
+// ---- eight bytes at a time
 
 fn wide(b: u8) -> u64
     ensures { λ r. ⌜ (r ≡ b) × (r < 256) ⌝ }
@@ -288,6 +315,38 @@ fn eight(file: &[u8], i: usize) -> u64
     four(file, i) + four(file, i + 4) * 4294967296
 }
 
+// Eight bytes as one number.
+pub fn word_of(b: &[u8; 8]) -> u64
+    ensures { λ r. ⌜ r ≡ joined-eight (now (b .entry)) ⌝ }
+{
+    wide(b[0])
+        + wide(b[1]) * 256
+        + wide(b[2]) * 65536
+        + wide(b[3]) * 16777216
+        + wide(b[4]) * 4294967296
+        + wide(b[5]) * 1099511627776
+        + wide(b[6]) * 281474976710656
+        + wide(b[7]) * 72057594037927936
+}
+
+// A first field of up to six bytes and the comma at its end e as one number. 0: no comma at e, a longer field, or s has fewer than eight bytes.
+pub fn word_to(s: &[u8], e: usize) -> u64
+    ensures { λ r. ⌜ (r ≡ word-to (now (s .entry)) e) × (0 < r → areBytes (take e (now (s .entry))) ≡ true) ⌝ }
+{
+    if s.len() < 8 {
+        return 0;
+    }
+    if e > 6 {
+        return 0;
+    }
+    if s[e] != 44 {
+        return 0;
+    }
+    let above = 56 - 8 * e as u64;
+    let w = eight(s, 0) << above;
+    w >> above
+}
+
 const TENS: u64 = 0x0a0a0a0a0a0a0a0a;
 
 const COMMAS: u64 = 0x2c2c2c2c2c2c2c2c;
@@ -299,6 +358,18 @@ fn equal_bytes(x: u64, m: u64) -> u64
     let y = x ^ m;
     let t = (y & 0x7f7f7f7f7f7f7f7f) + 0x7f7f7f7f7f7f7f7f;
     (t | y | 0x7f7f7f7f7f7f7f7f) ^ 0xffffffffffffffff
+}
+
+// The first marked byte among sixteen; y marks the first eight.
+fn first_mark(y: u64, z: u64) -> usize
+    ensures { λ r. ⌜ (r ≡ cond (eqb y 0) (8 + trailingZeros 64 z / 8) (trailingZeros 64 y / 8)) × (r ≤ 16) ⌝ }
+{
+    let t = u64::trailing_zeros(y);
+    let u = u64::trailing_zeros(z);
+    if y == 0 {
+        return 8 + u as usize / 8;
+    }
+    t as usize / 8
 }
 
 // Behind the line, byte by byte.
@@ -326,13 +397,13 @@ pub fn line_end(file: &[u8], a: usize) -> usize
         return a;
     }
     let mut i = a;
-    while n - i >= 8 {
-        let z = equal_bytes(eight(file, i), TENS);
-        if z != 0 {
-            let t = u64::trailing_zeros(z);
-            return i + t as usize / 8 + 1;
+    while n - i >= 16 {
+        let y = equal_bytes(eight(file, i), TENS);
+        let z = equal_bytes(eight(file, i + 8), TENS);
+        if y | z != 0 {
+            return i + first_mark(y, z) + 1;
         }
-        i += 8;
+        i += 16;
     }
     line_end_bytewise(file, i)
 }

@@ -1,5 +1,3 @@
-use mathlib.Core.Path.{sym}
-use lib.Seq.{length-take-le}
 use denote.Ref.{now}
 use native.Mathlib.Omega.{arith}
 use Rattle.deck.proofs.Stands.{line-says}
@@ -7,26 +5,22 @@ use borrow.Author.Needs.{needs}
 use Rattle.deck.proofs.quick_body.Statement.{statement}
 use Rattle.deck.proofs.quick_body.Tie as tie
 
-slice-aggregate-kind-number : tie.Need-slice-aggregate-kind-number
-slice-aggregate-kind-number c = sym (length-take-le _ _ (c .before .name-end .ensures .1))
-
 add-packed-kind : tie.Need-add-packed-kind
 add-packed-kind c =
-    let h = c .before .before .name-end .ensures .1 in
+    let h = c .before .name-end .ensures .1 in
     record { fits = omega arith }
 
 returns : tie.Need-returns
 returns c =
-    let f = c .before .before .before in
+    let f = c .before .before in
     let a = f .before .before .args in
-    line-says (now (a .s)) (f .name-end .result) (c .before .kind-number .result) (c .packed-kind .result) (f .name-end .ensures .0) (c .before .kind-number .ensures) (c .packed-kind .ensures)
+    line-says (now (a .s)) (f .name-end .result) (c .before .name-number .result) (c .packed-kind .result) (f .name-end .ensures .0) (c .before .name-number .ensures) (c .packed-kind .ensures)
 
 pub quick-body-spec : {M : Type 1} → statement M
 quick-body-spec =
     tie.close
     (tie.spec
     (λ c κs. search needs)
-    slice-aggregate-kind-number
     (λ c κs. search needs)
     add-packed-kind
     (λ c κs. search needs)

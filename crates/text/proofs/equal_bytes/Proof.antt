@@ -1,3 +1,4 @@
+use mathlib.Core.Path.{refl}
 use native.Mathlib.Omega.{arith}
 use Prim.Native.Nat.{_^_, _<_}
 use borrow.Author.Needs.{needs}
@@ -14,7 +15,7 @@ returns : tie.Need-returns
 unfolding each
 returns c =
     let h : c .args .x < 2 ^ 64 = search needs in
-    (λ e. rw e (marks-right 10 (omega arith) tt 8 (c .args .x) h), λ e. rw e (marks-right 44 (omega arith) tt 8 (c .args .x) h))
+    (λ e. rw e (marks-right 10 (omega arith) refl 8 (c .args .x) h), λ e. rw e (marks-right 44 (omega arith) refl 8 (c .args .x) h))
 
 pub equal-bytes-spec : {M : Type 1} → statement M
 equal-bytes-spec = tie.close (tie.spec add-t returns)

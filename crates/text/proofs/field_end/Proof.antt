@@ -1,47 +1,31 @@
+use mathlib.Core.Path.{sym}
 use native.Mathlib.Omega.{arith}
-use mathlib.Core.Path.{_≡_, refl, sym, _∙_}
-use Prim.Native.Nat.{_-_, _≤_}
-use lib.ListN.{length}
 use borrow.Author.Needs.{needs}
-use Rattle.text.specs.Fields.{end-from}
-use Rattle.text.proofs.Steps.{ends-here, ends-later, ends-behind}
+use Rattle.text.proofs.Steps.{ends-here, ends-near}
 use Rattle.text.proofs.field_end.Statement.{statement}
 use Rattle.text.proofs.field_end.Tie as tie
 
-abbrev Inv-loop : tie.InvT-loop
-Inv-loop s a i₀ i = (end-from s a ≡ end-from s i) × (a ≤ i) × (a ≤ length s → i ≤ length s)
+returns-3 : tie.Need-returns-3
+returns-3 c = (sym (ends-here _ _ (search needs) (c .if3 .taken)), omega arith, λ h. h)
 
-abbrev μ-loop : tie.MeasureT-loop
-μ-loop s a i₀ i = length s - i
-
-loop-holds : tie.Need-loop-holds Inv-loop μ-loop
-loop-holds c = (refl, search needs, λ h. h)
-
-returns : tie.Need-returns Inv-loop μ-loop
-returns c =
-    let l = c .before .before .before in
-    (sym (l .loop .inv .0 ∙ ends-here _ _ (c .before .before .loop-test .taken) (c .if1 .taken)), l .loop .inv .1, l .loop .inv .2)
-
-loop-again : tie.Need-loop-again Inv-loop μ-loop
-loop-again c =
-    let l = c .before .before .before in
-    (l .loop .inv .0 ∙ ends-later _ _ (c .before .before .loop-test .taken) (c .if1 .left), omega arith, λ h. omega arith)
-
-returns-2 : tie.Need-returns-2 Inv-loop μ-loop
-returns-2 c =
-    let l = c .before in
-    (sym (l .loop .inv .0 ∙ ends-behind _ _ (c .loop-test .left)), l .loop .inv .1, l .loop .inv .2)
+returns-4 : tie.Need-returns-4
+returns-4 c =
+    let e = c .before .before .near-end .ensures in
+    let n = c .before .before .before in
+    (ends-near _ _ _ (search needs) (n .if3 .left) (e .0) (c .if4 .taken), omega (arith, e .1), λ h. omega (arith, e .2))
 
 pub field-end-spec : {M : Type 1} → statement M
 field-end-spec =
     tie.close
     (tie.spec
-    Inv-loop
-    μ-loop
-    loop-holds
+    (λ c κs. search needs)
     (λ c. search needs)
-    returns
+    (λ c κs. search needs)
     (λ c. search needs)
     (λ c. search needs)
-    loop-again
-    returns-2)
+    returns-3
+    (λ c κs. search needs)
+    (λ c. search needs)
+    returns-4
+    (λ c κs. search needs)
+    (λ c. search needs))
