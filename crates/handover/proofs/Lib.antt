@@ -7,4 +7,5 @@ pub mod Same
 pub mod Handover
 pub mod Files
 pub mod Refusals
+pub mod Never
 pub mod Closed

@@ -75,7 +75,7 @@ module _ (size : ℕ) where
       by (Deck.order o) f e = let z : _≡_ {A = ℕ} 0 1 = cc in absurd (omega arith)
       by (Deck.constant c) f e = let z : _≡_ {A = ℕ} 0 1 = cc in absurd (omega arith)
 
-  file-fit : (ts : List (List ℕ)) (p : Program) → file-read size ts ≡ accepted p → Fitting p
+  pub file-fit : (ts : List (List ℕ)) (p : Program) → file-read size ts ≡ accepted p → Fitting p
   file-fit [] p e = let z : _≡_ {A = ℕ} 0 1 = cc in absurd (omega arith)
   file-fit (t ∷ ts) p e =
       let x = then-accepts (head-read size t) (λ q. lines-read size q ts) p e in

@@ -29,7 +29,7 @@ use Rattle.call.proofs.Items.{span-append, unset-append, fresh-unset}
 use Rattle.call.proofs.Labels.{Early, Late, entry-fresh, exit-fresh}
 use Rattle.call.proofs.Placing.{body-unset}
 use Rattle.routine.specs.Routine.{shared, room-number, program-of}
-use Rattle.handover.proofs.Taken.{FitLine, FitLines, taken}
+use Rattle.handover.proofs.Taken.{FitLine, FitLines, Taken, taken}
 use Rattle.handover.proofs.Reached.{Jumping, jumping-line, Placed, body-reached, unset-none, constants-unset, no-line}
 
 -- ---- lines
@@ -112,10 +112,9 @@ module _ (p : Program) (f : FitLines (p .head) (p .lines)) where
   named (BranchIf c l t) e j = lined l (leb→le l 1023 (passed (leb l 1023) 0 2 (passed (registers-fit (c ∷ [])) (cond (leb l 1023) 0 3) 0 e .1) .0)) (j .0)
   named (SetLabel l) e j = tt
 
--- An accepted file is a good program.
-pub accepted-good : (size : ℕ) (file : List ℕ) (p : Program) → program-of size file ≡ accepted p → Good p
-accepted-good size file p e =
-    let t = taken size file p e in
+-- What a file is taken as is a good program.
+pub taken-good : (size : ℕ) (file : List ℕ) (p : Program) → Taken size file p → Good p
+taken-good size file p t =
     let f : FitLines (p .head) (p .lines) = t .fitting .1 in
     record {
       counts = t .fitting .0 .0;
@@ -132,3 +131,7 @@ accepted-good size file p e =
       bits = λ k h. constant-at (p .head) (p .lines) k f h;
       room = omega (arith, fits-room size p (t .roomy));
     }
+
+-- An accepted file is a good program.
+pub accepted-good : (size : ℕ) (file : List ℕ) (p : Program) → program-of size file ≡ accepted p → Good p
+accepted-good size file p e = taken-good size file p (taken size file p e)

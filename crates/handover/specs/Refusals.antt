@@ -1,12 +1,14 @@
 -- Refused files: what holds of them all, and small ones with the number and the line that document 01 ("Numbers of refusal", "The deck file") gives each, worked out by hand.
 use mathlib.Core.Path.{_≡_}
-use mathlib.Core.List.{List, _++_}
+use mathlib.Core.List.{List, [], _∷_, _++_}
 use Prim.Native.Nat.{ℕ, _<_}
 use Prim.Native.String.{String}
+use lib.Dec.{T}
 use lib.ListN.{length, drop, replicate}
 use Rattle.refusal.specs.Answer.{Answer, refused}
 use Rattle.text.specs.Ascii.{bytes}
 use Rattle.assembler.specs.Bytes.{room}
+use Rattle.call.specs.Good.{member}
 use Rattle.routine.specs.Routine.{program-of, Told, Promise}
 
 -- ---- all files
@@ -14,6 +16,14 @@ use Rattle.routine.specs.Routine.{program-of, Told, Promise}
 -- "A file too long is refused before all else at line 1"
 abbrev pub TooLong : Type 0
 TooLong = (size : ℕ) (file : List ℕ) → 65536 < length file → program-of size file ≡ refused 7 1
+
+-- The numbers that files are refused by. 6, 8 and 10 come from none: a file's only `beq` and `bne` to labels are its frame's, which are near; its record is its own, and open; and no order's base is t0.
+abbrev pub numbers : List ℕ
+numbers = 1 ∷ 2 ∷ 3 ∷ 4 ∷ 5 ∷ 7 ∷ 9 ∷ 11 ∷ 12 ∷ []
+
+abbrev pub Never : Type 0
+Never =
+    (size : ℕ) (file : List ℕ) (number line : ℕ) → program-of size file ≡ refused number line → T (member number numbers)
 
 -- A refused routine leaves zeros, and bytes behind the room as they were.
 abbrev pub Zeroed : Type 0
