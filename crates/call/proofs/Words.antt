@@ -100,13 +100,13 @@ encoded-at (u ∷ us) e zero h = e .0
 encoded-at (u ∷ us) e (suc k) h = encoded-at us (e .1) k (omega arith)
 
 module _ (p : Program) (g : Good p) where
-  entry-valid : AllValid (place p) 0 (entry p)
+  pub entry-valid : AllValid (place p) 0 (entry p)
   entry-valid =
       all-valid-join (place p) 0 (prologue (p .head)) (saves (p .head .mask))
       (prologue-valid (place p) 0 (p .head) (and-l (prologue-holds (p .head)) _ (g .counts)) (stands-left (place p) 0 (prologue (p .head)) (saves (p .head .mask)) (entry-stands p)))
       (saves-valid (place p) _ (p .head .mask))
 
-  exit-valid : AllValid (place p) (line-offset p (length (p .lines))) (exit p)
+  pub exit-valid : AllValid (place p) (line-offset p (length (p .lines))) (exit p)
   exit-valid =
       let h : ℕ = line-offset p (length (p .lines)) in
       let is : List Item = reloads (p .head .mask) in

@@ -12,7 +12,6 @@ use lib.ListN.{length}
 use lib.Seq.{take-length}
 use Rattle.isa.specs.Instr.{Instr, Valid, holds, offset}
 use Rattle.isa.proofs.Validity.{Holds-holds}
-use Rattle.machine.proofs.Effects.{and-l}
 use Rattle.refusal.specs.Answer.{Answer, accepted, refused}
 use Rattle.refusal.specs.Number.{number-of}
 use Rattle.refusal.specs.declared.Refusal.{Refusal}
@@ -38,15 +37,11 @@ use Rattle.laid.proofs.Joined.{jumps-in-append}
 use Rattle.accesses.specs.Code.{load-int-code, load-float-code, save-float-code}
 use Rattle.reading.specs.Line.{Line, order, constant}
 use Rattle.orders.specs.Code.{base, unary-code, scratched-code, binary-code, choose-code, code, line-code}
-use Rattle.framing.specs.Items.{prologue, saves, reloads, epilogue}
-use Rattle.framing.specs.Fault.{prologue-holds}
-use Rattle.framing.proofs.Walk.{stands-left, stands-right}
-use Rattle.framing.proofs.Valid.{AllValid, prologue-valid, saves-valid, reloads-valid, epilogue-valid}
+use Rattle.framing.proofs.Valid.{AllValid}
 use Rattle.call.specs.Program.{Program, constants}
 use Rattle.call.specs.Layout.{span, body, constants-from, entry, exit, code-items, data-items, items, place, line-offset}
 use Rattle.call.specs.Good.{member, saves-hold, Good}
-use Rattle.call.proofs.Items.{resolved-length}
-use Rattle.call.proofs.Whole.{entry-stands, exit-stands}
+use Rattle.call.proofs.Words.{entry-valid, exit-valid}
 use Rattle.routine.specs.Routine.{then, unless, next-line, last-line, with-line, only, shared, room-number, order-number, constant-number, placed-at, as-line, line-read, lines-read, as-head, head-read, file-read, closed-off, jump-lines, first-line, unset, far, refused-at, finished, program-of}
 use Rattle.routine.proofs.LawRoom.{span-words}
 use Rattle.handover.specs.Refusals.{numbers, Never}
@@ -126,22 +121,11 @@ module _ (all : List Item) where
 module _ (p : Program) (g : Good p) where
   near-entry : Near (items p) (jumps-in 0 (entry p))
   unfolding place
-  near-entry =
-      near-join (items p) 0 (prologue (p .head)) (saves (p .head .mask))
-      (near-valid (items p) 0 (prologue (p .head))
-      (prologue-valid (place p) 0 (p .head) (and-l (prologue-holds (p .head)) _ (g .counts)) (stands-left (place p) 0 (prologue (p .head)) (saves (p .head .mask)) (entry-stands p))))
-      (near-valid (items p) _ (saves (p .head .mask)) (saves-valid (place p) _ (p .head .mask)))
+  near-entry = near-valid (items p) 0 (entry p) (entry-valid p g)
 
   near-exit : Near (items p) (jumps-in (span (entry p) + span (body (p .lines))) (exit p))
   unfolding place line-offset
-  near-exit =
-      let here : ℕ = span (entry p) + span (body (p .lines)) in
-      let is : List Item = reloads (p .head .mask) in
-      near-join (items p) here is (epilogue (p .head))
-      (near-valid (items p) here is (reloads-valid (place p) here (p .head .mask)))
-      (near-valid (items p) (here + span is) (epilogue (p .head))
-      (epilogue-valid (place p) (here + span is) (p .head) (g .counts)
-      (rw (resolved-length (place p) here is) at (stands-right (place p) here is (epilogue (p .head)) (rw (take-length (p .lines)) at (exit-stands p g (length (p .lines)) (omega arith)))))))
+  near-exit = near-valid (items p) (span (entry p) + span (body (p .lines))) (exit p) (rw (take-length (p .lines)) at (exit-valid p g))
 
   near-items : Near (items p) (jumps-in 0 (items p))
   unfolding items
