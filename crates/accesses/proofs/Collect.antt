@@ -183,23 +183,19 @@ bits-of-neg (negsuc m) n e h =
     rw (r, q)
 bits-of-neg (pos m) n e h = let z : _≡_ {A = ℕ} 0 1 = cc in absurd (omega arith)
 
--- one instruction more
-pushes-more : (es : List Encoded) (e : Encoded) (p : Plan) → pushed (pushes-from p es) e ≡ pushes-from p (es ++ (e ∷ []))
-pushes-more [] e p = refl
-pushes-more (f ∷ es) e p = pushes-more es e (pushed p f)
+-- instructions behind others
+pushes-behind : (ds es : List Encoded) (p : Plan) → pushes-from (pushes-from p ds) es ≡ pushes-from p (ds ++ es)
+pushes-behind [] es p = refl
+pushes-behind (d ∷ ds) es p = pushes-behind ds es (pushed p d)
+
+pub pushed-behind : (is js : List Instr) (es : List Encoded) → Answers es js → pushes-from (plan-of is) es ≡ plan-of (is ++ js)
+pushed-behind is js es a =
+    ap (pushes-from (plan-of is)) (same es js a)
+    ∙ pushes-behind (map answer-of is) (map answer-of js) no-words
+    ∙ ap pushes (sym (map-append answer-of is js))
 
 pub pushed-last : (is : List Instr) (i : Instr) {e : Encoded} → e ≡ answer-of i → pushed (plan-of is) e ≡ plan-of (is ++ (i ∷ []))
-pushed-last is i {e} q =
-    pushes-more (map answer-of is) e no-words
-    ∙ ap pushes (ap (λ (x : Encoded). map answer-of is ++ (x ∷ [])) q ∙ sym (map-append answer-of is (i ∷ [])))
-
--- two more
-pub pushed-two : (is : List Instr) (i j : Instr) {d e : Encoded} → d ≡ answer-of i → e ≡ answer-of j
-    → pushed (pushed (plan-of is) d) e ≡ plan-of (is ++ (i ∷ j ∷ []))
-pushed-two is i j {d} {e} p q =
-    ap (λ (x : Plan). pushed x e) (pushed-last is i p)
-    ∙ pushed-last (is ++ (i ∷ [])) j q
-    ∙ ap plan-of (append-snoc is i (j ∷ []))
+pushed-last is i {e} q = pushed-behind is (i ∷ []) (e ∷ []) (q, tt)
 
 -- what li takes, by the sign
 pub takes-pos : (z : ℤ) (n : ℕ) → sign-of z ≡ NonNeg n → li-takes z ≡ leb n offset-limit

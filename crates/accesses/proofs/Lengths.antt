@@ -10,6 +10,7 @@ use lib.Signed.{mag}
 use Rattle.isa.specs.Instr.{Instr, I, R, ADDI, ADD, SUB}
 use Rattle.accesses.specs.Code.{li-code, load-float-code, save-float-code, load-int-code, load-complex-code, save-complex-code, sub-stack-code, add-stack-code, allocate-stack-code, near-one, near-pair, near-li, near-size}
 use Rattle.accesses.proofs.Runs.{access-length}
+use Rattle.accesses.proofs.Stack.{sized}
 
 either : (t : Bool) (is js : List Instr) (k : ℕ) → length is ≤ k → length js ≤ k → length (cond t is js) ≤ k
 either true is js k h l = h
@@ -19,16 +20,17 @@ pub li-length : (d : ℕ) (z : ℤ) → length (li-code d z) ≤ 2
 unfolding li-code
 li-length d z = either (ltb (mag z) near-li) _ _ 2 (lit≤ tt) (lit≤ tt)
 
-li-and : (d : ℕ) (z : ℤ) (i : Instr) → length (li-code d z ++ (i ∷ [])) ≤ 3
-li-and d z i = omega (arith, length-append (li-code d z) (i ∷ []), li-length d z)
+size-length : (n : ℕ) (i : Instr) (z : ℤ) (j : Instr) → length (sized n i z j) ≤ 3
+size-length n i z j =
+    either (ltb n near-size) _ _ 3 (lit≤ tt) (omega (arith, length-append (li-code 5 z) (j ∷ []), li-length 5 z))
 
 pub sub-stack-length : (n : ℕ) → length (sub-stack-code n) ≤ 3
 unfolding sub-stack-code
-sub-stack-length n = either (ltb n near-size) _ _ 3 (lit≤ tt) (li-and 5 _ _)
+sub-stack-length n = size-length n _ _ _
 
 pub add-stack-length : (n : ℕ) → length (add-stack-code n) ≤ 3
 unfolding add-stack-code
-add-stack-length n = either (ltb n near-size) _ _ 3 (lit≤ tt) (li-and 5 _ _)
+add-stack-length n = size-length n _ _ _
 
 pub load-float-length : (d b n : ℕ) → length (load-float-code d b n) ≤ 4
 load-float-length d b n = access-length near-one _ b n 1 (lit≤ tt) (lit≤ tt)
@@ -48,8 +50,5 @@ save-complex-length r b n = access-length near-pair _ b n 2 (lit≤ tt) (lit≤ 
 pub allocate-stack-length : (n : ℕ) → length (allocate-stack-code n) ≤ 4
 unfolding allocate-stack-code
 allocate-stack-length n =
-    omega (
-      arith,
-      length-append (cond (ltb n near-size) (I ADDI 2 2 (negℤ (pos n)) ∷ []) (li-code 5 (pos n) ++ (R SUB 2 2 5 ∷ []))) (R ADD 21 2 0 ∷ []),
-      either (ltb n near-size) (I ADDI 2 2 (negℤ (pos n)) ∷ []) (li-code 5 (pos n) ++ (R SUB 2 2 5 ∷ [])) 3 (lit≤ tt) (li-and 5 (pos n) (R SUB 2 2 5)),
-    )
+    let is = sized n (I ADDI 2 2 (negℤ (pos n))) (pos n) (R SUB 2 2 5) in
+    omega (arith, length-append is (R ADD 21 2 0 ∷ []), size-length n (I ADDI 2 2 (negℤ (pos n))) (pos n) (R SUB 2 2 5))

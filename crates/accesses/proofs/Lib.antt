@@ -8,6 +8,7 @@ pub mod Table
 pub mod Edges
 pub mod Collect
 pub mod Numbers
+pub mod Planned
 pub mod Placed
 pub mod Lengths
 pub mod Words

@@ -1,11 +1,12 @@
 -- A plan of valid instructions is placed as the instructions' items; a fault is answered whatever the items. Assumes nothing.
-use mathlib.Core.Path.{_≡_, refl, ap, _∙_}
-use mathlib.Core.Bool.{Bool, true, false, cond, _&&_}
+use mathlib.Core.Path.{_≡_, refl, sym, ap, ap₂, _∙_}
+use mathlib.Core.Bool.{Bool, true, false, cond}
 use mathlib.Core.List.{List, [], _++_, map, append-nil}
-use Prim.Native.Nat.{ℕ, _≤_, _<_}
+use Prim.Native.Nat.{ℕ, _≤_, min}
+use native.Mathlib.Nat.{min-eq-left}
 use native.Mathlib.Omega.{arith}
 use borrow.Author.Tests.{le-leb, eqb-true, eqb-false}
-use lib.Dec.{eqb, ltb, leb, leb→le}
+use lib.Dec.{eqb}
 use lib.ListN.{length}
 use Rattle.isa.specs.Instr.{Instr}
 use Rattle.assembler.specs.Item.{instr}
@@ -17,11 +18,9 @@ use Rattle.assembler.specs.declared.Plan.{Plan}
 use Rattle.assembler.specs.declared.Tail.{Tail}
 use Rattle.assembler.specs.declared.Tail.the-variants.{Nothing}
 use Rattle.accesses.specs.Plans.{plan-of, settled-plan, Built}
-use Rattle.accesses.specs.Code.{near-pair}
-use Rattle.accesses.specs.Fault.{pair-fault, stack-fault, last-pair}
-use Rattle.machine.proofs.Effects.{and-l}
-use Rattle.accesses.proofs.Then.{passed}
-use Rattle.accesses.proofs.Access.{accepted}
+use Rattle.accesses.specs.Fault.{offset-limit, one-fault, last-pair, pair-fault, stack-fault}
+use Rattle.accesses.proofs.Runs.{pair-taken}
+use Rattle.accesses.proofs.Stack.{size-fits}
 use Rattle.accesses.proofs.Collect.{AllValid, built}
 
 -- A plan's fault alone is answered.
@@ -59,17 +58,22 @@ settles is fault p s h = by (eqb fault 0) refl
     by false e = put-fault 0 0 fault [] (map instr is) s (eqb-false fault 0 e)
 
 -- the same of an outcome, with the fault by its definition
-pub settled-as : (is : List Instr) (fault want : ℕ) (p : Plan) (s : State) (o : Outcome) → o ≡ settled-plan fault p s → fault ≡ want
-    → (fault ≡ 0 → (p ≡ plan-of is) × AllValid is × (length is ≤ 12)) → o ≡ put 0 want (map instr is) s
-settled-as is fault want p s o e q h = e ∙ settles is fault p s h ∙ ap (λ (k : ℕ). put 0 k (map instr is) s) q
+module _ (fault : ℕ) (p : Plan) (s : State) (o : Outcome) (e : o ≡ settled-plan fault p s) where
+  pub settled-as : (is : List Instr) (want : ℕ) → fault ≡ want → (want ≡ 0 → (p ≡ plan-of is) × AllValid is × (length is ≤ 12))
+      → o ≡ put 0 want (map instr is) s
+  settled-as is want q h = e ∙ settles is fault p s (λ z. h (sym q ∙ z)) ∙ ap (λ (k : ℕ). put 0 k (map instr is) s) q
 
--- ---- what is taken
+  -- an access of one cell
+  pub one-as : (code : ℕ → ℕ → ℕ → List Instr) (r b n : ℕ) → fault ≡ one-fault r b n → (one-fault r b n ≡ 0 → AllValid (code r b n)) → length (code r b n) ≤ 4 → p ≡ plan-of (code r b n) → o ≡ put 0 (one-fault r b n) (map instr (code r b n)) s
+  one-as code r b n q v l h = settled-as (code r b n) (one-fault r b n) q (λ z. (h, v z, omega arith))
 
-pub stack-taken : (n : ℕ) → stack-fault n ≡ 0 → n ≤ 0x7FFFF7FF
-stack-taken n e = leb→le n 0x7FFFF7FF ((passed (leb n 0x7FFFF7FF) 0 1 e) .0)
+  -- of two, planned with operands that fit
+  pub pair-as : (code : ℕ → ℕ → ℕ → List Instr) (r b n : ℕ) {r′ n′ : ℕ} → fault ≡ pair-fault r b n → (pair-fault r b n ≡ 0 → AllValid (code r b n)) → length (code r b n) ≤ 5 → r′ ≡ min r last-pair → n′ ≡ min n offset-limit → p ≡ plan-of (code r′ b n′) → o ≡ put 0 (pair-fault r b n) (map instr (code r b n)) s
+  pair-as code r b n q v l i j h =
+      settled-as (code r b n) (pair-fault r b n) q
+      (λ z. let t = pair-taken r b n z in (h ∙ ap₂ (λ (x y : ℕ). plan-of (code x b y)) (i ∙ min-eq-left (t .0)) (j ∙ min-eq-left (t .1)), v z, omega arith))
 
-pub pair-taken : (r base n : ℕ) → pair-fault r base n ≡ 0 → (r < 31) × (n ≤ 0x7FFFF7FF)
-pair-taken r base n e =
-    let a = accepted near-pair (leb r last-pair && ltb base 32) base n e in
-    let p : r ≤ 30 = leb→le r 30 (and-l (leb r 30) (ltb base 32) (a .registers-fit)) in
-    (omega arith, a .within-limit)
+  -- a stack size
+  pub stack-as : (code : ℕ → List Instr) (n : ℕ) {n′ : ℕ} → fault ≡ stack-fault n → AllValid (code n) → length (code n) ≤ 4 → n′ ≡ min n offset-limit → p ≡ plan-of (code n′) → o ≡ put 0 (stack-fault n) (map instr (code n)) s
+  stack-as code n q v l j h =
+      settled-as (code n) (stack-fault n) q (λ z. (h ∙ ap (λ (x : ℕ). plan-of (code x)) (j ∙ min-eq-left (size-fits n z)), v, omega arith))

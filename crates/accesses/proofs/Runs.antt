@@ -18,7 +18,7 @@ use Rattle.machine.proofs.Effects.{and-l, and-r}
 use Rattle.machine.proofs.Memory.{Apart, dist-ahead}
 use Rattle.machine.proofs.Placed.{Valids}
 use Rattle.accesses.specs.Code.{near-li, li-code, point-code, access-code, near-one, near-pair, load-float-code, save-float-code, load-int-code, load-complex-code, save-complex-code}
-use Rattle.accesses.specs.Fault.{one-fault, last-pair, pair-fault}
+use Rattle.accesses.specs.Fault.{offset-limit, one-fault, last-pair, pair-fault}
 use Rattle.accesses.specs.Stands.{Stands, behind, cell-at, with-t0}
 use Rattle.accesses.proofs.Then.{valids-join}
 use Rattle.accesses.proofs.LoadImmediate.{li-valid}
@@ -135,6 +135,9 @@ module _ (d b n : ℕ) (h : pair-fault d b n ≡ 0) where
 
   pair-fits : (d ≤ last-pair) × (b < 32)
   pair-fits = pair-registers d b (pair-ok .registers-fit)
+
+  pub pair-taken : (d ≤ last-pair) × (n ≤ offset-limit)
+  pair-taken = (pair-fits .0, pair-ok .within-limit)
 
   pub load-complex-valid : Valids (load-complex-code d b n)
   load-complex-valid = let p = pair-fits in access-valid near-pair _ b n (p .1) (λ l. omega arith) (omega arith)

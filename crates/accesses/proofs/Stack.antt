@@ -39,9 +39,13 @@ sum-minus : (u n : ℕ) → n ≤ offset-limit → w64 (u + twos 64 (negℤ (pos
 sum-minus u zero h = omega arith
 sum-minus u (suc n) h = omega arith
 
+-- the code of a size that i takes directly, else j from t0 that holds z
+abbrev pub sized : (n : ℕ) (i : Instr) (z : ℤ) (j : Instr) → List Instr
+sized n i z j = cond (ltb n near-size) (i ∷ []) (li-code 5 z ++ (j ∷ []))
+
 module _ (Q : Floats) (s : State) (n : ℕ) (z : ℤ) (t : T (li-takes z)) (i j : Instr) (v : ℕ) where
   -- sp set to v: directly, or from t0 that holds z
-  pub size-runs : (n < near-size → Valid i) → (n < near-size → effect Q i s ≡ write-x 2 v) → Valid j → effect Q j (behind (li-code 5 z) s (setx (s .x) 5 (twos 64 z)) (s .f) (s .mem)) ≡ write-x 2 v → Stands (cond (ltb n near-size) (i ∷ []) (li-code 5 z ++ (j ∷ []))) s → Run Q s (length (cond (ltb n near-size) (i ∷ []) (li-code 5 z ++ (j ∷ [])))) (behind (cond (ltb n near-size) (i ∷ []) (li-code 5 z ++ (j ∷ []))) s (setx (with-size n z s) 2 v) (s .f) (s .mem))
+  pub size-runs : (n < near-size → Valid i) → (n < near-size → effect Q i s ≡ write-x 2 v) → Valid j → effect Q j (behind (li-code 5 z) s (setx (s .x) 5 (twos 64 z)) (s .f) (s .mem)) ≡ write-x 2 v → Stands (sized n i z j) s → Run Q s (length (sized n i z j)) (behind (sized n i z j) s (setx (with-size n z s) 2 v) (s .f) (s .mem))
   unfolding apply
   size-runs vi hi vj hj = by (ltb n near-size) refl
     where
@@ -56,7 +60,7 @@ module _ (Q : Floats) (s : State) (n : ℕ) (z : ℤ) (t : T (li-takes z)) (i j 
 
 -- ---- validity
 
-size-valid : (n : ℕ) (z : ℤ) (i j : Instr) → (n < near-size → Valid i) → Valid j → Valids (cond (ltb n near-size) (i ∷ []) (li-code 5 z ++ (j ∷ [])))
+size-valid : (n : ℕ) (z : ℤ) (i j : Instr) → (n < near-size → Valid i) → Valid j → Valids (sized n i z j)
 size-valid n z i j v w = by (ltb n near-size) refl
   where
     by : (b : Bool) → ltb n near-size ≡ b → Valids (cond b (i ∷ []) (li-code 5 z ++ (j ∷ [])))
@@ -78,7 +82,7 @@ add-stack-valid n = size-valid n (pos n) (I ADDI 2 2 (pos n)) (R ADD 2 2 5) (λ 
 pub allocate-stack-valid : (n : ℕ) → Valids (allocate-stack-code n)
 unfolding allocate-stack-code
 allocate-stack-valid n =
-    let is : List Instr = cond (ltb n near-size) (I ADDI 2 2 (negℤ (pos n)) ∷ []) (li-code 5 (pos n) ++ (R SUB 2 2 5 ∷ [])) in
+    let is : List Instr = sized n (I ADDI 2 2 (negℤ (pos n))) (pos n) (R SUB 2 2 5) in
     valids-join is (R ADD 21 2 0 ∷ []) (size-valid n (pos n) (I ADDI 2 2 (negℤ (pos n))) (R SUB 2 2 5) (less-valid n) (omega arith)) (omega arith)
 
 -- ---- what they do
@@ -107,7 +111,7 @@ module _ (Q : Floats) (s : State) (n : ℕ) (h : stack-fault n ≡ 0) where
       let l : n ≤ offset-limit = size-fits n h in
       let e : w64 (s .x 2 + twos 64 (negℤ (pos n))) ≡ minus (s .x 2) n = sum-minus (s .x 2) n l in
       let g : n % 2 ^ 64 ≡ n = omega arith in
-      let is : List Instr = cond (ltb n near-size) (I ADDI 2 2 (negℤ (pos n)) ∷ []) (li-code 5 (pos n) ++ (R SUB 2 2 5 ∷ [])) in
+      let is : List Instr = sized n (I ADDI 2 2 (negℤ (pos n))) (pos n) (R SUB 2 2 5) in
       let x : ℕ → ℕ = setx (with-size n (pos n) s) 2 (minus (s .x 2) n) in
       let k : w64 (minus (s .x 2) n + 0) ≡ minus (s .x 2) n = omega arith in
       through Q is (R ADD 21 2 0 ∷ []) s x (s .f) _

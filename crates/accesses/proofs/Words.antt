@@ -14,13 +14,6 @@ words-two (Word x) (Word y) ha hb = refl
 words-two (Refused r p) b ha hb = no ha
 words-two (Word x) (Refused r p) ha hb = no hb
 
-pub words-three : (a b c : Encoded) → is-word a ≡ true → is-word b ≡ true → is-word c ≡ true → record { n = 3; fault = 0; w = word-of a ∷ word-of b ∷ word-of c ∷ 0 ∷ 0 ∷ 0 ∷ 0 ∷ 0 ∷ 0 ∷ 0 ∷ 0 ∷ 0 ∷ [] } ≡ pushes (a ∷ b ∷ c ∷ [])
-unfolding pushed
-words-three (Word x) (Word y) (Word z) ha hb hc = refl
-words-three (Refused r p) b c ha hb hc = no ha
-words-three (Word x) (Refused r p) c ha hb hc = no hb
-words-three (Word x) (Word y) (Refused r p) ha hb hc = no hc
-
 pub words-four : (a b c d : Encoded) → is-word a ≡ true → is-word b ≡ true → is-word c ≡ true → is-word d ≡ true → record { n = 4; fault = 0; w = word-of a ∷ word-of b ∷ word-of c ∷ word-of d ∷ 0 ∷ 0 ∷ 0 ∷ 0 ∷ 0 ∷ 0 ∷ 0 ∷ 0 ∷ [] } ≡ pushes (a ∷ b ∷ c ∷ d ∷ [])
 unfolding pushed
 words-four (Word x) (Word y) (Word z) (Word u) ha hb hc hd = refl

@@ -2,7 +2,7 @@
 // A plan's words are the encoder's answers, collected.
 ghost use mathlib.Core.Path.{_≡_};
 ghost use mathlib.Core.List.{[], _∷_, map};
-ghost use Prim.Native.Nat.{_+_, _≤_, _<_};
+ghost use Prim.Native.Nat.{_+_, _≤_, _<_, min};
 ghost use lib.Dec.{ltb};
 ghost use lib.IntN.{pos, negℤ};
 ghost use Rattle.isa.specs.Immediate.{hi, lo};
@@ -26,6 +26,12 @@ const SP: u32 = 2;
 const T0: u32 = 5;
 
 const STACK: u32 = 21;
+
+// Offsets and stack sizes go to this.
+const LIMIT: u32 = 0x7FFFF7FF;
+
+// The last register that starts a pair.
+const LAST_PAIR: u32 = 30;
 
 // ---- plans of one to five words
 
@@ -67,19 +73,6 @@ pub fn two(a: Encoded, b: Encoded) -> Plan
     assembler::push(one(a), b)
 }
 
-fn three(a: Encoded, b: Encoded, c: Encoded) -> Plan
-    ensures { λ r. ⌜ r ≡ pushes (a ∷ b ∷ c ∷ []) ⌝ }
-{
-    if is_word(a) && is_word(b) && is_word(c) {
-        return Plan {
-            n: 3,
-            fault: 0,
-            w: [word(a), word(b), word(c), 0, 0, 0, 0, 0, 0, 0, 0, 0],
-        };
-    }
-    assembler::push(two(a, b), c)
-}
-
 pub fn four(a: Encoded, b: Encoded, c: Encoded, d: Encoded) -> Plan
     ensures { λ r. ⌜ r ≡ pushes (a ∷ b ∷ c ∷ d ∷ []) ⌝ }
 {
@@ -90,7 +83,8 @@ pub fn four(a: Encoded, b: Encoded, c: Encoded, d: Encoded) -> Plan
             w: [word(a), word(b), word(c), word(d), 0, 0, 0, 0, 0, 0, 0, 0],
         };
     }
-    assembler::push(three(a, b, c), d)
+    let p = assembler::push(two(a, b), c);
+    assembler::push(p, d)
 }
 
 pub fn five(a: Encoded, b: Encoded, c: Encoded, d: Encoded, e: Encoded) -> Plan
@@ -305,6 +299,13 @@ fn settle(
     assembler::place(q, Tail::Nothing, 0, buf, labels, jumps, asm)
 }
 
+// For the plan of an operand above the limit, which is refused and not placed.
+fn at_most(limit: u32, n: u32) -> u32
+    ensures { λ r. ⌜ r ≡ min n limit ⌝ }
+{
+    if n <= limit { n } else { limit }
+}
+
 // document 01's number for `li`, 0 for none.
 fn li_refusal(d: u32, z: i32) -> u8
     ensures { λ r. ⌜ (r ≡ li-fault d z) × (r ≤ 12) ⌝ }
@@ -314,7 +315,7 @@ fn li_refusal(d: u32, z: i32) -> u8
     }
     let s = encoder::split(z);
     match s {
-        Sign::NonNeg(n) => if n <= 0x7FFFF7FF { 0 } else { 2 },
+        Sign::NonNeg(n) => if n <= LIMIT { 0 } else { 2 },
         Sign::Neg(_) => 0,
     }
 }
@@ -333,7 +334,7 @@ fn one_refusal(r: u32, base: u32, n: u32) -> u8
 fn pair_refusal(r: u32, base: u32, n: u32) -> u8
     ensures { λ x. ⌜ (x ≡ pair-fault r base n) × (x ≤ 12) ⌝ }
 {
-    if r > 30 {
+    if r > LAST_PAIR {
         return 1;
     }
     access_refusal(2040, base, n)
@@ -346,7 +347,7 @@ fn access_refusal(near: u32, base: u32, n: u32) -> u8
     if base >= 32 {
         return 1;
     }
-    if n > 0x7FFFF7FF {
+    if n > LIMIT {
         return 2;
     }
     if n < near {
@@ -358,7 +359,7 @@ fn access_refusal(near: u32, base: u32, n: u32) -> u8
 fn stack_refusal(n: u32) -> u8
     ensures { λ x. ⌜ (x ≡ stack-fault n) × (x ≤ 12) ⌝ }
 {
-    if n <= 0x7FFFF7FF { 0 } else { 2 }
+    if n <= LIMIT { 0 } else { 2 }
 }
 
 pub fn li(
@@ -432,10 +433,8 @@ pub fn load_complex(
     ensures { λ x. ⌜ outcome x (now (labels .exit)) (now (jumps .exit)) (now (buf .exit)) ≡ put 0 (pair-fault r base n) (map instr (load-complex-code r base n)) (state asm (now (labels .entry)) (now (jumps .entry)) (now (buf .entry))) ⌝ }
 {
     let f = pair_refusal(r, base, n);
-    if f != 0 {
-        return settle(f, assembler::no_plan(), buf, labels, jumps, asm);
-    }
-    settle(f, load_complex_plan(r, base, n), buf, labels, jumps, asm)
+    let p = load_complex_plan(at_most(LAST_PAIR, r), base, at_most(LIMIT, n));
+    settle(f, p, buf, labels, jumps, asm)
 }
 
 pub fn save_complex(
@@ -450,10 +449,8 @@ pub fn save_complex(
     ensures { λ x. ⌜ outcome x (now (labels .exit)) (now (jumps .exit)) (now (buf .exit)) ≡ put 0 (pair-fault r base n) (map instr (save-complex-code r base n)) (state asm (now (labels .entry)) (now (jumps .entry)) (now (buf .entry))) ⌝ }
 {
     let f = pair_refusal(r, base, n);
-    if f != 0 {
-        return settle(f, assembler::no_plan(), buf, labels, jumps, asm);
-    }
-    settle(f, save_complex_plan(r, base, n), buf, labels, jumps, asm)
+    let p = save_complex_plan(at_most(LAST_PAIR, r), base, at_most(LIMIT, n));
+    settle(f, p, buf, labels, jumps, asm)
 }
 
 pub fn sub_stack(
@@ -466,10 +463,8 @@ pub fn sub_stack(
     ensures { λ x. ⌜ outcome x (now (labels .exit)) (now (jumps .exit)) (now (buf .exit)) ≡ put 0 (stack-fault n) (map instr (sub-stack-code n)) (state asm (now (labels .entry)) (now (jumps .entry)) (now (buf .entry))) ⌝ }
 {
     let f = stack_refusal(n);
-    if f != 0 {
-        return settle(f, assembler::no_plan(), buf, labels, jumps, asm);
-    }
-    settle(f, sub_stack_plan(n), buf, labels, jumps, asm)
+    let p = sub_stack_plan(at_most(LIMIT, n));
+    settle(f, p, buf, labels, jumps, asm)
 }
 
 pub fn add_stack(
@@ -482,10 +477,8 @@ pub fn add_stack(
     ensures { λ x. ⌜ outcome x (now (labels .exit)) (now (jumps .exit)) (now (buf .exit)) ≡ put 0 (stack-fault n) (map instr (add-stack-code n)) (state asm (now (labels .entry)) (now (jumps .entry)) (now (buf .entry))) ⌝ }
 {
     let f = stack_refusal(n);
-    if f != 0 {
-        return settle(f, assembler::no_plan(), buf, labels, jumps, asm);
-    }
-    settle(f, add_stack_plan(n), buf, labels, jumps, asm)
+    let p = add_stack_plan(at_most(LIMIT, n));
+    settle(f, p, buf, labels, jumps, asm)
 }
 
 pub fn allocate_stack(
@@ -498,8 +491,6 @@ pub fn allocate_stack(
     ensures { λ x. ⌜ outcome x (now (labels .exit)) (now (jumps .exit)) (now (buf .exit)) ≡ put 0 (stack-fault n) (map instr (allocate-stack-code n)) (state asm (now (labels .entry)) (now (jumps .entry)) (now (buf .entry))) ⌝ }
 {
     let f = stack_refusal(n);
-    if f != 0 {
-        return settle(f, assembler::no_plan(), buf, labels, jumps, asm);
-    }
-    settle(f, allocate_stack_plan(n), buf, labels, jumps, asm)
+    let p = allocate_stack_plan(at_most(LIMIT, n));
+    settle(f, p, buf, labels, jumps, asm)
 }

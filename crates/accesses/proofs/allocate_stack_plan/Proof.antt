@@ -1,42 +1,29 @@
 use borrow.Author.Needs.{needs}
 use mathlib.Core.Path.{_∙_, ap}
-use lib.IntN.{ℤ, pos}
-use Rattle.accesses.proofs.Collect.{answered, collected}
-use Rattle.accesses.proofs.Numbers.{answered-at}
-use mathlib.Core.List.{[], _∷_, _++_}
-use borrow.Author.Tests.{lt-ltb, le-ltb}
 use native.Mathlib.Omega.{arith}
-use lib.IntN.{negℤ}
+use lib.IntN.{pos, negℤ}
 use Rattle.isa.specs.Instr.{I, ADDI, R, ADD, SUB}
 use Rattle.assembler.specs.Plan.{pushed}
-use Rattle.accesses.proofs.Collect.{pushed-last}
-use Rattle.accesses.proofs.Numbers.{back, mag-neg}
-use Rattle.accesses.specs.Code.{allocate-stack-code, li-code}
+use Rattle.accesses.proofs.Numbers.{answered-at}
+use Rattle.accesses.proofs.Planned.{size-direct, size-through, back-less, then-base}
 use Rattle.accesses.proofs.allocate_stack_plan.Statement.{statement}
 use Rattle.accesses.proofs.allocate_stack_plan.Tie as tie
 
 returns : tie.Need-returns
-unfolding allocate-stack-code
 returns c =
-    let a = c .before .before .before .before .before .args in
-    rw (lt-ltb (a .n) 2048 (c .before .before .before .before .if1 .taken))
-    (c .two .ensures
-    ∙ collected (c .before .before .addi .result ∷ c .before .mv .result ∷ []) (I ADDI 2 2 (negℤ (pos (a .n))) ∷ R ADD 21 2 0 ∷ []) (
-      answered-at _ (λ (z : ℤ). I ADDI 2 2 z) (c .before .before .addi .ensures) (back _ (negℤ (pos (a .n))) (c .before .before .before .minus .ensures) (mag-neg (a .n) (omega arith))),
-      (answered _ _ (c .before .mv .ensures), tt),
-    ))
+    let n = c .before .before .before .before .before .args .n in
+    let h = back-less _ n (c .before .before .before .minus .ensures) (omega arith) in
+    c .two .ensures
+    ∙ then-base n _ (size-direct n _ _ _ _ (c .before .before .before .before .if1 .taken) (answered-at _ (I ADDI 2 2) (c .before .before .addi .ensures) h)) (c .before .mv .ensures)
 
 returns-2 : tie.Need-returns-2
-unfolding allocate-stack-code
 returns-2 c =
-    let a = c .before .before .before .before .before .before .args in
-    rw (le-ltb (a .n) 2048 (c .before .before .before .before .before .if1 .left))
-    (c .push2 .ensures
-    ∙ ap (λ p. pushed p (c .before .mv2 .result))
-    (c .before .before .push .ensures
-    ∙ ap (λ p. pushed p (c .before .before .before .sub .result)) (c .before .before .before .before .li-offset .ensures)
-    ∙ pushed-last (li-code 5 (pos (a .n))) (R SUB 2 2 5) (answered _ _ (c .before .before .before .sub .ensures)))
-    ∙ pushed-last (li-code 5 (pos (a .n)) ++ (R SUB 2 2 5 ∷ [])) (R ADD 21 2 0) (answered _ _ (c .before .mv2 .ensures)))
+    let b = c .before .before .before in
+    let n = b .before .before .before .args .n in
+    c .push2 .ensures
+    ∙ then-base n _ (c .before .before .push .ensures
+    ∙ ap (λ p. pushed p (b .sub .result)) (b .before .li-offset .ensures)
+    ∙ size-through n (I ADDI 2 2 (negℤ (pos n))) (pos n) (R SUB 2 2 5) _ (b .before .before .if1 .left) (b .sub .ensures)) (c .before .mv2 .ensures)
 
 pub allocate-stack-plan-spec : {M : Type 1} → statement M
 allocate-stack-plan-spec =

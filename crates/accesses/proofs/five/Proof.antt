@@ -4,23 +4,9 @@ use borrow.Author.Needs.{needs}
 use Rattle.accesses.proofs.five.Statement.{statement}
 use Rattle.accesses.proofs.five.Tie as tie
 
--- src/lib.rt:100:8
--- src/lib.rt:100:22
--- src/lib.rt:100:36
--- src/lib.rt:100:50
--- src/lib.rt:100:64
--- src/lib.rt:105:17
--- src/lib.rt:106:17
--- src/lib.rt:107:17
--- src/lib.rt:108:17
--- src/lib.rt:109:17
--- src/lib.rt:101:9
 returns : tie.Need-returns
 returns c = rw (c .before .before .before .before .word .ensures, c .before .before .before .word2 .ensures, c .before .before .word3 .ensures, c .before .word4 .ensures, c .word5 .ensures) (words-five _ _ _ _ _ (sym (c .before .before .before .before .before .before .before .before .before .before .before .before .before .before .is-word .ensures) ∙ c .before .before .before .before .before .before .before .before .before .before .before .before .before .if1 .taken) (sym (c .before .before .before .before .before .before .before .before .before .before .before .before .is-word2 .ensures) ∙ c .before .before .before .before .before .before .before .before .before .before .before .if2 .taken) (sym (c .before .before .before .before .before .before .before .before .before .before .is-word3 .ensures) ∙ c .before .before .before .before .before .before .before .before .before .if3 .taken) (sym (c .before .before .before .before .before .before .before .before .is-word4 .ensures) ∙ c .before .before .before .before .before .before .before .if4 .taken) (sym (c .before .before .before .before .before .before .is-word5 .ensures) ∙ c .before .before .before .before .before .if5 .taken))
 
--- src/lib.rt:120:21
--- src/lib.rt:120:5
--- src/lib.rt:97:1
 returns-2 : tie.Need-returns-2
 returns-2 c = cc
 

@@ -4,21 +4,9 @@ use borrow.Author.Needs.{needs}
 use Rattle.accesses.proofs.four.Statement.{statement}
 use Rattle.accesses.proofs.four.Tie as tie
 
--- src/lib.rt:87:8
--- src/lib.rt:87:22
--- src/lib.rt:87:36
--- src/lib.rt:87:50
--- src/lib.rt:91:17
--- src/lib.rt:91:26
--- src/lib.rt:91:35
--- src/lib.rt:91:44
--- src/lib.rt:88:9
 returns : tie.Need-returns
 returns c = rw (c .before .before .before .word .ensures, c .before .before .word2 .ensures, c .before .word3 .ensures, c .word4 .ensures) (words-four _ _ _ _ (sym (c .before .before .before .before .before .before .before .before .before .before .before .is-word .ensures) ∙ c .before .before .before .before .before .before .before .before .before .before .if1 .taken) (sym (c .before .before .before .before .before .before .before .before .before .is-word2 .ensures) ∙ c .before .before .before .before .before .before .before .before .if2 .taken) (sym (c .before .before .before .before .before .before .before .is-word3 .ensures) ∙ c .before .before .before .before .before .before .if3 .taken) (sym (c .before .before .before .before .before .is-word4 .ensures) ∙ c .before .before .before .before .if4 .taken))
 
--- src/lib.rt:94:21
--- src/lib.rt:94:5
--- src/lib.rt:84:1
 returns-2 : tie.Need-returns-2
 returns-2 c = cc
 
@@ -35,6 +23,7 @@ four-spec =
     (λ c κs. search needs)
     (λ c κs. search needs)
     returns
+    (λ c κs. search needs)
     (λ c κs. search needs)
     (λ c κs. search needs)
     returns-2)

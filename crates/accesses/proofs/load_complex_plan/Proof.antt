@@ -1,40 +1,24 @@
 use borrow.Author.Needs.{needs}
-use mathlib.Core.Path.{refl, _∙_, ap}
-use lib.IntN.{ℤ, pos}
-use Rattle.accesses.proofs.Collect.{collected}
-use Rattle.accesses.proofs.Numbers.{answered-at, back-small}
-use mathlib.Core.List.{[], _∷_}
-use borrow.Author.Tests.{lt-ltb, le-ltb}
-use Prim.Native.Nat.{_+_}
-use native.Mathlib.Omega.{arith}
+use mathlib.Core.Path.{_∙_, ap}
 use Rattle.isa.specs.Instr.{I, FLD}
 use Rattle.assembler.specs.Plan.{pushed}
-use Rattle.accesses.proofs.Collect.{pushed-two}
-use Rattle.accesses.specs.Code.{access-code, point-code}
+use Rattle.accesses.proofs.Planned.{pair-direct, pair-through}
 use Rattle.accesses.proofs.load_complex_plan.Statement.{statement}
 use Rattle.accesses.proofs.load_complex_plan.Tie as tie
 
 returns : tie.Need-returns
-unfolding access-code
 returns c =
     let a = c .before .before .before .before .args in
-    rw (lt-ltb (a .n) 2040 (c .before .before .before .if1 .taken))
-    (c .two .ensures
-    ∙ collected (c .before .before .fld .result ∷ c .before .fld2 .result ∷ []) (I FLD (a .r) (a .base) (pos (a .n)) ∷ I FLD (a .r + 1) (a .base) (pos (a .n + 8)) ∷ []) (
-      answered-at _ (λ (z : ℤ). I FLD (a .r) (a .base) z) (c .before .before .fld .ensures) (back-small (a .n) (omega arith)),
-      (answered-at _ (λ (z : ℤ). I FLD (a .r + 1) (a .base) z) (c .before .fld2 .ensures) (back-small (a .n + 8) (omega arith)), tt),
-    ))
+    c .two .ensures
+    ∙ pair-direct (λ r b z. I FLD r b z) (a .r) (a .base) (a .n) _ _ (c .before .before .before .if1 .taken) (c .before .before .fld .ensures) (c .before .fld2 .ensures)
 
 returns-2 : tie.Need-returns-2
-unfolding access-code
 returns-2 c =
-    let a = c .before .before .before .before .before .before .args in
-    rw (le-ltb (a .n) 2040 (c .before .before .before .before .before .if1 .left))
-    (c .push2 .ensures
-    ∙ ap (λ p. pushed p (c .before .fld4 .result)) (c .before .before .push .ensures ∙ ap (λ p. pushed p (c .before .before .before .fld3 .result)) (c .before .before .before .before .point .ensures))
-    ∙ pushed-two (point-code (a .base) (a .n)) (I FLD (a .r) 5 (pos 0)) (I FLD (a .r + 1) 5 (pos 8))
-    (answered-at _ (λ (z : ℤ). I FLD (a .r) 5 z) (c .before .before .before .fld3 .ensures) refl)
-    (answered-at _ (λ (z : ℤ). I FLD (a .r + 1) 5 z) (c .before .fld4 .ensures) refl))
+    let p = c .before .before .before .before in
+    let a = p .before .before .args in
+    c .push2 .ensures
+    ∙ ap (λ q. pushed q (c .before .fld4 .result)) (c .before .before .push .ensures ∙ ap (λ q. pushed q (c .before .before .before .fld3 .result)) (p .point .ensures))
+    ∙ pair-through (λ r b z. I FLD r b z) (a .r) (a .base) (a .n) _ _ (p .before .if1 .left) (c .before .before .before .fld3 .ensures) (c .before .fld4 .ensures)
 
 pub load-complex-plan-spec : {M : Type 1} → statement M
 load-complex-plan-spec =

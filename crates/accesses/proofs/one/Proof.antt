@@ -2,15 +2,12 @@ use borrow.Author.Needs.{needs}
 use Rattle.accesses.proofs.one.Statement.{statement}
 use Rattle.accesses.proofs.one.Tie as tie
 
--- src/lib.rt:33:21
 no-plan-requires : tie.Need-no-plan-requires
 no-plan-requires c κs = search needs
 
--- src/lib.rt:33:5
 push-requires : tie.Need-push-requires
 push-requires c κs = search needs
 
--- src/lib.rt:30:1
 returns : tie.Need-returns
 returns c = cc
 

@@ -4,17 +4,9 @@ use borrow.Author.Needs.{needs}
 use Rattle.accesses.proofs.two.Statement.{statement}
 use Rattle.accesses.proofs.two.Tie as tie
 
--- src/lib.rt:61:8
--- src/lib.rt:61:22
--- src/lib.rt:65:17
--- src/lib.rt:65:26
--- src/lib.rt:62:9
 returns : tie.Need-returns
 returns c = rw (c .before .word .ensures, c .word2 .ensures) (words-two _ _ (sym (c .before .before .before .before .before .is-word .ensures) ∙ c .before .before .before .before .if1 .taken) (sym (c .before .before .before .is-word2 .ensures) ∙ c .before .before .if2 .taken))
 
--- src/lib.rt:68:21
--- src/lib.rt:68:5
--- src/lib.rt:58:1
 returns-2 : tie.Need-returns-2
 returns-2 c = cc
 
