@@ -5,7 +5,7 @@ use native.Mathlib.Omega.{arith}
 use lib.IntN.{ℤ, pos, negℤ, _-ℤ_, +ℤ-idl}
 use lib.Signed.{mag}
 use mir.Syntax.{w32}
-use mir.Val.{SFits, toZ}
+use mir.Val.{SFits, toZ, ofZ}
 use Rattle.isa.specs.Instr.{Instr}
 use Rattle.encoder.specs.Answer.{told, encoded}
 use Rattle.encoder.specs.declared.Encoded.{Encoded}
@@ -26,9 +26,12 @@ neg-pos n = +ℤ-idl (negℤ (pos n))
 pub negated : (n : ℕ) → n < 2 ^ 31 → pos 0 -ℤ toZ w32 n ≡ negℤ (pos n)
 negated n h = ap (λ (z : ℤ). pos 0 -ℤ z) (back-small n h) ∙ neg-pos n
 
-pub mag-neg : (n : ℕ) → n < 2 ^ 31 → mag (negℤ (pos n)) < 2 ^ 31
-mag-neg zero h = h
-mag-neg (suc n) h = omega arith
+pub mag-neg : (n k : ℕ) → n < k → mag (negℤ (pos n)) < k
+mag-neg zero k h = h
+mag-neg (suc n) k h = omega arith
 
 pub sfits-neg : (n : ℕ) → n < 2 ^ 31 → SFits w32 (negℤ (pos n))
-sfits-neg n h = sfits (negℤ (pos n)) (mag-neg n h)
+sfits-neg n h = sfits (negℤ (pos n)) (mag-neg n (2 ^ 31) h)
+
+pub back-neg : (z : ℤ) (n : ℕ) → z ≡ negℤ (pos n) → n < 2 ^ 31 → toZ w32 (ofZ w32 z) ≡ negℤ (pos n)
+back-neg z n e h = back z (negℤ (pos n)) e (mag-neg n (2 ^ 31) h)

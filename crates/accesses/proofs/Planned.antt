@@ -1,12 +1,12 @@
 -- An access's and a size's plan, by the test that chose it. Assumes nothing.
 use mathlib.Core.Path.{_≡_, ap, _∙_}
 use mathlib.Core.List.{List, [], _∷_, _++_}
-use Prim.Native.Nat.{ℕ, _+_, _^_, _≤_, _<_}
+use Prim.Native.Nat.{ℕ, _+_, _≤_, _<_}
 use native.Mathlib.Omega.{arith}
 use borrow.Author.Tests.{lt-ltb, le-ltb}
 use lib.IntN.{ℤ, pos, negℤ}
 use mir.Syntax.{w32}
-use mir.Val.{toZ, ofZ}
+use mir.Val.{toZ}
 use Rattle.isa.specs.Instr.{Instr, R, I, ADD, SUB, ADDI}
 use Rattle.encoder.specs.Answer.{told, encoded}
 use Rattle.encoder.specs.declared.Encoded.{Encoded}
@@ -16,8 +16,9 @@ use Rattle.accesses.specs.Code.{near-one, near-pair, near-size, li-code,
 use Rattle.accesses.specs.Plans.{answer-of, pushes-from, pushes, plan-of}
 use Rattle.accesses.proofs.Collect.{Answers, answered, collected, pushed-behind, pushed-last}
 use Rattle.accesses.proofs.Stack.{sized}
-use Rattle.accesses.proofs.Numbers.{answered-at, back, back-small, mag-neg}
+use Rattle.accesses.proofs.Numbers.{answered-at, back-small}
 
+-- an access by the instructions `is`, from a base and an offset
 module _ (near : ℕ) (is : ℕ → ℕ → List Instr) (b n : ℕ) (es : List Encoded) where
   direct : n < near → Answers es (is b n) → pushes es ≡ plan-of (access-code near is b n)
   unfolding access-code
@@ -27,7 +28,7 @@ module _ (near : ℕ) (is : ℕ → ℕ → List Instr) (b n : ℕ) (es : List E
   unfolding access-code
   through h a = rw (le-ltb n near h) (pushed-behind (point-code b n) (is 5 0) es a)
 
--- one cell, that i reaches from a base and an offset
+-- of one cell
 module _ (i : ℕ → ℤ → Instr) (b n : ℕ) (e : Encoded) where
   pub one-direct : n < near-one → told e ≡ encoded (i b (toZ w32 n)) → pushes (e ∷ []) ≡ plan-of (access-code near-one (λ b n. i b (pos n) ∷ []) b n)
   one-direct h p = direct near-one _ b n (e ∷ []) h (answered-at e (i b) p (back-small n (omega arith)), tt)
@@ -35,7 +36,7 @@ module _ (i : ℕ → ℤ → Instr) (b n : ℕ) (e : Encoded) where
   pub one-through : near-one ≤ n → told e ≡ encoded (i 5 (pos 0)) → pushed (plan-of (point-code b n)) e ≡ plan-of (access-code near-one (λ b n. i b (pos n) ∷ []) b n)
   one-through h p = through near-one _ b n (e ∷ []) h (answered e (i 5 (pos 0)) p, tt)
 
--- two cells, with the registers r and r + 1
+-- of two cells, with the registers r and r + 1
 module _ (i : ℕ → ℕ → ℤ → Instr) (r b n : ℕ) (d e : Encoded) where
   pub pair-direct : n < near-pair → told d ≡ encoded (i r b (toZ w32 n)) → told e ≡ encoded (i (r + 1) b (toZ w32 (n + 8))) → pushes (d ∷ e ∷ []) ≡ plan-of (access-code near-pair (λ b n. i r b (pos n) ∷ i (r + 1) b (pos (n + 8)) ∷ []) b n)
   pair-direct h p q =
@@ -58,7 +59,3 @@ module _ (n : ℕ) (i : Instr) (z : ℤ) (j : Instr) (e : Encoded) where
 pub then-base : (n : ℕ) {p : Plan} (e : Encoded) → p ≡ plan-of (sized n (I ADDI 2 2 (negℤ (pos n))) (pos n) (R SUB 2 2 5)) → told e ≡ encoded (R ADD 21 2 0) → pushed p e ≡ plan-of (allocate-stack-code n)
 unfolding allocate-stack-code
 then-base n e q t = ap (λ (p : Plan). pushed p e) q ∙ pushed-last (sized n (I ADDI 2 2 (negℤ (pos n))) (pos n) (R SUB 2 2 5)) (R ADD 21 2 0) (answered e (R ADD 21 2 0) t)
-
--- -n, read back
-pub back-less : (z : ℤ) (n : ℕ) → z ≡ negℤ (pos n) → n < 2 ^ 31 → toZ w32 (ofZ w32 z) ≡ negℤ (pos n)
-back-less z n e h = back z (negℤ (pos n)) e (mag-neg n h)

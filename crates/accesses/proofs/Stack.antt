@@ -8,7 +8,6 @@ use borrow.Author.Tests.{ltb-true}
 use lib.Dec.{T, ltb, leb, leb→le, le→leb, lt→ltb}
 use lib.IntN.{ℤ, pos, negℤ}
 use lib.ListN.{length}
-use lib.Signed.{mag}
 use Rattle.isa.specs.Immediate.{twos}
 use Rattle.isa.specs.Instr.{Instr, Valid, R, I, ADD, SUB, ADDI}
 use Rattle.machine.specs.Word.{w64, upd}
@@ -21,6 +20,7 @@ use Rattle.accesses.specs.Code.{near-size, li-code, sub-stack-code, add-
 use Rattle.accesses.specs.Fault.{offset-limit, li-takes, stack-fault}
 use Rattle.accesses.specs.Stands.{Stands, behind, with-size}
 use Rattle.accesses.proofs.Then.{passed, leads, valids-join, through, behind-both}
+use Rattle.accesses.proofs.Numbers.{mag-neg}
 use Rattle.accesses.proofs.LoadImmediate.{li-valid, li-runs}
 
 pub size-fits : (n : ℕ) → stack-fault n ≡ 0 → n ≤ offset-limit
@@ -30,10 +30,6 @@ size-fits n e = leb→le n offset-limit ((passed (leb n offset-limit) 0 1 e) .0)
 takes-minus : (n : ℕ) → n ≤ offset-limit → T (li-takes (negℤ (pos n)))
 takes-minus zero h = tt
 takes-minus (suc n) h = lt→ltb n (2 ^ 31) (omega arith)
-
-mag-minus : (n : ℕ) → n < near-size → mag (negℤ (pos n)) < 2048
-mag-minus zero h = h
-mag-minus (suc n) h = omega arith
 
 sum-minus : (u n : ℕ) → n ≤ offset-limit → w64 (u + twos 64 (negℤ (pos n))) ≡ minus u n
 sum-minus u zero h = omega arith
@@ -68,7 +64,7 @@ size-valid n z i j v w = by (ltb n near-size) refl
     by false e = valids-join (li-code 5 z) (j ∷ []) (li-valid 5 z (omega arith)) (w, tt)
 
 less-valid : (n : ℕ) → n < near-size → Valid (I ADDI 2 2 (negℤ (pos n)))
-less-valid n h = omega (arith, mag-minus n h)
+less-valid n h = omega (arith, mag-neg n near-size h)
 
 -- whatever the size
 pub sub-stack-valid : (n : ℕ) → Valids (sub-stack-code n)

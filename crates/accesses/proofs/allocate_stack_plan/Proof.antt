@@ -4,15 +4,15 @@ use native.Mathlib.Omega.{arith}
 use lib.IntN.{pos, negℤ}
 use Rattle.isa.specs.Instr.{I, ADDI, R, ADD, SUB}
 use Rattle.assembler.specs.Plan.{pushed}
-use Rattle.accesses.proofs.Numbers.{answered-at}
-use Rattle.accesses.proofs.Planned.{size-direct, size-through, back-less, then-base}
+use Rattle.accesses.proofs.Numbers.{answered-at, back-neg}
+use Rattle.accesses.proofs.Planned.{size-direct, size-through, then-base}
 use Rattle.accesses.proofs.allocate_stack_plan.Statement.{statement}
 use Rattle.accesses.proofs.allocate_stack_plan.Tie as tie
 
 returns : tie.Need-returns
 returns c =
     let n = c .before .before .before .before .before .args .n in
-    let h = back-less _ n (c .before .before .before .minus .ensures) (omega arith) in
+    let h = back-neg _ n (c .before .before .before .minus .ensures) (omega arith) in
     c .two .ensures
     ∙ then-base n _ (size-direct n _ _ _ _ (c .before .before .before .before .if1 .taken) (answered-at _ (I ADDI 2 2) (c .before .before .addi .ensures) h)) (c .before .mv .ensures)
 
