@@ -20,6 +20,9 @@ use Rattle.refusal.specs.Answer.{accepted, refused}
 use Rattle.encoder.specs.Answer.{encoded}
 use Rattle.encoder.specs.Field.{packed}
 use Rattle.encoder.specs.Table.{rows, row-of}
+use Rattle.encoder.specs.declared.Field.{Field}
+use Rattle.encoder.specs.declared.Field.the-variants.{Bits, Outside}
+use Rattle.encoder.proofs.Fields.{Means}
 
 -- ---- answers
 
@@ -49,6 +52,27 @@ module _ (o : Operand) where
   pub outside : (rs : List ℕ) → holds o ≡ false → all-hold (map register rs ++ (o ∷ [])) ≡ false
   outside [] e = rw e
   outside (r ∷ rs) e = rw (outside rs e) (and-false (ltb r 32))
+
+  pub decides : (rs : List ℕ) (f : Field) (n : ℕ) → registers-hold (map register rs) ≡ true → Means f (holds o) n → Means f (all-hold (map register rs ++ (o ∷ []))) n
+  decides rs (Bits m) n p h = (inside rs p (h .0), h .1)
+  decides rs Outside n p h = outside rs h
+
+-- an instruction whose registers passed, and what its field's answer f says
+pub record Judged (i : Instr) (f : Field) (n : ℕ) : Type 0 where
+  pub passed : registers-hold (operands i) ≡ true
+  pub means : Means f (valid i) n
+
+module _ {i : Instr} {f : Field} {n : ℕ} (j : Judged i f n) where
+  pub bad-field : f ≡ Outside → refused 2 0 ≡ encoded i
+  bad-field e = bad-value i (j .passed) (rw e at (j .means))
+
+  -- w is its word where the field has its bits
+  module _ (m : ℕ) (e : f ≡ Bits m) (w : ℕ) (h : m ≡ n → w ≡ encode i) where
+    pub small-field : w < 4294967296
+    small-field = let k = rw e at (j .means) in small i (k .0) w (h (k .1))
+
+    pub good-field : accepted w ≡ encoded i
+    good-field = let k = rw e at (j .means) in good i (k .0) w (h (k .1)) (j .passed)
 
 pub fourth : (a b c d : ℕ) → (ltb a 32 && (ltb b 32 && (ltb c 32 && (ltb d 32 && true)))) ≡ true → d < 32
 fourth a b c d e =

@@ -3,9 +3,6 @@ use borrow.Author.Needs.{needs}
 use Rattle.encoder.proofs.base.Statement.{statement}
 use Rattle.encoder.proofs.base.Tie as tie
 
--- src/lib.rt:213:5
--- src/lib.rt:213:5
--- src/lib.rt:209:1
 returns : tie.Need-returns
 returns c = base-word (c .args .row) (search needs)
 

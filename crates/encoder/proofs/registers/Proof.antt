@@ -4,19 +4,15 @@ use borrow.Author.Tests.{lt-ltb, le-ltb}
 use Rattle.encoder.proofs.registers.Statement.{statement}
 use Rattle.encoder.proofs.registers.Tie as tie
 
--- src/lib.rt:229:9
 returns : tie.Need-returns
 returns c = simp (le-ltb _ _ (c .if1 .taken))
 
--- src/lib.rt:232:9
 returns-2 : tie.Need-returns-2
 returns-2 c = simp (lt-ltb _ _ (c .before .if1 .left), le-ltb _ _ (c .if2 .taken))
 
--- src/lib.rt:235:9
 returns-3 : tie.Need-returns-3
 returns-3 c = simp (lt-ltb _ _ (c .before .before .if1 .left), lt-ltb _ _ (c .before .if2 .left), le-ltb _ _ (c .if3 .taken))
 
--- src/lib.rt:225:1
 returns-4 : tie.Need-returns-4
 returns-4 c = simp (lt-ltb _ _ (c .before .before .if1 .left), lt-ltb _ _ (c .before .if2 .left), lt-ltb _ _ (c .if3 .left)) (sym (and-true _))
 

@@ -3,23 +3,18 @@ use Rattle.encoder.proofs.Signs.{cast-pos-of, minus-fits-of, cast-neg-o
 use Rattle.encoder.proofs.split.Statement.{statement}
 use Rattle.encoder.proofs.split.Tie as tie
 
--- src/lib.rt:260:22
 cast-t4 : tie.Need-cast-t4
 cast-t4 c = cast-pos-of w32 (c .before .args .z) (c .before .fits .z) (c .if1 .taken)
 
--- src/lib.rt:262:20
 sub-t5 : tie.Need-sub-t5
 sub-t5 c = minus-fits-of w32 (c .before .args .z) (c .before .fits .z) (c .if1 .left)
 
--- src/lib.rt:262:19
 cast-t6 : tie.Need-cast-t6
 cast-t6 c = cast-neg-of w32 (c .before .args .z) (c .before .fits .z) (c .if1 .left)
 
--- src/lib.rt:256:1
 returns : tie.Need-returns
 returns c = is-pos-of w32 (c .before .args .z) (c .before .fits .z) (c .if1 .taken)
 
--- src/lib.rt:256:1
 returns-2 : tie.Need-returns-2
 returns-2 c = is-neg-of w32 (c .before .args .z) (c .before .fits .z) (c .if1 .left)
 

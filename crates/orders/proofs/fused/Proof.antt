@@ -3,27 +3,15 @@ use borrow.Author.Needs.{needs}
 use Rattle.orders.proofs.fused.Statement.{statement}
 use Rattle.orders.proofs.fused.Tie as tie
 
--- src/lib.rt:157:26
--- src/lib.rt:157:26
--- src/lib.rt:158:26
--- src/lib.rt:158:26
--- src/lib.rt:159:29
--- src/lib.rt:159:29
--- src/lib.rt:160:29
--- src/lib.rt:160:29
--- src/lib.rt:153:1
 returns : tie.Need-returns
 returns c = rw (c .before .enum-told .given .1) (answered _ _ (c .fmadd-d .ensures))
 
--- src/lib.rt:153:1
 returns-2 : tie.Need-returns-2
 returns-2 c = rw (c .before .enum-told2 .given .1) (answered _ _ (c .fmsub-d .ensures))
 
--- src/lib.rt:153:1
 returns-3 : tie.Need-returns-3
 returns-3 c = rw (c .before .enum-told3 .given .1) (answered _ _ (c .fnmsub-d .ensures))
 
--- src/lib.rt:153:1
 returns-4 : tie.Need-returns-4
 returns-4 c = rw (c .before .enum-told4 .given .1) (answered _ _ (c .fnmadd-d .ensures))
 
