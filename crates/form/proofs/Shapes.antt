@@ -1,6 +1,6 @@
 -- Forms, field by field. Assumes nothing.
 use mathlib.Core.Path.{_≡_, refl, sym, ap, _∙_}
-use mathlib.Core.Bool.{Bool, true, false}
+use mathlib.Core.Bool.{Bool, true, false, cond}
 use mathlib.Core.Option.{Option, some, none, Option·map}
 use mathlib.Core.List.{List, [], _∷_, _++_}
 use Prim.Native.Nat.{ℕ, zero, suc, _+_, _-_, _<_, _≤_}
@@ -27,7 +27,7 @@ use Rattle.order.specs.declared.Binary.{Binary}
 use Rattle.order.specs.declared.Fused.{Fused}
 use Rattle.form.specs.Line.{Sort, number, integer as integer-sort, word as word-sort, place, flag, Value, Values, place-name, flag-name, sorts}
 use Rattle.form.specs.Read.{first, all-places, all-flags, kind-of, both, read-field, read-values, with-values, read-kind, read-fields, read}
-use Rattle.form.specs.Form.{formed, form-of, named, shaped, shaped′, behind, numbers, read-numbers, zeros, of-numbers, first-of, only, placed, cell, flagged}
+use Rattle.form.specs.Form.{formed, form-of, named, shaped, shaped′, behind, numbers, read-numbers, zeros, of-numbers, first-of, only, placed, flagged}
 use Rattle.form.specs.declared.Kind.{Kind}
 use Rattle.form.specs.declared.Kind.the-variants as Kind
 use Rattle.form.specs.declared.Form.{Form}
@@ -37,8 +37,6 @@ use Rattle.form.specs.declared.Numbers.the-variants as Numbers
 use Rattle.form.specs.declared.Named.the-variants as Named
 use Rattle.form.specs.declared.Where.{Where}
 use Rattle.form.specs.declared.Where.the-variants as Where
-use Rattle.form.specs.declared.Cell.{Cell}
-use Rattle.form.specs.declared.Cell.the-variants as Cell
 use Rattle.form.specs.declared.Flag.{Flag}
 use Rattle.form.specs.declared.Flag.the-variants as Flag
 use Rattle.form.proofs.Inverse.{field-read, field-free}
@@ -264,83 +262,65 @@ module _ (s : List ℕ) (a : ℕ) where
 
 -- ---- a cell
 
-abbrev cell-of : (o : Option ℕ) (p : Option Place) (q : Option (Values (number ∷ []))) → Cell
-cell-of o p q = cell (both o (both p q))
+abbrev celled : (save : Bool) → Option (Values (number ∷ place ∷ number ∷ [])) → Form
+celled save none = Form.Malformed
+celled save (some vs) =
+    cond save (Form.Save (sized (vs .0)) (vs .1 .0) (sized (vs .1 .1 .0))) (Form.Load (sized (vs .0)) (vs .1 .0) (sized (vs .1 .1 .0)))
 
-cell-x : (o : Option ℕ) (p : Option Place) (q : Option (Values (number ∷ []))) → numeral o ≡ Numeral.Malformed → Cell.Malformed ≡ cell-of o p q
-cell-x none p q e = refl
-cell-x (some n) p q e = absurd (let z : _≡_ {A = ℕ} 0 1 = cc in omega arith)
+as-cell : (save : Bool) (fs : List (List ℕ)) → shaped (cond save Kind.Save Kind.Load) fs ≡ celled save (read-values (number ∷ place ∷ number ∷ []) fs)
+unfolding shaped
+as-cell true fs = agree (shaped′ Kind.Save) (celled true) refl (λ vs. refl) (read-values (number ∷ place ∷ number ∷ []) fs)
+as-cell false fs = agree (shaped′ Kind.Load) (celled false) refl (λ vs. refl) (read-values (number ∷ place ∷ number ∷ []) fs)
 
-cell-w : (o : Option ℕ) (p : Option Place) (q : Option (Values (number ∷ []))) → placed p ≡ Where.Malformed → Cell.Malformed ≡ cell-of o p q
-cell-w none p q e = refl
-cell-w (some n) none q e = refl
-cell-w (some n) (some p) q e = absurd (let z : _≡_ {A = ℕ} 0 1 = cc in omega arith)
+module _ (save : Bool) where
+  abbrev cell-of : (o : Option ℕ) (p : Option Place) (q : Option (Values (number ∷ []))) → Form
+  cell-of o p q = celled save (both o (both p q))
 
-cell-r : (o : Option ℕ) (p : Option Place) (q : Option (Values (number ∷ []))) → numbers 1 zeros q ≡ Numbers.Malformed → Cell.Malformed ≡ cell-of o p q
-cell-r none p q e = refl
-cell-r (some n) none q e = refl
-cell-r (some n) (some p) none e = refl
-cell-r (some n) (some p) (some vs) e = absurd (let z : _≡_ {A = ℕ} 0 1 = cc in omega arith)
+  cell-x : (o : Option ℕ) (p : Option Place) (q : Option (Values (number ∷ []))) → numeral o ≡ Numeral.Malformed → Form.Malformed ≡ cell-of o p q
+  cell-x none p q e = refl
+  cell-x (some n) p q e = absurd (let z : _≡_ {A = ℕ} 0 1 = cc in omega arith)
 
-cell-all : (o : Option ℕ) (p : Option Place) (q : Option (Values (number ∷ []))) (m : Number) (w : Place) (b c d e f : Number) → numeral o ≡ Numeral.Is m → placed p ≡ Where.Is w → numbers 1 zeros q ≡ Numbers.Are b c d e f → Cell.Is m w f ≡ cell-of o p q
-cell-all none p q m w b c d e f g h i = absurd (let z : _≡_ {A = ℕ} 0 1 = cc in omega arith)
-cell-all (some n) none q m w b c d e f g h i = absurd (let z : _≡_ {A = ℕ} 0 1 = cc in omega arith)
-cell-all (some n) (some p) none m w b c d e f g h i = absurd (let z : _≡_ {A = ℕ} 0 1 = cc in omega arith)
-cell-all (some n) (some p) (some vs) m w b c d e f g h i = cc
+  cell-w : (o : Option ℕ) (p : Option Place) (q : Option (Values (number ∷ []))) → placed p ≡ Where.Malformed → Form.Malformed ≡ cell-of o p q
+  cell-w none p q e = refl
+  cell-w (some n) none q e = refl
+  cell-w (some n) (some p) q e = absurd (let z : _≡_ {A = ℕ} 0 1 = cc in omega arith)
 
-module _ (s : List ℕ) (a : ℕ) (x : Numeral) (j : ℕ) (y : Where) (k : ℕ) (r : Numbers) (ex : x ≡ numeral (first-decimal (fields-from s a))) (ej : j ≡ next-from s a) (ey : y ≡ placed (first-of place (fields-from s j))) (ek : k ≡ next-from s j) (er : r ≡ read-numbers 1 zeros (fields-from s k)) where
-  abbrev o : Option ℕ
-  o = first-decimal (fields-from s a)
+  cell-r : (o : Option ℕ) (p : Option Place) (q : Option (Values (number ∷ []))) → numbers 1 zeros q ≡ Numbers.Malformed → Form.Malformed ≡ cell-of o p q
+  cell-r none p q e = refl
+  cell-r (some n) none q e = refl
+  cell-r (some n) (some p) none e = refl
+  cell-r (some n) (some p) (some vs) e = absurd (let z : _≡_ {A = ℕ} 0 1 = cc in omega arith)
 
-  abbrev p : Option Place
-  p = first-of place (fields-from s j)
+  cell-all : (o : Option ℕ) (p : Option Place) (q : Option (Values (number ∷ []))) (m : Number) (w : Place) (b c d e f : Number) → numeral o ≡ Numeral.Is m → placed p ≡ Where.Is w → numbers 1 zeros q ≡ Numbers.Are b c d e f → cond save (Form.Save m w f) (Form.Load m w f) ≡ cell-of o p q
+  cell-all none p q m w b c d e f g h i = absurd (let z : _≡_ {A = ℕ} 0 1 = cc in omega arith)
+  cell-all (some n) none q m w b c d e f g h i = absurd (let z : _≡_ {A = ℕ} 0 1 = cc in omega arith)
+  cell-all (some n) (some p) none m w b c d e f g h i = absurd (let z : _≡_ {A = ℕ} 0 1 = cc in omega arith)
+  cell-all (some n) (some p) (some vs) m w b c d e f g h i = cc
 
-  abbrev q : Option (Values (number ∷ []))
-  q = read-values (number ∷ []) (fields-from s k)
+  module _ (s : List ℕ) (a : ℕ) (x : Numeral) (j : ℕ) (y : Where) (k : ℕ) (r : Numbers) (ex : x ≡ numeral (first-decimal (fields-from s a))) (ej : j ≡ next-from s a) (ey : y ≡ placed (first-of place (fields-from s j))) (ek : k ≡ next-from s j) (er : r ≡ read-numbers 1 zeros (fields-from s k)) where
+    abbrev o : Option ℕ
+    o = first-decimal (fields-from s a)
 
-  in-steps : cell (read-values (number ∷ place ∷ number ∷ []) (fields-from s a)) ≡ cell-of o p q
-  in-steps = rw (step s a number (place ∷ number ∷ []), first-is s a, ← ej, step s j place (number ∷ []), ← ek)
+    abbrev p : Option Place
+    p = first-of place (fields-from s j)
 
-  pub cell-no-number : x ≡ Numeral.Malformed → Cell.Malformed ≡ cell (read-values (number ∷ place ∷ number ∷ []) (fields-from s a))
-  cell-no-number e = cell-x o p q (sym ex ∙ e) ∙ sym in-steps
+    abbrev q : Option (Values (number ∷ []))
+    q = read-values (number ∷ []) (fields-from s k)
 
-  pub cell-no-place : y ≡ Where.Malformed → Cell.Malformed ≡ cell (read-values (number ∷ place ∷ number ∷ []) (fields-from s a))
-  cell-no-place e = cell-w o p q (sym ey ∙ e) ∙ sym in-steps
+    in-steps : shaped (cond save Kind.Save Kind.Load) (fields-from s a) ≡ cell-of o p q
+    in-steps = as-cell save (fields-from s a) ∙ rw (step s a number (place ∷ number ∷ []), first-is s a, ← ej, step s j place (number ∷ []), ← ek)
 
-  pub cell-no-index : r ≡ Numbers.Malformed → Cell.Malformed ≡ cell (read-values (number ∷ place ∷ number ∷ []) (fields-from s a))
-  cell-no-index e = cell-r o p q (sym er ∙ e) ∙ sym in-steps
+    pub cell-no-number : x ≡ Numeral.Malformed → Form.Malformed ≡ shaped (cond save Kind.Save Kind.Load) (fields-from s a)
+    cell-no-number e = cell-x o p q (sym ex ∙ e) ∙ sym in-steps
 
-  pub cell-is : (m : Number) (w : Place) (b c d e f : Number) → x ≡ Numeral.Is m → y ≡ Where.Is w → r ≡ Numbers.Are b c d e f → Cell.Is m w f ≡ cell (read-values (number ∷ place ∷ number ∷ []) (fields-from s a))
-  cell-is m w b c d e f g h i = cell-all o p q m w b c d e f (sym ex ∙ g) (sym ey ∙ h) (sym er ∙ i) ∙ sym in-steps
+    pub cell-no-place : y ≡ Where.Malformed → Form.Malformed ≡ shaped (cond save Kind.Save Kind.Load) (fields-from s a)
+    cell-no-place e = cell-w o p q (sym ey ∙ e) ∙ sym in-steps
 
-module _ (fs : List (List ℕ)) where
-  pub load-is : (d : Number) (p : Place) (i : Number) → cell (read-values (number ∷ place ∷ number ∷ []) fs) ≡ Cell.Is d p i → Form.Load d p i ≡ shaped Kind.Load fs
-  unfolding shaped
-  load-is d p i e = go (read-values (number ∷ place ∷ number ∷ []) fs) e
-    where
-      go : (o : Option (Values (number ∷ place ∷ number ∷ []))) → cell o ≡ Cell.Is d p i → Form.Load d p i ≡ shaped′ Kind.Load o
-      go none e = absurd (let z : _≡_ {A = ℕ} 0 1 = cc in omega arith)
-      go (some vs) e = cc
+    pub cell-no-index : r ≡ Numbers.Malformed → Form.Malformed ≡ shaped (cond save Kind.Save Kind.Load) (fields-from s a)
+    cell-no-index e = cell-r o p q (sym er ∙ e) ∙ sym in-steps
 
-  pub save-is : (d : Number) (p : Place) (i : Number) → cell (read-values (number ∷ place ∷ number ∷ []) fs) ≡ Cell.Is d p i → Form.Save d p i ≡ shaped Kind.Save fs
-  unfolding shaped
-  save-is d p i e = go (read-values (number ∷ place ∷ number ∷ []) fs) e
-    where
-      go : (o : Option (Values (number ∷ place ∷ number ∷ []))) → cell o ≡ Cell.Is d p i → Form.Save d p i ≡ shaped′ Kind.Save o
-      go none e = absurd (let z : _≡_ {A = ℕ} 0 1 = cc in omega arith)
-      go (some vs) e = cc
-
-  no-cell : (o : Option (Values (number ∷ place ∷ number ∷ []))) → cell o ≡ Cell.Malformed → o ≡ none
-  no-cell none e = refl
-  no-cell (some vs) e = absurd (let z : _≡_ {A = ℕ} 0 1 = cc in omega arith)
-
-  pub load-bad : cell (read-values (number ∷ place ∷ number ∷ []) fs) ≡ Cell.Malformed → Form.Malformed ≡ shaped Kind.Load fs
-  unfolding shaped
-  load-bad e = rw (no-cell (read-values (number ∷ place ∷ number ∷ []) fs) e)
-
-  pub save-bad : cell (read-values (number ∷ place ∷ number ∷ []) fs) ≡ Cell.Malformed → Form.Malformed ≡ shaped Kind.Save fs
-  unfolding shaped
-  save-bad e = rw (no-cell (read-values (number ∷ place ∷ number ∷ []) fs) e)
+    pub cell-is : (m : Number) (w : Place) (b c d e f : Number) → x ≡ Numeral.Is m → y ≡ Where.Is w → r ≡ Numbers.Are b c d e f → cond save (Form.Save m w f) (Form.Load m w f) ≡ shaped (cond save Kind.Save Kind.Load) (fields-from s a)
+    cell-is m w b c d e f g h i = cell-all o p q m w b c d e f (sym ex ∙ g) (sym ey ∙ h) (sym er ∙ i) ∙ sym in-steps
 
 -- ---- a branch
 

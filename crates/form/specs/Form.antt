@@ -21,8 +21,6 @@ use Rattle.form.specs.declared.Numbers.{Numbers}
 use Rattle.form.specs.declared.Numbers.the-variants as Numbers
 use Rattle.form.specs.declared.Where.{Where}
 use Rattle.form.specs.declared.Where.the-variants as Where
-use Rattle.form.specs.declared.Cell.{Cell}
-use Rattle.form.specs.declared.Cell.the-variants as Cell
 use Rattle.form.specs.declared.Flag.{Flag}
 use Rattle.form.specs.declared.Flag.the-variants as Flag
 
@@ -120,11 +118,6 @@ only q fs = Option·map (λ vs. vs .0) (read-values (q ∷ []) fs)
 abbrev pub placed : Option Place → Where
 placed none = Where.Malformed
 placed (some p) = Where.Is p
-
--- a register, a place and an index
-abbrev pub cell : Option (Values (number ∷ place ∷ number ∷ [])) → Cell
-cell none = Cell.Malformed
-cell (some vs) = Cell.Is (sized (vs .0)) (vs .1 .0) (sized (vs .1 .1 .0))
 
 abbrev pub flagged : Option Bool → Flag
 flagged none = Flag.Malformed

@@ -1,6 +1,6 @@
 // Document 01, "The deck file": a line's kind and fields. Ranges are judged above (`deck`).
 ghost use mathlib.Core.Path.{_≡_};
-ghost use mathlib.Core.Bool.{true};
+ghost use mathlib.Core.Bool.{true, cond};
 ghost use mathlib.Core.List.{[], _∷_};
 ghost use Prim.Native.Nat.{_%_, _<_};
 ghost use lib.ListN.{take};
@@ -8,7 +8,7 @@ ghost use Rattle.text.specs.Fields.{split, same, fields-from, next-from};
 ghost use Rattle.form.specs.Line.{name, place-name, flag-name, number, place, flag};
 ghost use Rattle.form.specs.Kinds.{numbered, or-number, later-at, kind-at, entry};
 ghost use Rattle.form.specs.Read.{first, names-two, names-three, names-four, names-five, names-six, names-longer, kind-of, all-places, all-flags, read-values, read-fields};
-ghost use Rattle.form.specs.Form.{form-of, formed, shaped, named, zeros, read-numbers, of-numbers, first-of, only, placed, cell, flagged};
+ghost use Rattle.form.specs.Form.{form-of, formed, shaped, named, zeros, read-numbers, of-numbers, first-of, only, placed, flagged};
 use order::Binary;
 use order::Frame;
 use order::Fused;
@@ -76,12 +76,6 @@ pub enum Where {
 struct PlaceField {
     place: Where,
     next: usize,
-}
-
-// A register, a place and an index.
-enum Cell {
-    Is(Number, Place, Number),
-    Malformed,
 }
 
 pub enum Flag {
@@ -374,41 +368,27 @@ fn place_at(s: &[u8], a: usize) -> PlaceField
     }
 }
 
-// A register, a place and an index, to the line's end.
-fn read_cell(s: &[u8], a: usize) -> Cell
-    ensures { λ r. ⌜ r ≡ cell (read-values (number ∷ place ∷ number ∷ []) (fields-from (now (s .entry)) a)) ⌝ }
+// A register, a place and an index, to the line's end: saved there, or loaded.
+fn form_cell(save: bool, s: &[u8], a: usize) -> Form
+    ensures { λ r. ⌜ r ≡ shaped (cond save Kind.Save Kind.Load) (fields-from (now (s .entry)) a) ⌝ }
 {
     let x = text::number_at(s, a);
     let y = place_at(s, x.next);
     let Numbers::Are(_, _, _, _, i) = read_numbers(s, y.next, 1) else {
-        return Cell::Malformed;
+        return Form::Malformed;
     };
     let n = x.numeral;
     let Numeral::Is(d) = n else {
-        return Cell::Malformed;
+        return Form::Malformed;
     };
     let w = y.place;
     let Where::Is(p) = w else {
-        return Cell::Malformed;
+        return Form::Malformed;
     };
-    Cell::Is(d, p, i)
-}
-
-fn form_load(s: &[u8], a: usize) -> Form
-    ensures { λ r. ⌜ r ≡ shaped Kind.Load (fields-from (now (s .entry)) a) ⌝ }
-{
-    match read_cell(s, a) {
-        Cell::Is(d, p, i) => Form::Load(d, p, i),
-        Cell::Malformed => Form::Malformed,
-    }
-}
-
-fn form_save(s: &[u8], a: usize) -> Form
-    ensures { λ r. ⌜ r ≡ shaped Kind.Save (fields-from (now (s .entry)) a) ⌝ }
-{
-    match read_cell(s, a) {
-        Cell::Is(d, p, i) => Form::Save(d, p, i),
-        Cell::Malformed => Form::Malformed,
+    if save {
+        Form::Save(d, p, i)
+    } else {
+        Form::Load(d, p, i)
     }
 }
 
@@ -490,8 +470,8 @@ fn form_kind(k: Kind, s: &[u8], a: usize) -> Form
         Kind::Fused(_) => form_numbers(k, s, a, 4),
         Kind::Ifelse => form_numbers(k, s, a, 4),
         Kind::LoadConst => form_numbers(k, s, a, 2),
-        Kind::Load => form_load(s, a),
-        Kind::Save => form_save(s, a),
+        Kind::Load => form_cell(false, s, a),
+        Kind::Save => form_cell(true, s, a),
         Kind::BranchIf => form_branch(s, a),
         Kind::SetLabel => form_numbers(k, s, a, 1),
         Kind::Float => form_float(s, a),

@@ -26,10 +26,10 @@ returns-7 : tie.Need-returns-7
 returns-7 c = c .form-numbers7 .ensures ∙ rw (c .before .enum-told7 .given .1) (is-load-const _)
 
 returns-8 : tie.Need-returns-8
-returns-8 c = rw (c .before .enum-told8 .given .1) (c .form-load .ensures)
+returns-8 c = rw (c .before .enum-told8 .given .1) (c .form-cell .ensures)
 
 returns-9 : tie.Need-returns-9
-returns-9 c = rw (c .before .enum-told9 .given .1) (c .form-save .ensures)
+returns-9 c = rw (c .before .enum-told9 .given .1) (c .form-cell2 .ensures)
 
 returns-10 : tie.Need-returns-10
 returns-10 c = rw (c .before .enum-told10 .given .1) (c .form-branch .ensures)
