@@ -7,7 +7,7 @@ use native.Mathlib.Nat.{min-eq-left, mod-eq-of-lt}
 use native.Mathlib.Omega.{arith}
 use native.Mathlib.Numerals.{add-one}
 use borrow.Author.Tests.{lt-ltb, le-ltb}
-use lib.Dec.{ltb, leb}
+use lib.Dec.{eqb, ltb, leb}
 use lib.ListN.{length, take, length-set, length-append, length-map}
 use lib.Seq.{take-suc-set, append-snoc}
 use lib.IntN.{ℤ, pos, negsuc}
@@ -35,35 +35,22 @@ use Rattle.accesses.specs.Plans.{answer-of, pushes-from, pushes, plan-of
 use Rattle.accesses.specs.Code.{li-code}
 use Rattle.accesses.specs.Fault.{li-takes, offset-limit}
 
+-- the encoder's refusals, by their number
+refusal-is : (r : Refusal) (k : ℕ) → number-of r ≡ k → k ≤ 2 → r ≡ cond (eqb k 1) Register Value
+refusal-is Register k e h = rw (← e)
+refusal-is Value k e h = rw (← e)
+refusal-is Label k e h = absurd (omega arith)
+refusal-is Twice k e h = absurd (omega arith)
+refusal-is Unset k e h = absurd (omega arith)
+refusal-is Far k e h = absurd (omega arith)
+refusal-is Full k e h = absurd (omega arith)
+refusal-is Closed k e h = absurd (omega arith)
+refusal-is Count k e h = absurd (omega arith)
+refusal-is Base k e h = absurd (omega arith)
+refusal-is Unsaved k e h = absurd (omega arith)
+refusal-is Line k e h = absurd (omega arith)
+
 -- the encoder's promise gives its answer
-refusal1 : (r : Refusal) → number-of r ≡ 1 → r ≡ Register
-refusal1 Register e = refl
-refusal1 Value e = absurd (omega arith)
-refusal1 Label e = absurd (omega arith)
-refusal1 Twice e = absurd (omega arith)
-refusal1 Unset e = absurd (omega arith)
-refusal1 Far e = absurd (omega arith)
-refusal1 Full e = absurd (omega arith)
-refusal1 Closed e = absurd (omega arith)
-refusal1 Count e = absurd (omega arith)
-refusal1 Base e = absurd (omega arith)
-refusal1 Unsaved e = absurd (omega arith)
-refusal1 Line e = absurd (omega arith)
-
-refusal2 : (r : Refusal) → number-of r ≡ 2 → r ≡ Value
-refusal2 Value e = refl
-refusal2 Register e = absurd (omega arith)
-refusal2 Label e = absurd (omega arith)
-refusal2 Twice e = absurd (omega arith)
-refusal2 Unset e = absurd (omega arith)
-refusal2 Far e = absurd (omega arith)
-refusal2 Full e = absurd (omega arith)
-refusal2 Closed e = absurd (omega arith)
-refusal2 Count e = absurd (omega arith)
-refusal2 Base e = absurd (omega arith)
-refusal2 Unsaved e = absurd (omega arith)
-refusal2 Line e = absurd (omega arith)
-
 by-told : (e : Encoded) (w : ℕ) (b c : Bool) → told e ≡ cond b (cond c (accepted w) (refused 2 0)) (refused 1 0)
     → e ≡ cond b (cond c (Word w) (Refused Value 0)) (Refused Register 0)
 by-told (Word x) w true true t = let z : x ≡ w = cc in ap Word z
@@ -73,12 +60,12 @@ by-told (Refused r p) w true true t = let z : _≡_ {A = ℕ} 0 1 = cc in absurd
 by-told (Refused r p) w true false t =
     let z : number-of r ≡ 2 = cc in
     let q : p ≡ 0 = cc in
-    let s : r ≡ Value = refusal2 r z in
+    let s : r ≡ Value = refusal-is r 2 z (omega arith) in
     rw (s, q)
 by-told (Refused r p) w false c t =
     let z : number-of r ≡ 1 = cc in
     let q : p ≡ 0 = cc in
-    let s : r ≡ Register = refusal1 r z in
+    let s : r ≡ Register = refusal-is r 1 z (omega arith) in
     rw (s, q)
 
 pub answered : (e : Encoded) (i : Instr) → told e ≡ encoded i → e ≡ answer-of i

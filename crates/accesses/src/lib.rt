@@ -6,7 +6,7 @@ ghost use Prim.Native.Nat.{_+_, _≤_, _<_, min};
 ghost use lib.Dec.{ltb};
 ghost use lib.IntN.{pos, negℤ};
 ghost use Rattle.isa.specs.Immediate.{hi, lo};
-ghost use Rattle.isa.specs.Instr.{R, I, U, ADD, ADDI, LUI};
+ghost use Rattle.isa.specs.Instr.{I, U, ADDI, LUI};
 ghost use Rattle.assembler.specs.Item.{instr};
 ghost use Rattle.assembler.specs.State.{state, outcome};
 ghost use Rattle.assembler.specs.Put.{put};
@@ -177,7 +177,7 @@ fn far(base: u32, n: u32, last: Encoded) -> Plan
     )
 }
 
-pub fn load_float_plan(d: u32, base: u32, n: u32) -> Plan
+fn load_float_plan(d: u32, base: u32, n: u32) -> Plan
     ensures { λ r. ⌜ r ≡ plan-of (load-float-code d base n) ⌝ }
 {
     if n < 2048 {
@@ -186,7 +186,7 @@ pub fn load_float_plan(d: u32, base: u32, n: u32) -> Plan
     far(base, n, encoder::fld(d, T0, 0))
 }
 
-pub fn save_float_plan(s: u32, base: u32, n: u32) -> Plan
+fn save_float_plan(s: u32, base: u32, n: u32) -> Plan
     ensures { λ r. ⌜ r ≡ plan-of (save-float-code s base n) ⌝ }
 {
     if n < 2048 {
@@ -195,7 +195,7 @@ pub fn save_float_plan(s: u32, base: u32, n: u32) -> Plan
     far(base, n, encoder::fsd(s, T0, 0))
 }
 
-pub fn load_int_plan(d: u32, base: u32, n: u32) -> Plan
+fn load_int_plan(d: u32, base: u32, n: u32) -> Plan
     ensures { λ r. ⌜ r ≡ plan-of (load-int-code d base n) ⌝ }
 {
     if n < 2048 {

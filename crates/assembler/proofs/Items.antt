@@ -5,12 +5,14 @@ use Prim.Native.Nat.{ℕ, suc, _+_, _*_}
 use native.Mathlib.Nat.{zero-add, suc-add}
 use native.Mathlib.Omega.{arith}
 use lib.ListN.{length}
+use Rattle.isa.specs.Instr.{Instr}
 use Rattle.isa.specs.Encode.{encode}
 use Rattle.assembler.specs.Item.{Item, instr, raw, jump, label}
 use Rattle.assembler.specs.Bytes.{written}
 use Rattle.assembler.specs.State.{State}
 use Rattle.assembler.specs.Put.{words, jumps, labels, with-word, place, placed}
 use Rattle.assembler.specs.Plan.{tail-items}
+use Rattle.assembler.specs.Resolved.{resolved}
 use Rattle.assembler.specs.declared.Tail.{Tail}
 use Rattle.assembler.specs.declared.Tail.the-variants.{Nothing, One, Pair}
 use Rattle.assembler.proofs.Writes.{written-cons, written-none}
@@ -78,6 +80,13 @@ placed-raw tag [] s =
 placed-raw tag (w ∷ ws) s =
     let e : s .asm .len + 4 + 4 * length ws ≡ s .asm .len + 4 * suc (length ws) = omega arith in
     placed-raw tag ws (with-word w s) ∙ rw (e, ← written-cons (s .buf) (s .asm .len) w ws)
+
+-- ---- instructions alone
+
+pub resolved-instrs : (places : ℕ → ℕ) (here : ℕ) (is : List Instr) → resolved places here (map instr is) ≡ map encode is
+unfolding resolved
+resolved-instrs places here [] = refl
+resolved-instrs places here (i ∷ is) = ap (λ (ws : List ℕ). encode i ∷ ws) (resolved-instrs places (here + 4) is)
 
 -- ---- the jumps of a tail
 

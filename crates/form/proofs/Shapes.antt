@@ -1,8 +1,8 @@
 -- Forms, field by field. Assumes nothing.
-use mathlib.Core.Path.{_≡_, refl, sym, ap, _∙_}
+use mathlib.Core.Path.{_≡_, refl, sym, _∙_}
 use mathlib.Core.Bool.{Bool, true, false, cond}
 use mathlib.Core.Option.{Option, some, none, Option·map}
-use mathlib.Core.List.{List, [], _∷_, _++_}
+use mathlib.Core.List.{List, [], _∷_, append-nil}
 use Prim.Native.Nat.{ℕ, zero, suc, _+_, _-_, _<_, _≤_}
 use native.Mathlib.Omega.{arith}
 use borrow.Author.Tests.{le-ltb, ltb-true, ltb-false, eq-eqb, ne-eqb}
@@ -149,10 +149,6 @@ no-both : {A B : Type 0} (o : Option A) → both {B = B} o none ≡ none
 no-both none = refl
 no-both (some a) = refl
 
-append-nil : (s : List ℕ) → s ++ [] ≡ s
-append-nil [] = refl
-append-nil (c ∷ cs) = ap (λ (l : List ℕ). c ∷ l) (append-nil cs)
-
 module _ (q : Sort) (t : List ℕ) where
   -- a field has no comma, so it is the only one
   only-field : (v : Value q) → read-field q t ≡ some v → split t ≡ t ∷ []
@@ -260,6 +256,24 @@ module _ (s : List ℕ) (a : ℕ) where
   pub place-is : (e : ℕ) → e ≡ end-from s a → a ≤ length s → placed (first place-name (take (e - a) (drop a s)) all-places) ≡ placed (first-of place (fields-from s a))
   place-is e he h = rw (field-is s a h, he)
 
+-- ---- a malformed field is none
+
+no-number : (o : Option ℕ) → numeral o ≡ Numeral.Malformed → o ≡ none
+no-number none e = refl
+no-number (some n) e = absurd (let z : _≡_ {A = ℕ} 0 1 = cc in omega arith)
+
+not-placed : (p : Option Place) → placed p ≡ Where.Malformed → p ≡ none
+not-placed none e = refl
+not-placed (some w) e = absurd (let z : _≡_ {A = ℕ} 0 1 = cc in omega arith)
+
+no-index : (q : Option (Values (number ∷ []))) → numbers 1 zeros q ≡ Numbers.Malformed → q ≡ none
+no-index none e = refl
+no-index (some vs) e = absurd (let z : _≡_ {A = ℕ} 0 1 = cc in omega arith)
+
+no-flag : (q : Option (Values (flag ∷ []))) → flagged (Option·map (λ vs. vs .0) q) ≡ Flag.Malformed → q ≡ none
+no-flag none e = refl
+no-flag (some vs) e = absurd (let z : _≡_ {A = ℕ} 0 1 = cc in omega arith)
+
 -- ---- a cell
 
 abbrev celled : (save : Bool) → Option (Values (number ∷ place ∷ number ∷ [])) → Form
@@ -276,28 +290,13 @@ module _ (save : Bool) where
   abbrev cell-of : (o : Option ℕ) (p : Option Place) (q : Option (Values (number ∷ []))) → Form
   cell-of o p q = celled save (both o (both p q))
 
-  cell-x : (o : Option ℕ) (p : Option Place) (q : Option (Values (number ∷ []))) → numeral o ≡ Numeral.Malformed → Form.Malformed ≡ cell-of o p q
-  cell-x none p q e = refl
-  cell-x (some n) p q e = absurd (let z : _≡_ {A = ℕ} 0 1 = cc in omega arith)
-
-  cell-w : (o : Option ℕ) (p : Option Place) (q : Option (Values (number ∷ []))) → placed p ≡ Where.Malformed → Form.Malformed ≡ cell-of o p q
-  cell-w none p q e = refl
-  cell-w (some n) none q e = refl
-  cell-w (some n) (some p) q e = absurd (let z : _≡_ {A = ℕ} 0 1 = cc in omega arith)
-
-  cell-r : (o : Option ℕ) (p : Option Place) (q : Option (Values (number ∷ []))) → numbers 1 zeros q ≡ Numbers.Malformed → Form.Malformed ≡ cell-of o p q
-  cell-r none p q e = refl
-  cell-r (some n) none q e = refl
-  cell-r (some n) (some p) none e = refl
-  cell-r (some n) (some p) (some vs) e = absurd (let z : _≡_ {A = ℕ} 0 1 = cc in omega arith)
-
   cell-all : (o : Option ℕ) (p : Option Place) (q : Option (Values (number ∷ []))) (m : Number) (w : Place) (b c d e f : Number) → numeral o ≡ Numeral.Is m → placed p ≡ Where.Is w → numbers 1 zeros q ≡ Numbers.Are b c d e f → cond save (Form.Save m w f) (Form.Load m w f) ≡ cell-of o p q
   cell-all none p q m w b c d e f g h i = absurd (let z : _≡_ {A = ℕ} 0 1 = cc in omega arith)
   cell-all (some n) none q m w b c d e f g h i = absurd (let z : _≡_ {A = ℕ} 0 1 = cc in omega arith)
   cell-all (some n) (some p) none m w b c d e f g h i = absurd (let z : _≡_ {A = ℕ} 0 1 = cc in omega arith)
   cell-all (some n) (some p) (some vs) m w b c d e f g h i = cc
 
-  module _ (s : List ℕ) (a : ℕ) (x : Numeral) (j : ℕ) (y : Where) (k : ℕ) (r : Numbers) (ex : x ≡ numeral (first-decimal (fields-from s a))) (ej : j ≡ next-from s a) (ey : y ≡ placed (first-of place (fields-from s j))) (ek : k ≡ next-from s j) (er : r ≡ read-numbers 1 zeros (fields-from s k)) where
+  module _ (s : List ℕ) (a : ℕ) (x : Numeral) (j : ℕ) (y : Where) (k : ℕ) (r : Numbers) (ex : (x ≡ numeral (first-decimal (fields-from s a))) × (j ≡ next-from s a)) (ey : (y ≡ placed (first-of place (fields-from s j))) × (k ≡ next-from s j)) (er : r ≡ read-numbers 1 zeros (fields-from s k)) where
     abbrev o : Option ℕ
     o = first-decimal (fields-from s a)
 
@@ -308,39 +307,24 @@ module _ (save : Bool) where
     q = read-values (number ∷ []) (fields-from s k)
 
     in-steps : shaped (cond save Kind.Save Kind.Load) (fields-from s a) ≡ cell-of o p q
-    in-steps = as-cell save (fields-from s a) ∙ rw (step s a number (place ∷ number ∷ []), first-is s a, ← ej, step s j place (number ∷ []), ← ek)
+    in-steps = as-cell save (fields-from s a) ∙ rw (step s a number (place ∷ number ∷ []), first-is s a, ← ex .1, step s j place (number ∷ []), ← ey .1)
 
     pub cell-no-number : x ≡ Numeral.Malformed → Form.Malformed ≡ shaped (cond save Kind.Save Kind.Load) (fields-from s a)
-    cell-no-number e = cell-x o p q (sym ex ∙ e) ∙ sym in-steps
+    cell-no-number e = rw (in-steps, no-number o (sym (ex .0) ∙ e))
 
     pub cell-no-place : y ≡ Where.Malformed → Form.Malformed ≡ shaped (cond save Kind.Save Kind.Load) (fields-from s a)
-    cell-no-place e = cell-w o p q (sym ey ∙ e) ∙ sym in-steps
+    cell-no-place e = rw (in-steps, not-placed p (sym (ey .0) ∙ e), no-both {B = Values (place ∷ number ∷ [])} o)
 
     pub cell-no-index : r ≡ Numbers.Malformed → Form.Malformed ≡ shaped (cond save Kind.Save Kind.Load) (fields-from s a)
-    cell-no-index e = cell-r o p q (sym er ∙ e) ∙ sym in-steps
+    cell-no-index e = rw (in-steps, no-index q (sym er ∙ e), no-both {B = Values (number ∷ [])} p, no-both {B = Values (place ∷ number ∷ [])} o)
 
     pub cell-is : (m : Number) (w : Place) (b c d e f : Number) → x ≡ Numeral.Is m → y ≡ Where.Is w → r ≡ Numbers.Are b c d e f → cond save (Form.Save m w f) (Form.Load m w f) ≡ shaped (cond save Kind.Save Kind.Load) (fields-from s a)
-    cell-is m w b c d e f g h i = cell-all o p q m w b c d e f (sym ex ∙ g) (sym ey ∙ h) (sym er ∙ i) ∙ sym in-steps
+    cell-is m w b c d e f g h i = cell-all o p q m w b c d e f (sym (ex .0) ∙ g) (sym (ey .0) ∙ h) (sym er ∙ i) ∙ sym in-steps
 
 -- ---- a branch
 
 abbrev branch-of : (o p : Option ℕ) (q : Option (Values (flag ∷ []))) → Form
 branch-of o p q = shaped′ Kind.BranchIf (both o (both p q))
-
-branch-x : (o p : Option ℕ) (q : Option (Values (flag ∷ []))) → numeral o ≡ Numeral.Malformed → Form.Malformed ≡ branch-of o p q
-branch-x none p q e = refl
-branch-x (some n) p q e = absurd (let z : _≡_ {A = ℕ} 0 1 = cc in omega arith)
-
-branch-y : (o p : Option ℕ) (q : Option (Values (flag ∷ []))) → numeral p ≡ Numeral.Malformed → Form.Malformed ≡ branch-of o p q
-branch-y none p q e = refl
-branch-y (some n) none q e = refl
-branch-y (some n) (some m) q e = absurd (let z : _≡_ {A = ℕ} 0 1 = cc in omega arith)
-
-branch-z : (o p : Option ℕ) (q : Option (Values (flag ∷ []))) → flagged (Option·map (λ vs. vs .0) q) ≡ Flag.Malformed → Form.Malformed ≡ branch-of o p q
-branch-z none p q e = refl
-branch-z (some n) none q e = refl
-branch-z (some n) (some m) none e = refl
-branch-z (some n) (some m) (some vs) e = absurd (let z : _≡_ {A = ℕ} 0 1 = cc in omega arith)
 
 branch-all : (o p : Option ℕ) (q : Option (Values (flag ∷ []))) (m n : Number) (b : Bool) → numeral o ≡ Numeral.Is m → numeral p ≡ Numeral.Is n → flagged (Option·map (λ vs. vs .0) q) ≡ Flag.Is b → Form.BranchIf m n b ≡ branch-of o p q
 branch-all none p q m n b e f g = absurd (let z : _≡_ {A = ℕ} 0 1 = cc in omega arith)
@@ -348,7 +332,7 @@ branch-all (some k) none q m n b e f g = absurd (let z : _≡_ {A = ℕ} 0 1 = c
 branch-all (some k) (some l) none m n b e f g = absurd (let z : _≡_ {A = ℕ} 0 1 = cc in omega arith)
 branch-all (some k) (some l) (some vs) m n b e f g = cc
 
-module _ (s : List ℕ) (a : ℕ) (x : Numeral) (j : ℕ) (y : Numeral) (k : ℕ) (z : Flag) (ex : x ≡ numeral (first-decimal (fields-from s a))) (ej : j ≡ next-from s a) (ey : y ≡ numeral (first-decimal (fields-from s j))) (ek : k ≡ next-from s j) (ez : z ≡ flagged (only flag (fields-from s k))) where
+module _ (s : List ℕ) (a : ℕ) (x : Numeral) (j : ℕ) (y : Numeral) (k : ℕ) (z : Flag) (ex : (x ≡ numeral (first-decimal (fields-from s a))) × (j ≡ next-from s a)) (ey : (y ≡ numeral (first-decimal (fields-from s j))) × (k ≡ next-from s j)) (ez : z ≡ flagged (only flag (fields-from s k))) where
   abbrev o′ : Option ℕ
   o′ = first-decimal (fields-from s a)
 
@@ -360,19 +344,19 @@ module _ (s : List ℕ) (a : ℕ) (x : Numeral) (j : ℕ) (y : Numeral) (k : ℕ
 
   branch-steps : shaped Kind.BranchIf (fields-from s a) ≡ branch-of o′ p′ q′
   unfolding shaped
-  branch-steps = rw (step s a number (number ∷ flag ∷ []), first-is s a, ← ej, step s j number (flag ∷ []), first-is s j, ← ek)
+  branch-steps = rw (step s a number (number ∷ flag ∷ []), first-is s a, ← ex .1, step s j number (flag ∷ []), first-is s j, ← ey .1)
 
   pub branch-no-register : x ≡ Numeral.Malformed → Form.Malformed ≡ shaped Kind.BranchIf (fields-from s a)
-  branch-no-register e = branch-x o′ p′ q′ (sym ex ∙ e) ∙ sym branch-steps
+  branch-no-register e = rw (branch-steps, no-number o′ (sym (ex .0) ∙ e))
 
   pub branch-no-label : y ≡ Numeral.Malformed → Form.Malformed ≡ shaped Kind.BranchIf (fields-from s a)
-  branch-no-label e = branch-y o′ p′ q′ (sym ey ∙ e) ∙ sym branch-steps
+  branch-no-label e = rw (branch-steps, no-number p′ (sym (ey .0) ∙ e), no-both {B = Values (number ∷ flag ∷ [])} o′)
 
   pub branch-no-flag : z ≡ Flag.Malformed → Form.Malformed ≡ shaped Kind.BranchIf (fields-from s a)
-  branch-no-flag e = branch-z o′ p′ q′ (sym ez ∙ e) ∙ sym branch-steps
+  branch-no-flag e = rw (branch-steps, no-flag q′ (sym ez ∙ e), no-both {B = Values (flag ∷ [])} p′, no-both {B = Values (number ∷ flag ∷ [])} o′)
 
   pub branch-is : (m n : Number) (b : Bool) → x ≡ Numeral.Is m → y ≡ Numeral.Is n → z ≡ Flag.Is b → Form.BranchIf m n b ≡ shaped Kind.BranchIf (fields-from s a)
-  branch-is m n b e f g = branch-all o′ p′ q′ m n b (sym ex ∙ e) (sym ey ∙ f) (sym ez ∙ g) ∙ sym branch-steps
+  branch-is m n b e f g = branch-all o′ p′ q′ m n b (sym (ex .0) ∙ e) (sym (ey .0) ∙ f) (sym ez ∙ g) ∙ sym branch-steps
 
 -- ---- a whole line
 

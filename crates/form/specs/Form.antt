@@ -9,7 +9,7 @@ use Rattle.text.specs.Digits.{sized}
 use Rattle.text.specs.declared.Number.{Number}
 use Rattle.text.specs.declared.Number.the-variants as Number
 use Rattle.order.specs.declared.Place.{Place}
-use Rattle.form.specs.Line.{Sort, number, place, Value, Values, sorts, Line}
+use Rattle.form.specs.Line.{Sort, number, Value, Values, sorts, Line}
 use Rattle.form.specs.Read.{read, read-field, read-values}
 use Rattle.form.specs.declared.Kind.{Kind}
 use Rattle.form.specs.declared.Kind.the-variants as Kind

@@ -1,13 +1,12 @@
 // Document 01, "The deck file": a line's kind and fields. Ranges are judged above (`deck`).
 ghost use mathlib.Core.Path.{_≡_};
 ghost use mathlib.Core.Bool.{true, cond};
-ghost use mathlib.Core.List.{[], _∷_};
 ghost use Prim.Native.Nat.{_%_, _<_};
 ghost use lib.ListN.{take};
 ghost use Rattle.text.specs.Fields.{split, same, fields-from, next-from};
-ghost use Rattle.form.specs.Line.{name, place-name, flag-name, number, place, flag};
+ghost use Rattle.form.specs.Line.{name, place-name, flag-name, place, flag};
 ghost use Rattle.form.specs.Kinds.{numbered, or-number, later-at, kind-at, entry};
-ghost use Rattle.form.specs.Read.{first, names-two, names-three, names-four, names-five, names-six, names-longer, kind-of, all-places, all-flags, read-values, read-fields};
+ghost use Rattle.form.specs.Read.{first, names-two, names-three, names-four, names-five, names-six, names-longer, kind-of, all-places, all-flags, read-fields};
 ghost use Rattle.form.specs.Form.{form-of, formed, shaped, named, zeros, read-numbers, of-numbers, first-of, only, placed, flagged};
 use order::Binary;
 use order::Frame;

@@ -16,7 +16,7 @@ use Rattle.assembler.specs.Resolved.{resolved}
 use Rattle.accesses.specs.Code.{li-code}
 use Rattle.accesses.proofs.Lengths.{li-length}
 use Rattle.framing.specs.Items.{code, times-over, count-down, repeated}
-use Rattle.framing.proofs.Walk.{resolved-code, resolved-all}
+use Rattle.framing.proofs.Walk.{resolved-code, resolved-instrs}
 
 module _ (at : ℕ → ℕ) (here n l : ℕ) (first each : List Instr) (six : length each ≡ 6) where
   pub over-length : (k : ℕ) → length (times-over k each) ≡ 6 * k
@@ -25,7 +25,7 @@ module _ (at : ℕ → ℕ) (here n l : ℕ) (first each : List Instr) (six : le
 
   -- in a row
   pub row-words : length (resolved at here (code (first ++ times-over n each))) ≡ length first + 6 * n
-  row-words = rw (resolved-all at here (first ++ times-over n each), length-map (first ++ times-over n each) encode, length-append first (times-over n each), over-length n)
+  row-words = rw (resolved-instrs at here (first ++ times-over n each), length-map (first ++ times-over n each) encode, length-append first (times-over n each), over-length n)
 
   abbrev start : List Instr
   start = first ++ li-code 7 (pos n)

@@ -23,7 +23,7 @@ use Rattle.framing.specs.Size.{frame-size, stack-size}
 use Rattle.order.specs.Mask.{saved, save-cell}
 use Rattle.framing.specs.Items.{code, mv, kept, opening, states-from, save, prologue, saves}
 use Rattle.framing.proofs.Land.{In, load8-same, off-above, off-below, not-or, or-not}
-use Rattle.framing.proofs.Walk.{resolved-all, code-append, Words, Came, run-rm}
+use Rattle.framing.proofs.Walk.{resolved-instrs, code-append, Words, Came, run-rm}
 use Rattle.framing.proofs.Seg.{Seg, seg-join, seg-wider, seg-same, onward-seg, Lowered, down-to, Begun, begun}
 use Rattle.framing.proofs.Rows.{Stored, states-stored, saves-stored}
 use Rattle.framing.specs.Steps.{prologue-steps}
@@ -108,7 +108,7 @@ module _ (Q : Floats) (cap states obs last mask : ℕ) (at : ℕ → ℕ) (s : S
 
     words-are : resolved at 0 (prologue H ++ saves mask) ≡ map encode (straight ++ map save (saved mask))
     unfolding prologue saves
-    words-are = rw (code-append straight (map save (saved mask))) (resolved-all at 0 (straight ++ map save (saved mask)))
+    words-are = rw (code-append straight (map save (saved mask))) (resolved-instrs at 0 (straight ++ map save (saved mask)))
 
     stand : Words P (s .mem) (s .pc) (map encode (straight ++ map save (saved mask)))
     stand =

@@ -34,7 +34,7 @@ use Rattle.framing.specs.Size.{frame-size, stack-size, mem-size}
 use Rattle.order.specs.Mask.{saved, save-cell}
 use Rattle.framing.specs.Items.{at-self, at-main, at-pro, code, mv, kept, opening, state-copy, repeated, save, prologue, saves}
 use Rattle.framing.proofs.Land.{In, load8-same, off-above, off-below, not-or, or-not}
-use Rattle.framing.proofs.Walk.{resolved-code, resolved-all, resolved-append, Words, Stood, stood-left, stood-right, stood-code, piece, behind, behind-label, behind-jump, jump-word, Came, came-at, hop, run-rm}
+use Rattle.framing.proofs.Walk.{resolved-code, resolved-instrs, resolved-append, Words, Stood, stood-left, stood-right, stood-code, piece, behind, behind-label, behind-jump, jump-word, Came, came-at, hop, run-rm}
 use Rattle.framing.proofs.Seg.{Seg, seg-join, seg-wider, seg-same, onward-seg, Lowered, down-to, allocate-to, Begun, begun}
 use Rattle.framing.proofs.Rows.{Stored, saves-stored, not-ten}
 use Rattle.framing.proofs.Count.{repeated-words, repeated-none}
@@ -457,7 +457,7 @@ module _ (Q : Floats) (cap states obs last mask : ℕ) (at : ℕ → ℕ) (s : S
     words-before : 4 * length (resolved at 0 items) ≡ h3 + 4 * length (allocate-stack-code ss)
     unfolding resolved
     words-before =
-        rw (resolved-code at 0 first (jump Beq at-main 0 ∷ (code down ++ (copies ++ up))), length-append (map encode first) (resolved at h1 (jump Beq at-main 0 ∷ (code down ++ (copies ++ up)))), length-map first encode, resolved-code at (h1 + 4) down (copies ++ up), length-append (map encode down) (resolved at h2 (copies ++ up)), length-map down encode, resolved-append at h2 copies up, length-append (resolved at h2 copies) (resolved at h3 up), resolved-all at h3 (allocate-stack-code ss), length-map (allocate-stack-code ss) encode)
+        rw (resolved-code at 0 first (jump Beq at-main 0 ∷ (code down ++ (copies ++ up))), length-append (map encode first) (resolved at h1 (jump Beq at-main 0 ∷ (code down ++ (copies ++ up)))), length-map first encode, resolved-code at (h1 + 4) down (copies ++ up), length-append (map encode down) (resolved at h2 (copies ++ up)), length-map down encode, resolved-append at h2 copies up, length-append (resolved at h2 copies) (resolved at h3 up), resolved-instrs at h3 (allocate-stack-code ss), length-map (allocate-stack-code ss) encode)
         (omega arith)
 
     abbrev row : List Instr
@@ -477,7 +477,7 @@ module _ (Q : Floats) (cap states obs last mask : ℕ) (at : ℕ → ℕ) (s : S
     words-all : length (resolved at 0 (prologue H ++ saves mask)) ≡ length (resolved at 0 items) + length row
     unfolding prologue saves
     words-all =
-        rw (resolved-append at 0 items (code row), length-append (resolved at 0 items) (resolved at (0 + 4 * length (resolved at 0 items)) (code row)), resolved-all at (0 + 4 * length (resolved at 0 items)) row, length-map row encode)
+        rw (resolved-append at 0 items (code row), length-append (resolved at 0 items) (resolved at (0 + 4 * length (resolved at 0 items)) (code row)), resolved-instrs at (0 + 4 * length (resolved at 0 items)) row, length-map row encode)
 
     abbrev end : State
     end = six .0

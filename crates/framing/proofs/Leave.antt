@@ -23,7 +23,7 @@ use Rattle.assembler.specs.Resolved.{resolved}
 use Rattle.framing.specs.Size.{save-size}
 use Rattle.order.specs.Mask.{saved, save-cell}
 use Rattle.framing.specs.Items.{at-success, at-epilogue, code, kept, closing, reload, reloads, epilogue}
-use Rattle.framing.proofs.Walk.{resolved-all, Words, words-left, words-right, Stood, stood-left, stood-code, piece, behind, behind-label, Came, came-at, hop}
+use Rattle.framing.proofs.Walk.{resolved-instrs, Words, words-left, words-right, Stood, stood-left, stood-code, piece, behind, behind-label, Came, came-at, hop}
 use Rattle.framing.proofs.Seg.{Seg, onward-seg}
 use Rattle.framing.proofs.Rows.{saved-proper, proper-fits}
 use Rattle.framing.proofs.Reload.{Loaded, loaded, restoring, return, closing-is, closing-length, restored, Restored}
@@ -78,7 +78,7 @@ module _ (Q : Floats) (H : Head) (at : ℕ → ℕ) (s : State) (bottom a here :
       let n : length list ≡ length (saved (H .mask)) = length-map (saved (H .mask)) reload in
       let c1 = onward-seg (zero-a0 ∷ []) (a + here) 0 u (piece here (zero-a0 ∷ []) (label at-epilogue ∷ code list) st1) (record { runs = stop; same = λ x k o. refl; pc = l .pc }) (one-does .0) in
       let c2 = onward-seg list (a + (here + 4)) 1 one (stood-code (here + 4) list st2) (came-at (omega arith) refl c1) (two .1 .seg) in
-      came-at (rw (resolved-all at (here + 4) list) (omega (arith, length-map list encode))) (omega (arith, n)) c2
+      came-at (rw (resolved-instrs at (here + 4) list) (omega (arith, length-map list encode))) (omega (arith, n)) c2
 
   pub reloaded : (w : State) × Reloaded Q H at s a here u w
   reloaded = (

@@ -25,6 +25,7 @@ use Rattle.assembler.specs.Item.{Item, instr, raw, jump, label}
 use Rattle.assembler.specs.Resolved.{resolved}
 use Rattle.assembler.specs.Jump.{jump-instr}
 use Rattle.assembler.specs.declared.Kind.{Kind}
+pub use Rattle.assembler.proofs.Items.{resolved-instrs}
 use Rattle.framing.specs.Items.{code}
 
 -- ---- items and their words
@@ -45,11 +46,6 @@ module _ (at : ℕ → ℕ) where
   unfolding resolved
   resolved-code here [] rest = rw (add-zero here)
   resolved-code here (i ∷ is) rest = rw (← (further here (length is))) (ap (λ (ws : List ℕ). encode i ∷ ws) (resolved-code (here + 4) is rest))
-
-  pub resolved-all : (here : ℕ) (is : List Instr) → resolved at here (code is) ≡ map encode is
-  unfolding resolved
-  resolved-all here [] = refl
-  resolved-all here (i ∷ is) = ap (λ (ws : List ℕ). encode i ∷ ws) (resolved-all (here + 4) is)
 
   pub stands-code : (here : ℕ) (is : List Instr) (rest : List Item) → Stands at here (code is ++ rest) → Stands at (here + 4 * length is) rest
   stands-code here [] rest h = rw (add-zero here) h
@@ -142,7 +138,7 @@ module _ {at : ℕ → ℕ} {P : ℕ → Type 0} {m : ℕ → ℕ} {a : ℕ} whe
 
   -- straight code alone
   pub stood-code : (here : ℕ) (is : List Instr) → Stood at P m a here (code is) → Words P m (a + here) (map encode is)
-  stood-code here is s = rw (resolved-all at here is) at (s .words)
+  stood-code here is s = rw (resolved-instrs at here is) at (s .words)
 
   pub piece : (here : ℕ) (is : List Instr) (rest : List Item) → Stood at P m a here (code is ++ rest) → Words P m (a + here) (map encode is)
   piece here is rest s = words-left (a + here) (map encode is) (resolved at (here + 4 * length is) rest) (rw (resolved-code at here is rest) at (s .words))

@@ -12,13 +12,14 @@ use Rattle.isa.specs.Encode.{encode}
 use Rattle.machine.specs.Word.{w64}
 use Rattle.machine.specs.Floats.{Floats}
 use Rattle.machine.specs.State.{State}
-use Rattle.machine.specs.Step.{words, execs}
+use Rattle.machine.specs.Step.{execs}
 use Rattle.machine.specs.Ends.{temporary, Ends}
 use Rattle.machine.proofs.Effects.{and-l, and-r}
 use Rattle.machine.proofs.Straight.{straight, by-straight}
 use Rattle.machine.proofs.Placed.{Valids}
 use Rattle.assembler.specs.Item.{Item, instr}
 use Rattle.assembler.specs.Resolved.{resolved}
+pub use Rattle.assembler.proofs.Items.{resolved-instrs}
 use Rattle.accesses.specs.Stands.{Stands}
 use Rattle.accesses.proofs.Then.{passed, fits}
 use Rattle.reading.specs.Meaning.{on}
@@ -32,11 +33,6 @@ pub resolve-instrs : (places : ℕ → ℕ) (here : ℕ) (is : List Instr) → r
 unfolding resolve
 resolve-instrs places here [] = refl
 resolve-instrs places here (i ∷ is) = ap {B = List Instr} (λ r. i ∷ r) (resolve-instrs places (here + 4) is)
-
-pub resolved-instrs : (places : ℕ → ℕ) (here : ℕ) (is : List Instr) → resolved places here (map instr is) ≡ words is
-unfolding resolved
-resolved-instrs places here [] = refl
-resolved-instrs places here (i ∷ is) = ap {B = List ℕ} (λ r. encode i ∷ r) (resolved-instrs places (here + 4) is)
 
 pub resolved-length : (places : ℕ → ℕ) (here : ℕ) (is : List Instr) → length (resolved places here (map instr is)) ≡ length is
 resolved-length places here is = rw (resolved-instrs places here is) (length-map is encode)

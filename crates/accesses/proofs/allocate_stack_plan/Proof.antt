@@ -2,7 +2,7 @@ use borrow.Author.Needs.{needs}
 use mathlib.Core.Path.{_∙_, ap}
 use native.Mathlib.Omega.{arith}
 use lib.IntN.{pos, negℤ}
-use Rattle.isa.specs.Instr.{I, ADDI, R, ADD, SUB}
+use Rattle.isa.specs.Instr.{I, ADDI, R, SUB}
 use Rattle.assembler.specs.Plan.{pushed}
 use Rattle.accesses.proofs.Numbers.{answered-at, back-neg}
 use Rattle.accesses.proofs.Planned.{size-direct, size-through, then-base}

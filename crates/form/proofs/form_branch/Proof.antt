@@ -1,4 +1,3 @@
-use denote.Ref.{now}
 use Rattle.form.proofs.Shapes.{branch-no-register, branch-no-label, branch-no-flag, branch-is}
 use borrow.Author.Needs.{needs}
 use Rattle.form.proofs.form_branch.Statement.{statement}
@@ -8,33 +7,25 @@ returns : tie.Need-returns
 returns c =
     let z = c .before .before in
     let y = z .before in
-    let x = y .before in
-    let a = x .before .before .args in
-    branch-no-flag (now (a .s)) (a .a) _ _ _ _ _ (x .number-at .ensures .0) (x .number-at .ensures .1) (y .number-at2 .ensures .0) (y .number-at2 .ensures .1) (z .last-flag .ensures) (c .enum-told .given .1)
+    branch-no-flag _ _ _ _ _ _ _ (y .before .number-at .ensures) (y .number-at2 .ensures) (z .last-flag .ensures) (c .enum-told .given .1)
 
 returns-2 : tie.Need-returns-2
 returns-2 c =
     let z = c .before .before .before .before .before in
     let y = z .before in
-    let x = y .before in
-    let a = x .before .before .args in
-    branch-no-register (now (a .s)) (a .a) _ _ _ _ _ (x .number-at .ensures .0) (x .number-at .ensures .1) (y .number-at2 .ensures .0) (y .number-at2 .ensures .1) (z .last-flag .ensures) (c .enum-told2 .given .1)
+    branch-no-register _ _ _ _ _ _ _ (y .before .number-at .ensures) (y .number-at2 .ensures) (z .last-flag .ensures) (c .enum-told2 .given .1)
 
 returns-3 : tie.Need-returns-3
 returns-3 c =
     let z = c .before .before .before .before .before .before .before .before in
     let y = z .before in
-    let x = y .before in
-    let a = x .before .before .args in
-    branch-no-label (now (a .s)) (a .a) _ _ _ _ _ (x .number-at .ensures .0) (x .number-at .ensures .1) (y .number-at2 .ensures .0) (y .number-at2 .ensures .1) (z .last-flag .ensures) (c .enum-told3 .given .1)
+    branch-no-label _ _ _ _ _ _ _ (y .before .number-at .ensures) (y .number-at2 .ensures) (z .last-flag .ensures) (c .enum-told3 .given .1)
 
 returns-4 : tie.Need-returns-4
 returns-4 c =
     let z = c .before .before .before .before .before .before .before .before .before in
     let y = z .before in
-    let x = y .before in
-    let a = x .before .before .args in
-    branch-is (now (a .s)) (a .a) _ _ _ _ _ (x .number-at .ensures .0) (x .number-at .ensures .1) (y .number-at2 .ensures .0) (y .number-at2 .ensures .1) (z .last-flag .ensures) _ _ _ (c .before .before .before .before .n .given .1) (c .before .m .given .1) (c .before .before .before .before .before .before .before .b .given .1)
+    branch-is _ _ _ _ _ _ _ (y .before .number-at .ensures) (y .number-at2 .ensures) (z .last-flag .ensures) _ _ _ (c .before .before .before .before .n .given .1) (c .before .m .given .1) (c .before .before .before .before .before .before .before .b .given .1)
 
 pub form-branch-spec : {M : Type 1} → statement M
 form-branch-spec =
