@@ -271,10 +271,10 @@ fn kind_at(k: u64) -> Named
     later_at(k)
 }
 
-fn kind_named(s: &[u8], e: usize) -> Named
-    ensures { λ r. ⌜ r ≡ named (kind-of (take e (now (s .entry)))) ⌝ }
+fn kind_named(s: &[u8]) -> Named
+    ensures { λ r. ⌜ r ≡ named (kind-of (now (s .entry))) ⌝ }
 {
-    kind_at(name_number(s, e))
+    kind_at(kind_number(s))
 }
 
 // ---- forms: the fields behind the name start at a
@@ -482,8 +482,8 @@ fn form_kind(k: Kind, s: &[u8], a: usize) -> Form
 fn form_body(s: &[u8]) -> Form
     ensures { λ r. ⌜ r ≡ formed (read-fields (split (now (s .entry)))) ⌝ }
 {
-    let e = text::name_end(s);
-    match kind_named(s, e) {
+    let e = text::field_end(s, 0);
+    match kind_named(&s[..e]) {
         Named::Is(k) => form_kind(k, s, e + 1),
         Named::Unknown => Form::Malformed,
     }
