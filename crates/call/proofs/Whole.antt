@@ -192,15 +192,15 @@ module _ (p : Program) where
     unfolding place
     placed = record { small = λ l. at l .0; aligned = λ l. at l .1 }
       where
-        by : (l : ℕ) (o : Option ℕ) → label-place l 0 (items p) ≡ o → (Option·getD o 0 < 65536) × (Option·getD o 0 % 4 ≡ 0)
+        by : (l : ℕ) (o : Option ℕ) → label-place l 0 (items p) ≡ o → (Option·getD o 0 ≤ 65536) × (Option·getD o 0 % 4 ≡ 0)
         by l none e = (omega arith, refl)
         by l (some a) e = (omega (arith, before-end l 0 a (items p) (worded) e, g .room), within l 0 a (items p) e .2)
 
-        at : (l : ℕ) → (place p l < 65536) × (place p l % 4 ≡ 0)
+        at : (l : ℕ) → (place p l ≤ 65536) × (place p l % 4 ≡ 0)
         at l = by l (label-place l 0 (items p)) refl
 
   -- line n stands before the end
-  pub offset-small : Good p → (n : ℕ) → line-offset p n < 65536
+  pub offset-small : Good p → (n : ℕ) → line-offset p n ≤ 65536
   unfolding line-offset items
   offset-small g n =
       omega (arith, g .room, part n (p .lines), back, span-append (code-items p) (data-items p), span-append (entry p) (body (p .lines) ++ exit p), span-append (body (p .lines)) (exit p))

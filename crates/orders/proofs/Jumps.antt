@@ -2,7 +2,7 @@
 use mathlib.Core.Path.{_≡_, refl, _∙_, ap}
 use mathlib.Core.Bool.{Bool, true, false, not, cond}
 use mathlib.Core.List.{List, [], _∷_}
-use Prim.Native.Nat.{ℕ, _+_, _*_, _/_, _%_, _<_}
+use Prim.Native.Nat.{ℕ, _+_, _*_, _/_, _%_, _≤_, _<_}
 use native.Mathlib.Omega.{arith}
 use lib.Dec.{eqb}
 use lib.IntN.{ℤ, pos, subℕ}
@@ -93,8 +93,8 @@ module _ (places : ℕ → ℕ) (start here : ℕ) (s : State) (Q : Floats) (g :
   unfolding resolved effect apply setx upd temporary
   const-does d l hd o =
       let is : List Instr = const-instrs places here d l in
-      let h : here < 65536 = o .here-small in
-      let p : places l < 65536 = g .small l in
+      let h : here ≤ 65536 = o .here-small in
+      let p : places l ≤ 65536 = g .small l in
       let e = pair-reaches start (places l) here (omega arith) (omega arith) in
       record {
         count = 2;
@@ -124,8 +124,8 @@ module _ (places : ℕ → ℕ) (start here : ℕ) (s : State) (Q : Floats) (g :
     branch-jump t o =
         let is : List Instr = branch-instrs places here c l k in
         let a = at-aligned places start here s o in
-        let h : here < 65536 = o .here-small in
-        let p : places l < 65536 = g .small l in
+        let h : here ≤ 65536 = o .here-small in
+        let p : places l ≤ 65536 = g .small l in
         let b : w64 (s .pc + 4) % 4 ≡ 0 = four (s .pc) a in
         let e = pair-reaches start (places l) (here + 4 + 4) (omega arith) (omega arith) in
         record {

@@ -31,9 +31,9 @@ written s (w ∷ ws) m = written s ws (store8 m (cell s (w .place) (w .index)) (
 
 -- ---- where labels are: the code's start, and each label's place from there
 
--- every place is a word's, in the 65,536 bytes
+-- every place is in the 65,536 bytes at a multiple of 4, or at their end
 pub record Placed (places : ℕ → ℕ) : Type 0 where
-  pub small : (l : ℕ) → places l < 65536
+  pub small : (l : ℕ) → places l ≤ 65536
   pub aligned : (l : ℕ) → places l % 4 ≡ 0
 
 module _ (places : ℕ → ℕ) (start : ℕ) where
@@ -46,7 +46,7 @@ module _ (places : ℕ → ℕ) (start : ℕ) where
     pub sound : Sound s
     pub start-aligned : start % 4 ≡ 0
     pub here-aligned : here % 4 ≡ 0
-    pub here-small : here < 65536
+    pub here-small : here ≤ 65536
     pub pc : s .pc ≡ w64 (start + here)
     pub code : CodeAt (s .mem) (s .pc) (resolved places here is)
 
