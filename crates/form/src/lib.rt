@@ -209,7 +209,7 @@ fn name_at(place: u64) -> u64
     }
 }
 
-// A place of its own for each of those names, by its first four bytes.
+// Where such a name is looked for, by its first four bytes. Any place will do: what isn't found there is compared with every name.
 fn name_place(w: u64) -> u64
     ensures { λ r. ⌜ r < 32 ⌝ }
 {
