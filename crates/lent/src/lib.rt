@@ -194,6 +194,22 @@ pub fn emit(
     d.answer
 }
 
+// Any order, the record by value: a copy is lent to `emit`, and handed back.
+pub fn through(
+    o: Order,
+    tag: u32,
+    buf: &mut [u8],
+    labels: &mut [u64; 2039],
+    jumps: &mut [u32; 20480],
+    asm: Asm,
+) -> Done
+    ensures { λ x. ⌜ outcome x (now (labels .exit)) (now (jumps .exit)) (now (buf .exit)) ≡ emitted tag o (state asm (now (labels .entry)) (now (jumps .entry)) (now (buf .entry))) ⌝ }
+{
+    let mut lent = asm;
+    let answer = emit(&mut lent, o, tag, buf, labels, jumps);
+    Done { asm: lent, answer }
+}
+
 // Any access.
 pub fn lay_access(
     asm: &mut Asm,
