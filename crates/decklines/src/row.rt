@@ -266,7 +266,7 @@ fn came(s: &[u8], tag: u32) -> Answer {
 }
 
 // Rows of cells count as others.
-pub fn outcome(s: &[u8]) -> Outcome {
+pub(crate) fn outcome(s: &[u8]) -> Outcome {
     let want = expected(s);
     if !same(want, came(s, want.tag)) {
         return Outcome::Mismatch;

@@ -1,6 +1,5 @@
 // Calls by the number of their row, with their operands in the Rust's order. Labels are document 01's numbers.
 use crate::case::Case;
-use crate::named::Found;
 use crate::row::Row;
 use assembler::Aligned;
 use assembler::Answer;
@@ -146,19 +145,6 @@ fn access(
     }
 }
 
-fn ordered(
-    r: Row,
-    buf: &mut [u8; 65536],
-    labels: &mut [u64; 2039],
-    jumps: &mut [u32; 20480],
-    asm: Asm,
-) -> Done {
-    let Found::Is(o) = crate::named::order(r) else {
-        return unknown(asm);
-    };
-    orders::emit(o, 0, buf, labels, jumps, asm)
-}
-
 // Jumps have the tag 0 here.
 fn framed(
     r: Row,
@@ -189,7 +175,7 @@ fn answered(
     match k {
         0x10..=0x1c => assembling(r, buf, labels, jumps, asm),
         0x20..=0x28 => access(r, buf, labels, jumps, asm),
-        0x30..=0x4d => ordered(r, buf, labels, jumps, asm),
+        0x30..=0x4d => crate::named::ordered(r, buf, labels, jumps, asm),
         0x50..=0x55 => framed(r, buf, labels, jumps, asm),
         _ => unknown(asm),
     }
@@ -202,7 +188,7 @@ fn aligned(n: u32, c: Case) -> Case {
     }
 }
 
-pub fn by_kind(
+pub(crate) fn by_kind(
     r: Row,
     buf: &mut [u8; 65536],
     labels: &mut [u64; 2039],

@@ -18,7 +18,7 @@ pub struct Case {
     pub open: bool,
 }
 
-pub fn fresh() -> Case {
+pub(crate) fn fresh() -> Case {
     Case {
         asm: Asm {
             len: 0,
@@ -34,28 +34,28 @@ pub fn fresh() -> Case {
     }
 }
 
-pub fn closed(c: Case) -> Case {
+pub(crate) fn closed(c: Case) -> Case {
     let mut d = c;
     d.good = true;
     d.open = false;
     d
 }
 
-pub fn bad(c: Case) -> Case {
+pub(crate) fn bad(c: Case) -> Case {
     let mut d = c;
     d.good = false;
     d
 }
 
 // A row that agrees, or not.
-pub fn checked(c: Case, ok: bool) -> Case {
+pub(crate) fn checked(c: Case, ok: bool) -> Case {
     let mut d = c;
     d.good = c.good && ok;
     d
 }
 
 // n words further.
-pub fn moved(c: Case, n: usize) -> Case {
+pub(crate) fn moved(c: Case, n: usize) -> Case {
     let mut d = c;
     let at = c.at;
     if at > 65536 {
@@ -69,7 +69,7 @@ pub fn moved(c: Case, n: usize) -> Case {
 }
 
 // A call refused.
-pub fn refused(c: Case, number: u8, place: u32) -> Case {
+pub(crate) fn refused(c: Case, number: u8, place: u32) -> Case {
     let mut d = c;
     d.number = number as u32;
     d.place = place;
@@ -81,7 +81,7 @@ fn same(a: Asm, b: Asm) -> bool {
 }
 
 // A call done. A refused one leaves the record as it was, and no call comes behind it.
-pub fn done(c: Case, r: Done) -> Case {
+pub(crate) fn done(c: Case, r: Done) -> Case {
     let asm = r.asm;
     let answer = r.answer;
     let mut d = c;
@@ -98,7 +98,7 @@ pub fn done(c: Case, r: Done) -> Case {
 }
 
 // A call that answered a number.
-pub fn valued(c: Case, n: u32) -> Case {
+pub(crate) fn valued(c: Case, n: u32) -> Case {
     let mut d = c;
     d.value = n;
     d
@@ -107,7 +107,7 @@ pub fn valued(c: Case, n: u32) -> Case {
 // ---- the code
 
 // The first n of four words stand at a place.
-pub fn stand(buf: &[u8; 65536], at: usize, a: u32, b: u32, c: u32, d: u32, n: u32) -> bool {
+pub(crate) fn stand(buf: &[u8; 65536], at: usize, a: u32, b: u32, c: u32, d: u32, n: u32) -> bool {
     if at > 65536 {
         return false;
     }
@@ -124,7 +124,7 @@ pub fn stand(buf: &[u8; 65536], at: usize, a: u32, b: u32, c: u32, d: u32, n: u3
 }
 
 // The bytes from a up to e are zero.
-pub fn blank(buf: &[u8; 65536], a: usize, e: usize) -> bool {
+pub(crate) fn blank(buf: &[u8; 65536], a: usize, e: usize) -> bool {
     if e > 65536 {
         return false;
     }

@@ -14,7 +14,7 @@ pub struct State {
     pub case: Case,
 }
 
-pub fn start() -> State {
+pub(crate) fn start() -> State {
     let tally = rows::start();
     let family = Row {
         kind: 0,
@@ -47,7 +47,7 @@ fn print_name(w: u32) {
 }
 
 // A family's name, the 16 bytes of its row, and how many of its answers agreed.
-pub fn print_family(f: Row, agreed: u64) {
+pub(crate) fn print_family(f: Row, agreed: u64) {
     if f.d == 0 {
         return;
     }
@@ -176,7 +176,7 @@ fn family(before: State, s: &[u8], r: Row) -> State {
     }
 }
 
-pub fn row(
+pub(crate) fn row(
     before: State,
     s: &[u8],
     buf: &mut [u8; 65536],

@@ -14,7 +14,7 @@ pub enum Read {
     Malformed,
 }
 
-pub fn of(s: &[u8]) -> Read {
+pub(crate) fn of(s: &[u8]) -> Read {
     let Hex::Is(kind) = rows::column(s, 0, 2, b' ') else {
         return Read::Malformed;
     };

@@ -166,7 +166,7 @@ fn came_to(outcome: Outcome, size: usize) -> Came {
 }
 
 // A row, with n bytes of a deck at hand. Behind an answer the next deck starts empty.
-pub fn row(s: &[u8], n: usize, file: &mut [u8; ROOM], buf: &mut [u8; ROOM]) -> Came {
+pub(crate) fn row(s: &[u8], n: usize, file: &mut [u8; ROOM], buf: &mut [u8; ROOM]) -> Came {
     match crate::row::letter(s) {
         b'd' => came_to(Outcome::Other, crate::piece::text(s, n, file)),
         b'b' => came_to(Outcome::Other, crate::piece::byte(s, n, file)),

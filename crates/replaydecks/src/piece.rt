@@ -41,7 +41,7 @@ fn repeat(s: &[u8], end: u8, times: u32, n: usize, file: &mut [u8; ROOM]) -> usi
 }
 
 // A row of text. A tilde is a line's end.
-pub fn text(s: &[u8], n: usize, file: &mut [u8; ROOM]) -> usize {
+pub(crate) fn text(s: &[u8], n: usize, file: &mut [u8; ROOM]) -> usize {
     let times = crate::row::column(s, 0);
     let count = crate::row::column(s, 1);
     if count > 107 {
@@ -55,7 +55,7 @@ pub fn text(s: &[u8], n: usize, file: &mut [u8; ROOM]) -> usize {
 }
 
 // A row of one byte, whichever it is.
-pub fn byte(s: &[u8], n: usize, file: &mut [u8; ROOM]) -> usize {
+pub(crate) fn byte(s: &[u8], n: usize, file: &mut [u8; ROOM]) -> usize {
     let times = crate::row::column(s, 0);
     let value = crate::row::column(s, 1);
     if value > 255 {

@@ -7,7 +7,7 @@ fn end(i: usize) -> u8 {
 }
 
 // The number in a column; where none can be read, the greatest, which no row has.
-pub fn column(s: &[u8], i: usize) -> u32 {
+pub(crate) fn column(s: &[u8], i: usize) -> u32 {
     if i > 13 {
         return 0xffffffff;
     }
@@ -17,6 +17,6 @@ pub fn column(s: &[u8], i: usize) -> u32 {
     }
 }
 
-pub fn letter(s: &[u8]) -> u8 {
+pub(crate) fn letter(s: &[u8]) -> u8 {
     if s.len() == 0 { 0 } else { s[0] }
 }

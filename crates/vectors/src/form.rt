@@ -3,7 +3,7 @@ use encoder::Encoded;
 use refusal::Refusal;
 
 // What no row expects: a refusal at a place that is not 0.
-pub fn unknown() -> Encoded {
+pub(crate) fn unknown() -> Encoded {
     Encoded::Refused(Refusal::Line, 1)
 }
 
@@ -197,7 +197,7 @@ fn floating(form: u32, name: &[u8]) -> bool {
 }
 
 // The encoder's answer to a form and its operands.
-pub fn encoded(form: u32, name: &[u8], a: u32, b: u32, c: u32, d: u32) -> Encoded {
+pub(crate) fn encoded(form: u32, name: &[u8], a: u32, b: u32, c: u32, d: u32) -> Encoded {
     if !whole_number(form, name) && !floating(form, name) {
         return unknown();
     }
