@@ -1,4 +1,3 @@
-use native.Mathlib.Omega.{arith}
 use Rattle.handheld.proofs.Shown.{above, within}
 use borrow.Author.Needs.{needs}
 use Rattle.handheld.proofs.field.Statement.{statement}
