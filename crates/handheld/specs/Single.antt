@@ -26,19 +26,20 @@ use Rattle.handheld.specs.declared.Said.the-variants as Said
 
 -- ---- what a line says
 
--- a number in 32 bits, their largest for any larger one: that is no register, label, constant's or cell's index
+-- "A well-formed number too big for its field has that field's refusal": a number in 32 bits; their largest for any larger one,
+-- since that is too big for a register, a label, and the index of a constant or a cell
 abbrev pub field : Number → ℕ
 field (Value n) = cond (leb n 4294967295) n 4294967295
 field TooBig = 4294967295
 
--- the constant that a deck takes; its one refusal is 2
+-- a constant as a deck takes it; its one refusal is 2
 abbrev pub constant-of : Answer Content → Said
 constant-of (accepted (Deck.constant c)) = Said.Constant c
 constant-of (accepted (Deck.order o)) = Said.Other
 constant-of (accepted (Deck.head h)) = Said.Other
 constant-of (refused n p) = Said.TooBig
 
--- a head is neither order nor constant
+-- what a line says; a head is neither order nor constant
 unfoldable pub says : Form → Said
 says (Form.Unary u d s) = Said.Order (Order.Unary u (field d) (field s))
 says (Form.Scratched u d s t) = Said.Order (Order.Scratched u (field d) (field s) (field t))
@@ -71,7 +72,7 @@ order-put tag Said.Other s = no-such s
 unfoldable pub line-put : (tag : ℕ) → Form → State → Outcome
 line-put tag f s = order-put tag (says f) s
 
--- 2 comes behind 8
+-- a float beyond 2^53 is 2, behind 8
 abbrev pub as-constant : (k : ℕ) → Said → State → Outcome
 as-constant k (Said.Order o) s = no-such s
 as-constant k (Said.Constant c) s = put 0 (constant-fault k) (constant-items k c) s

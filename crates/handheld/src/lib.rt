@@ -102,7 +102,7 @@ pub extern "C" fn deck_text(file: &[u8], out: &mut [u8]) -> usize
 
 // ---- single orders
 
-// What a line says of itself: an order, a constant, a float beyond 2^53, or neither of them.
+// What a line says: an order, a constant, a float beyond 2^53, or none of these.
 pub enum Said {
     Order(Order),
     Constant(Constant),
@@ -110,7 +110,7 @@ pub enum Said {
     Other,
 }
 
-// A number in 32 bits, their largest for any larger one: no field takes that.
+// A number in 32 bits; their largest for any larger one, since no field takes that.
 fn field(n: Number) -> u32
     ensures { λ r. ⌜ r ≡ field-of n ⌝ }
 {
@@ -125,6 +125,7 @@ fn field(n: Number) -> u32
     }
 }
 
+// The constant of a `float` or `bits` line.
 fn constant(form: Form) -> Said
     ensures { λ r. ⌜ r ≡ constant-of (judged form) ⌝ }
 {
