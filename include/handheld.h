@@ -71,7 +71,14 @@ uint32_t deck_emit_in(const uint8_t *file, size_t file_length, uint8_t *buf, siz
 size_t deck_text(const uint8_t *file, size_t file_length, uint8_t *out, size_t out_length);
 
 /* The record of single orders. All zeros before the first order, as is the label memory; the jump
-   memory may hold anything. */
+   memory may hold anything.
+
+   An entry of label memory: its low half is 0 while the label has no place, else the place + 1; its high
+   half is 0. order_finish refuses with DECK_VALUE where any entry has another high half, or a place
+   beyond the length or at no multiple of 4.
+
+   A record is DECK_VALUE too where its length exceeds the buffer or DECK_ROOM, or is no multiple of 4, or
+   where there are more than 4,096 jumps. */
 enum {
     ORDER_LENGTH, /* bytes written */
     ORDER_JUMPS,
@@ -81,10 +88,21 @@ enum {
 
 /* One order by its line in a deck file, byte 10 included; any other line is DECK_LINE, a constant's
    too. Its words go behind those written, its jumps behind the others, with the tag. A refusal changes
-   nothing. Answers the number. No head is known here: an index is DECK_COUNT above 4,095 only, and
-   DECK_UNSAVED never comes. */
+   nothing. Answers the number. No head is known here, and no count: the index of a cell goes up to
+   268,435,199, so that its offset, 8 times the index, is at most 0x7FFFF7FF, and a larger one is
+   DECK_VALUE. DECK_COUNT comes for k of load_const alone, above 1,007; DECK_BASE and DECK_UNSAVED
+   never come. Of two refusals the first of these is answered: DECK_LINE, DECK_CLOSED, DECK_REGISTER,
+   DECK_LABEL, DECK_VALUE, DECK_COUNT, DECK_TWICE, DECK_FULL. */
 uint32_t order_emit(const uint8_t *line, size_t line_length, uint32_t tag, uint8_t *buf, size_t buf_length,
                     uint64_t labels[DECK_LABELS], uint32_t jumps[DECK_JUMPS], uint64_t record[ORDER_RECORD]);
+
+/* The constant that a line `float` or `bits` of a deck file says, byte 10 included, as constant k, the
+   one that load_const of k loads. Its 8 bytes go behind those written, and are no code: constants
+   belong behind the last order. Refused with the first of these that holds, which changes nothing:
+   DECK_LINE (any other line), DECK_CLOSED, DECK_VALUE (a float beyond 2^53, or the record), DECK_COUNT
+   (k above 1,007), DECK_TWICE (constant k is there already), DECK_FULL. Answers the number. */
+uint32_t order_constant(const uint8_t *line, size_t line_length, uint32_t k, uint8_t *buf, size_t buf_length,
+                        uint64_t labels[DECK_LABELS], uint32_t jumps[DECK_JUMPS], uint64_t record[ORDER_RECORD]);
 
 /* Every jump's word, and the record closed; a refusal changes neither. told: the place of the refusal
    in bytes, and the tag of the jump that it is about; both 0 where it is about none. Answers the

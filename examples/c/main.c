@@ -38,12 +38,20 @@ static void lay(const char *line, uint32_t tag, uint64_t record[ORDER_RECORD]) {
     printf("%" PRIu32 " %s", number, line);
 }
 
-static void by_hand(const char *const *lines, uint32_t count) {
+/* Lays a line's constant as constant k. */
+static void lay_constant(const char *line, uint32_t k, uint64_t record[ORDER_RECORD]) {
+    uint32_t number = order_constant((const uint8_t *)line, strlen(line), k, code, sizeof code, labels, jumps, record);
+    printf("%" PRIu32 " constant %" PRIu32 ": %s", number, k, line);
+}
+
+/* Orders, and behind them the constants that they load, each with its number among the constants. */
+static void by_hand(const char *const *lines, uint32_t count, const char *const *constants, uint32_t constant_count) {
     uint64_t record[ORDER_RECORD] = {0};
     uint32_t told[2];
     memset(code, 0, sizeof code);
     memset(labels, 0, sizeof labels);
     for (uint32_t i = 0; i < count; i++) lay(lines[i], i + 1, record);
+    for (uint32_t k = 0; k < constant_count; k++) lay_constant(constants[k], k, record);
     uint32_t number = order_finish(code, sizeof code, labels, jumps, record, told);
     printf("%" PRIu32 " finish: place %" PRIu32 ", tag %" PRIu32 ", length %" PRIu64 ", jumps %" PRIu64 ", closed %" PRIu64 "\n",
            number, told[0], told[1], record[ORDER_LENGTH], record[ORDER_JUMPS], record[ORDER_CLOSED]);
@@ -59,7 +67,9 @@ int main(int argc, char **argv) {
     }
     deck(fread(file, 1, sizeof file, in));
     fclose(in);
-    by_hand((const char *const[]){"label,0\n", "minus,10,10,11\n", "minus,10,10,32\n", "float,3\n", "branch,10,0,0\n"}, 5);
-    by_hand((const char *const[]){"fmov,10,11\n", "branch,10,7,1\n"}, 2);
+    by_hand((const char *const[]){"label,0\n", "minus,10,10,11\n", "minus,10,10,32\n", "float,3\n", "branch,10,0,0\n"}, 5, NULL, 0);
+    by_hand((const char *const[]){"fmov,10,11\n", "branch,10,7,1\n"}, 2, NULL, 0);
+    by_hand((const char *const[]){"load_const,10,1\n", "times,10,10,11\n", "get,12,mem,4096\n", "get,12,mem,268435200\n"}, 4,
+            (const char *const[]){"float,3\n", "bits,3fb999999999999a\n", "float,9007199254740993\n", "fmov,0,0\n"}, 4);
     return 0;
 }

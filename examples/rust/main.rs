@@ -31,6 +31,16 @@ mod handheld {
                 jumps: &mut [u32; JUMPS],
                 record: &mut [u64; 3],
             ) -> u32;
+            pub fn order_constant(
+                line: *const u8,
+                n: usize,
+                k: u32,
+                buf: *mut u8,
+                m: usize,
+                labels: &mut [u64; LABELS],
+                jumps: &mut [u32; JUMPS],
+                record: &mut [u64; 3],
+            ) -> u32;
             pub fn order_finish(
                 buf: *mut u8,
                 m: usize,
@@ -89,6 +99,22 @@ mod handheld {
             }
         }
 
+        /// The constant that a line says, as constant k.
+        pub fn constant(&mut self, line: &[u8], k: u32) -> u32 {
+            unsafe {
+                c::order_constant(
+                    line.as_ptr(),
+                    line.len(),
+                    k,
+                    self.buf.as_mut_ptr(),
+                    self.buf.len(),
+                    &mut self.labels,
+                    &mut self.jumps,
+                    &mut self.record,
+                )
+            }
+        }
+
         /// The number, and the refusal's place and tag.
         pub fn finish(&mut self) -> (u32, [u32; 2]) {
             let mut told = [0; 2];
@@ -116,11 +142,14 @@ fn deck(file: &[u8]) {
     );
 }
 
-/// Lays the lines' orders, each with its number among them as the tag.
-fn by_hand(lines: &[&str]) {
+/// Lays the lines' orders, each with its number among them as the tag, and behind them the constants that they load.
+fn by_hand(lines: &[&str], constants: &[&str]) {
     let mut orders = handheld::Orders::new();
     for (i, line) in lines.iter().enumerate() {
         print!("{} {line}", orders.emit(line.as_bytes(), i as u32 + 1));
+    }
+    for (k, line) in constants.iter().enumerate() {
+        print!("{} constant {k}: {line}", orders.constant(line.as_bytes(), k as u32));
     }
     let (number, [place, tag]) = orders.finish();
     let [length, jumps, closed] = orders.record;
@@ -137,6 +166,10 @@ fn main() {
         std::process::exit(2);
     };
     deck(&std::fs::read(path).unwrap());
-    by_hand(&["label,0\n", "minus,10,10,11\n", "minus,10,10,32\n", "float,3\n", "branch,10,0,0\n"]);
-    by_hand(&["fmov,10,11\n", "branch,10,7,1\n"]);
+    by_hand(&["label,0\n", "minus,10,10,11\n", "minus,10,10,32\n", "float,3\n", "branch,10,0,0\n"], &[]);
+    by_hand(&["fmov,10,11\n", "branch,10,7,1\n"], &[]);
+    by_hand(
+        &["load_const,10,1\n", "times,10,10,11\n", "get,12,mem,4096\n", "get,12,mem,268435200\n"],
+        &["float,3\n", "bits,3fb999999999999a\n", "float,9007199254740993\n", "fmov,0,0\n"],
+    );
 }

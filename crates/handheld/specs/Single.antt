@@ -1,55 +1,87 @@
--- One order by its line's text, and finishing, on a record of three numbers.
-use mathlib.Core.Bool.{Bool, true, false, not, cond}
+-- One order or constant by its line's text, and finishing, on a record of three numbers.
+use mathlib.Core.Bool.{not, cond}
 use mathlib.Core.List.{List, [], _∷_}
 use Prim.Native.Nat.{ℕ}
-use lib.Dec.{eqb}
+use lib.Dec.{leb, eqb}
 use lib.ListN.{getD}
 use Rattle.refusal.specs.Answer.{Answer, accepted, refused}
 use Rattle.refusal.specs.Number.{number-of}
-use Rattle.refusal.specs.declared.Refusal.the-variants.{Line}
+use Rattle.refusal.specs.declared.Refusal.the-variants.{Value as Valued, Line}
+use Rattle.order.specs.declared.Order.the-variants as Order
+use Rattle.text.specs.declared.Number.{Number}
+use Rattle.text.specs.declared.Number.the-variants.{Value, TooBig}
 use Rattle.form.specs.declared.Form.{Form}
 use Rattle.form.specs.declared.Form.the-variants as Form
 use Rattle.deck.specs.Judge.{Content, judged}
 use Rattle.deck.specs.Judge as Deck
 use Rattle.assembler.specs.declared.Asm.{Asm}
+use Rattle.assembler.specs.Constant.{constant-fault, constant-items}
 use Rattle.assembler.specs.State.{State, Outcome}
 use Rattle.assembler.specs.Put.{put}
 use Rattle.finish.specs.Finish.{Ending}
 use Rattle.orders.specs.Emitted.{emitted}
 use Rattle.handheld.specs.Numbers.{number, place}
+use Rattle.handheld.specs.declared.Said.{Said}
+use Rattle.handheld.specs.declared.Said.the-variants as Said
 
--- ---- the order that a line is
+-- ---- what a line says
 
--- a line of an order: no head, no constant, not malformed
-abbrev pub is-order : Form → Bool
-is-order (Form.Head f c s o l m) = false
-is-order (Form.Unary u d s) = true
-is-order (Form.Scratched u d s t) = true
-is-order (Form.Binary u d s t) = true
-is-order (Form.Fused u d s t v) = true
-is-order (Form.Ifelse d s t i) = true
-is-order (Form.LoadConst d k) = true
-is-order (Form.Load d p i) = true
-is-order (Form.Save s p i) = true
-is-order (Form.BranchIf c l e) = true
-is-order (Form.SetLabel l) = true
-is-order (Form.Float minus n) = false
-is-order (Form.Bits n) = false
-is-order Form.Malformed = false
+-- "A well-formed number too big for its field has that field's refusal": a number in 32 bits; their largest for any larger one,
+-- since that is too big for a register, a label, and the index of a constant or a cell
+abbrev pub field : Number → ℕ
+field (Value n) = cond (leb n 4294967295) n 4294967295
+field TooBig = 4294967295
+
+-- a constant as a deck takes it; its one refusal is 2
+abbrev pub constant-of : Answer Content → Said
+constant-of (accepted (Deck.constant c)) = Said.Constant c
+constant-of (accepted (Deck.order o)) = Said.Other
+constant-of (accepted (Deck.head h)) = Said.Other
+constant-of (refused n p) = Said.TooBig
+
+-- what a line says; a head is neither order nor constant
+unfoldable pub says : Form → Said
+says (Form.Unary u d s) = Said.Order (Order.Unary u (field d) (field s))
+says (Form.Scratched u d s t) = Said.Order (Order.Scratched u (field d) (field s) (field t))
+says (Form.Binary u d s t) = Said.Order (Order.Binary u (field d) (field s) (field t))
+says (Form.Fused u d s t v) = Said.Order (Order.Fused u (field d) (field s) (field t) (field v))
+says (Form.Ifelse d s t i) = Said.Order (Order.Ifelse (field d) (field s) (field t) (field i))
+says (Form.LoadConst d k) = Said.Order (Order.LoadConst (field d) (field k))
+says (Form.Load d p i) = Said.Order (Order.Load (field d) p (field i))
+says (Form.Save s p i) = Said.Order (Order.Save (field s) p (field i))
+says (Form.BranchIf c l e) = Said.Order (Order.BranchIf (field c) (field l) e)
+says (Form.SetLabel l) = Said.Order (Order.SetLabel (field l))
+says (Form.Float minus n) = constant-of (judged (Form.Float minus n))
+says (Form.Bits n) = constant-of (judged (Form.Bits n))
+says (Form.Head f c s o l m) = Said.Other
+says Form.Malformed = Said.Other
+
+-- ---- what becomes of it
 
 -- 12, before all else
-abbrev pub no-order : State → Outcome
-no-order s = record { answer = refused (number-of Line) 0; state = s }
+abbrev pub no-such : State → Outcome
+no-such s = record { answer = refused (number-of Line) 0; state = s }
 
--- the order; or its field's refusal, in document 01's order: 8, 1, 3, 2 of the record, 9
-abbrev pub judged-put : (tag : ℕ) → Answer Content → State → Outcome
-judged-put tag (accepted (Deck.order o)) s = emitted tag o s
-judged-put tag (accepted (Deck.head h)) s = no-order s
-judged-put tag (accepted (Deck.constant c)) s = no-order s
-judged-put tag (refused n p) s = put tag n [] s
+abbrev pub order-put : (tag : ℕ) → Said → State → Outcome
+order-put tag (Said.Order o) s = emitted tag o s
+order-put tag (Said.Constant c) s = no-such s
+order-put tag Said.TooBig s = no-such s
+order-put tag Said.Other s = no-such s
 
+-- a line's order
 unfoldable pub line-put : (tag : ℕ) → Form → State → Outcome
-line-put tag f s = cond (is-order f) (judged-put tag (judged f) s) (no-order s)
+line-put tag f s = order-put tag (says f) s
+
+-- a float beyond 2^53 is 2, behind 8
+abbrev pub as-constant : (k : ℕ) → Said → State → Outcome
+as-constant k (Said.Order o) s = no-such s
+as-constant k (Said.Constant c) s = put 0 (constant-fault k) (constant-items k c) s
+as-constant k Said.TooBig s = put 0 (number-of Valued) [] s
+as-constant k Said.Other s = no-such s
+
+-- a line's constant as constant k
+unfoldable pub constant-put : (k : ℕ) → Form → State → Outcome
+constant-put k f s = as-constant k (says f) s
 
 -- ---- the record: length, jump count, and 0 or else closed
 

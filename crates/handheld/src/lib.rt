@@ -4,7 +4,8 @@ ghost use mathlib.Core.List.{List, []};
 ghost use Prim.Native.Nat.{ℕ};
 ghost use Rattle.refusal.specs.Number.{number-of};
 ghost use Rattle.form.specs.Form.{form-of};
-ghost use Rattle.assembler.specs.State.{state, outcome};
+ghost use Rattle.deck.specs.Judge.{judged};
+ghost use Rattle.assembler.specs.State.{state, outcome, told as told-done};
 ghost use Rattle.assembler.specs.Put.{put};
 ghost use Rattle.finish.specs.Finish.{finish};
 ghost use Rattle.routine.specs.Told.{told as told-answer};
@@ -12,17 +13,18 @@ ghost use Rattle.routine.specs.Run.{run};
 ghost use Rattle.print.specs.Text.{length-in, put-in};
 ghost use Rattle.answer.specs.Answer.{deck-text as text-of-deck};
 ghost use Rattle.handheld.specs.Numbers.{number, frame-number as number-of-frame, deck-numbers, Deck, DeckIn, text-number};
-ghost use Rattle.handheld.specs.Single.{is-order as names-order, no-order as no-order-of, line-put, asm-of as record-of, numbers-of as record-numbers, left, order-left, finish-left, finish-told};
+ghost use Rattle.handheld.specs.Single.{field as field-of, constant-of, says as said-by, no-such as no-such-line, line-put, constant-put, asm-of as record-of, numbers-of as record-numbers, record-after, left, order-left, finish-left, finish-told};
 use assembler::Asm;
 use assembler::Done;
-use assembler::Plan;
-use assembler::Tail;
 use deck::Judged;
 use form::Form;
+use order::Constant;
 use order::Frame;
+use order::Order;
 use print::Text;
 use refusal::Refusal;
 use routine::Answer;
+use text::Number;
 
 // ---- a deck file
 
@@ -100,29 +102,71 @@ pub extern "C" fn deck_text(file: &[u8], out: &mut [u8]) -> usize
 
 // ---- single orders
 
-fn is_order(form: Form) -> bool
-    ensures { λ r. ⌜ r ≡ names-order form ⌝ }
+// What a line says: an order, a constant, a float beyond 2^53, or none of these.
+pub enum Said {
+    Order(Order),
+    Constant(Constant),
+    TooBig,
+    Other,
+}
+
+// A number in 32 bits; their largest for any larger one, since no field takes that.
+fn field(n: Number) -> u32
+    ensures { λ r. ⌜ r ≡ field-of n ⌝ }
 {
-    match form {
-        Form::Head(_, _, _, _, _, _) => false,
-        Form::Unary(_, _, _) => true,
-        Form::Scratched(_, _, _, _) => true,
-        Form::Binary(_, _, _, _) => true,
-        Form::Fused(_, _, _, _, _) => true,
-        Form::Ifelse(_, _, _, _) => true,
-        Form::LoadConst(_, _) => true,
-        Form::Load(_, _, _) => true,
-        Form::Save(_, _, _) => true,
-        Form::BranchIf(_, _, _) => true,
-        Form::SetLabel(_) => true,
-        Form::Float(_, _) => false,
-        Form::Bits(_) => false,
-        Form::Malformed => false,
+    match n {
+        Number::Value(v) => {
+            if v > 0xFFFFFFFF {
+                return 0xFFFFFFFF;
+            }
+            v as u32
+        }
+        Number::TooBig => 0xFFFFFFFF,
     }
 }
 
-fn no_order(asm: Asm) -> Done
-    ensures { λ r. ⌜ ((ls js b : List ℕ) → outcome r ls js b ≡ no-order-of (state asm ls js b)) ⌝ }
+// The constant of a `float` or `bits` line.
+fn constant(form: Form) -> Said
+    ensures { λ r. ⌜ r ≡ constant-of (judged form) ⌝ }
+{
+    let j = deck::judge(form);
+    match j {
+        Judged::Constant(c) => Said::Constant(c),
+        Judged::Refused(_) => Said::TooBig,
+        Judged::Order(_) => Said::Other,
+        Judged::Head(_) => Said::Other,
+    }
+}
+
+fn says(form: Form) -> Said
+    ensures { λ r. ⌜ r ≡ said-by form ⌝ }
+{
+    match form {
+        Form::Unary(u, d, s) => Said::Order(Order::Unary(u, field(d), field(s))),
+        Form::Scratched(u, d, s, t) => {
+            Said::Order(Order::Scratched(u, field(d), field(s), field(t)))
+        }
+        Form::Binary(u, d, s, t) => Said::Order(Order::Binary(u, field(d), field(s), field(t))),
+        Form::Fused(u, d, s, t, v) => {
+            Said::Order(Order::Fused(u, field(d), field(s), field(t), field(v)))
+        }
+        Form::Ifelse(d, s, t, i) => {
+            Said::Order(Order::Ifelse(field(d), field(s), field(t), field(i)))
+        }
+        Form::LoadConst(d, k) => Said::Order(Order::LoadConst(field(d), field(k))),
+        Form::Load(d, p, i) => Said::Order(Order::Load(field(d), p, field(i))),
+        Form::Save(s, p, i) => Said::Order(Order::Save(field(s), p, field(i))),
+        Form::BranchIf(c, l, e) => Said::Order(Order::BranchIf(field(c), field(l), e)),
+        Form::SetLabel(l) => Said::Order(Order::SetLabel(field(l))),
+        Form::Float(_, _) => constant(form),
+        Form::Bits(_) => constant(form),
+        Form::Head(_, _, _, _, _, _) => Said::Other,
+        Form::Malformed => Said::Other,
+    }
+}
+
+fn no_such(asm: Asm) -> Done
+    ensures { λ r. ⌜ ((ls js b : List ℕ) → outcome r ls js b ≡ no-such-line (state asm ls js b)) ⌝ }
 {
     Done {
         asm,
@@ -130,23 +174,20 @@ fn no_order(asm: Asm) -> Done
     }
 }
 
-// A field's refusal, behind 8 and what else comes before it.
-fn refuse(
-    why: Refusal,
-    tag: u32,
-    buf: &mut [u8],
-    labels: &mut [u64; 2039],
-    jumps: &mut [u32; 20480],
-    asm: Asm,
-) -> Done
-    ensures { λ r. ⌜ outcome r (now (labels .exit)) (now (jumps .exit)) (now (buf .exit)) ≡ put tag (number-of why) [] (state asm (now (labels .entry)) (now (jumps .entry)) (now (buf .entry))) ⌝ }
+// A float beyond 2^53: 8, or else 2.
+fn too_big(asm: Asm) -> Done
+    ensures { λ r. ⌜ ((ls js b : List ℕ) → outcome r ls js b ≡ put 0 (number-of Refusal.Value) [] (state asm ls js b)) ⌝ }
 {
-    let p = Plan {
-        n: 0,
-        fault: refusal::number(why),
-        w: [0u32; 12],
-    };
-    assembler::place(p, Tail::Nothing, tag, buf, labels, jumps, asm)
+    if asm.closed {
+        return Done {
+            asm,
+            answer: assembler::Answer::Refused(Refusal::Closed, 0),
+        };
+    }
+    Done {
+        asm,
+        answer: assembler::Answer::Refused(Refusal::Value, 0),
+    }
 }
 
 // A line's order.
@@ -160,17 +201,33 @@ fn put_line(
 ) -> Done
     ensures { λ r. ⌜ outcome r (now (labels .exit)) (now (jumps .exit)) (now (buf .exit)) ≡ line-put tag (form-of (now (line .entry))) (state asm (now (labels .entry)) (now (jumps .entry)) (now (buf .entry))) ⌝ }
 {
-    let form = form::read_form(line);
-    if is_order(form) {
-        let j = deck::judge(form);
-        return match j {
-            Judged::Order(o) => orders::emit(o, tag, buf, labels, jumps, asm),
-            Judged::Refused(why) => refuse(why, tag, buf, labels, jumps, asm),
-            Judged::Head(_) => no_order(asm),
-            Judged::Constant(_) => no_order(asm),
-        };
+    let said = says(form::read_form(line));
+    match said {
+        Said::Order(o) => orders::emit(o, tag, buf, labels, jumps, asm),
+        Said::Constant(_) => no_such(asm),
+        Said::TooBig => no_such(asm),
+        Said::Other => no_such(asm),
     }
-    no_order(asm)
+}
+
+// A line's constant, as constant k.
+fn put_constant(
+    line: &[u8],
+    k: u32,
+    buf: &mut [u8],
+    labels: &mut [u64; 2039],
+    jumps: &mut [u32; 20480],
+    asm: Asm,
+) -> Done
+    ensures { λ r. ⌜ outcome r (now (labels .exit)) (now (jumps .exit)) (now (buf .exit)) ≡ constant-put k (form-of (now (line .entry))) (state asm (now (labels .entry)) (now (jumps .entry)) (now (buf .entry))) ⌝ }
+{
+    let said = says(form::read_form(line));
+    match said {
+        Said::Constant(c) => assembler::append_const(k, c, buf, labels, jumps, asm),
+        Said::TooBig => too_big(asm),
+        Said::Order(_) => no_such(asm),
+        Said::Other => no_such(asm),
+    }
 }
 
 // ---- the record of three numbers
@@ -200,6 +257,18 @@ fn numbers_of(asm: Asm) -> [u64; 3]
     [asm.len as u64, asm.jumps as u64, 0]
 }
 
+// The answer's number; the record's numbers anew, if it is no refusal.
+fn kept(d: Done, rec: &mut [u64; 3]) -> u32
+    ensures { λ r. ⌜ (r ≡ number (told-done (d .answer))) × (now (rec .exit) ≡ record-after (told-done (d .answer)) (d .asm) (now (rec .entry))) ⌝ }
+{
+    let a = d.answer;
+    if let assembler::Answer::Refused(why, _) = a {
+        return refusal::number(why) as u32;
+    }
+    *rec = numbers_of(d.asm);
+    0
+}
+
 // One order by its line, byte 10 included: 0, or the number of the refusal. `tag` is kept with each jump.
 #[no_mangle]
 pub extern "C" fn order_emit(
@@ -213,12 +282,23 @@ pub extern "C" fn order_emit(
     ensures { λ r. ⌜ left r (now (rec .exit)) (now (labels .exit)) (now (jumps .exit)) (now (buf .exit)) ≡ order-left (now (rec .entry)) (line-put tag (form-of (now (line .entry))) (state (record-of (now (rec .entry))) (now (labels .entry)) (now (jumps .entry)) (now (buf .entry)))) ⌝ }
 {
     let d = put_line(line, tag, buf, labels, jumps, asm_of(rec));
-    let a = d.answer;
-    if let assembler::Answer::Refused(why, _) = a {
-        return refusal::number(why) as u32;
-    }
-    *rec = numbers_of(d.asm);
-    0
+    kept(d, rec)
+}
+
+// The constant of a `float` or `bits` line, byte 10 included, as constant k: 0, or the number of the refusal.
+#[no_mangle]
+pub extern "C" fn order_constant(
+    line: &[u8],
+    k: u32,
+    buf: &mut [u8],
+    labels: &mut [u64; 2039],
+    jumps: &mut [u32; 20480],
+    rec: &mut [u64; 3],
+) -> u32
+    ensures { λ r. ⌜ left r (now (rec .exit)) (now (labels .exit)) (now (jumps .exit)) (now (buf .exit)) ≡ order-left (now (rec .entry)) (constant-put k (form-of (now (line .entry))) (state (record-of (now (rec .entry))) (now (labels .entry)) (now (jumps .entry)) (now (buf .entry)))) ⌝ }
+{
+    let d = put_constant(line, k, buf, labels, jumps, asm_of(rec));
+    kept(d, rec)
 }
 
 // Finishing: 0, or the number of the refusal, with its place and the jump's tag.
