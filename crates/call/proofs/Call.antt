@@ -16,7 +16,7 @@ use Rattle.machine.specs.State.{State, Sound}
 use Rattle.machine.specs.Step.{CodeAt}
 use Rattle.machine.proofs.Memory.{inside, dist-near, dist-back, load8-local, upd-other}
 use Rattle.machine.proofs.Effects.{and-r}
-use Rattle.machine.proofs.Runs.{joined}
+use Rattle.machine.proofs.Runs.{joined, run-sound}
 use Rattle.order.specs.declared.Place.{Place}
 use Rattle.order.specs.declared.Place.the-variants.{Mem, Stack, Param}
 use Rattle.order.specs.declared.Frame.{Frame}
@@ -35,7 +35,8 @@ use Rattle.call.specs.Plain.{Reading, Reads, Ended}
 use Rattle.call.specs.Terms.{table-used, bottom, base, cell-address, as-called, table-cell, start-f, start, observed, end-obs, Within, frame, Terms}
 use Rattle.call.specs.Layout.{place, code-length, routine-words, line-offset}
 use Rattle.call.specs.Good.{member, Good}
-use Rattle.call.specs.Claim.{callers, Byte-of, Observation, Returned, Claim, ForwardClaim}
+use Rattle.call.specs.Returned.{callers, Byte-of, Observation, Returned}
+use Rattle.call.specs.Claim.{Claim, ForwardClaim}
 use Rattle.call.proofs.Forth.{ends}
 use Rattle.call.proofs.Words.{code-stands}
 use Rattle.call.proofs.Cells.{Inside, at-cell}
@@ -100,7 +101,7 @@ used-holds : (F : Frame) (a1 : ℕ) → T (uses-table F a1) → T (holds-mem F a
 used-holds Fast a1 h = absurd h
 used-holds Indirect a1 h = h
 
-module _ (Q : Floats) (p : Program) (g : Good p) (s : State) (o : Sound s) (c : CodeAt (s .mem) (s .pc) (routine-words p)) (t : Terms (p .head) (code-length p) s) (n : ℕ) (r : Reading) (q : Reads Q p (start (p .head) s) n r) (z : Ended Q p r) where
+module _ (Q : Floats) (p : Program) (g : Good p) (s : State) (o : Sound s) (c : CodeAt (s .mem) (s .pc) (routine-words p)) (t : Terms (p .head) (code-length p) s) (n : ℕ) (r : Reading) (q : Reads Q p (start (p .head) s) n r) (z : Ended p r) where
   abbrev H : Head
   H = p .head
 
@@ -204,7 +205,7 @@ module _ (Q : Floats) (p : Program) (g : Good p) (s : State) (o : Sound s) (c : 
       let b : j < 8 = omega arith in
       ap (u .mem) d ∙ same-bytes (u .mem) (s .mem) (w64 (a + 8 * i)) (h .sound .mem) (o .mem) (h .cells q i k ∙ f i k (j, b, d)) j b ∙ ap (s .mem) (sym d)
 
-  byte-after : (x : ℕ) → x < 2 ^ 64 → (Within (frame H (code-length p) s) x → ⊥) → ((q : Place) (i : ℕ) → i < cell-count H q → Byte-of (cell-address H s q i) x → r .cells q i ≡ as-called H s q i) → u .mem x ≡ s .mem x
+  byte-after : (x : ℕ) → x < 2 ^ 64 → (Within (frame H s) x → ⊥) → ((q : Place) (i : ℕ) → i < cell-count H q → Byte-of (cell-address H s q i) x → r .cells q i ≡ as-called H s q i) → u .mem x ≡ s .mem x
   byte-after x b f k = by (found Mem) (found Stack) (found Param)
     where
       found : (q : Place) → Dec (Inside (base H s q) (cell-count H q) x)
@@ -259,12 +260,13 @@ module _ (Q : Floats) (p : Program) (g : Good p) (s : State) (o : Sound s) (c : 
 
   -- ---- THE CLAIM
 
-  pub returned : Returned Q p s n r
+  pub returned : Returned Q p (code-length p) s n r
   returned =
       record {
         count = prologue-steps H (H .frame) (s .x 11) + (ran .count + epilogue-steps H (H .frame) (s .x 11));
         end = v;
         runs = joined Q (r0 .runs) (joined Q (ran .runs) (w .runs));
+        sound = run-sound Q (w .runs) (h .sound);
         few = omega (arith, ran .few);
         pc = w .pc;
         x = all-of Same callers (registers (H .frame) (w .restored) (w .others) (r0 .others));

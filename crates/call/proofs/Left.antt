@@ -61,7 +61,7 @@ module _ (Q : Floats) (p : Program) (g : Good p) (s : State) (o : Sound s) (c : 
   -- u stands where the reading r stands
   module _ (r : Reading) (u : State) (h : Rel Q p (base H s) (s .pc) (first .x) (first .mem) r u) where
     -- bytes that are neither in cells nor in the frame are the call's
-    pub far-bytes : (x : ℕ) → x < 2 ^ 64 → ((q : Place) → Inside (base H s q) (cell-count H q) x → ⊥) → (Within (frame H (code-length p) s) x → ⊥) → u .mem x ≡ s .mem x
+    pub far-bytes : (x : ℕ) → x < 2 ^ 64 → ((q : Place) → Inside (base H s q) (cell-count H q) x → ⊥) → (Within (frame H s) x → ⊥) → u .mem x ≡ s .mem x
     far-bytes x b k f = h .rest x b k ∙ outside-frame Q p g s o c t x b f
 
     place-kept : (i : ℕ) → i < length (kept (H .frame)) → load8 (u .mem) (bottom H s + below-saves H (s .x 11) + 8 * i) ≡ load8 (first .mem) (bottom H s + below-saves H (s .x 11) + 8 * i)
@@ -91,7 +91,7 @@ module _ (Q : Floats) (p : Program) (g : Good p) (s : State) (o : Sound s) (c : 
         let w : Within (record { start = s .x 11; size = 16 * cells H }) x = (omega (arith, v .0), omega (arith, v .1)) in
         far-bytes x b (λ q y. l .off-table e q x y w) (l .table-frame e x w)))
 
-    module _ (n : ℕ) (q : Reads Q p (start H s) n r) (z : Ended Q p r) where
+    module _ (n : ℕ) (q : Reads Q p (start H s) n r) (z : Ended p r) where
       abbrev here : ℕ
       here = line-offset p (r .line)
 
