@@ -26,10 +26,10 @@ use Rattle.framing.proofs.Claim.{Observed-at, Ready, Leaving}
 use Rattle.call.specs.Program.{Program}
 use Rattle.call.specs.Plain.{Reading, Reads, Ended}
 use Rattle.call.specs.Terms.{table-used, frame-bytes, bottom, base, start, Within, frame, Terms}
-use Rattle.call.specs.Layout.{span, body, items, place, entry, exit, code-items, data-items, code-length, routine-words, line-offset}
+use Rattle.call.specs.Layout.{span, place, exit, code-length, routine-words, line-offset}
 use Rattle.call.specs.Good.{Good}
-use Rattle.call.proofs.Items.{span-append, resolved-length}
-use Rattle.call.proofs.Whole.{exit-part, exit-stands, offset-four, part}
+use Rattle.call.proofs.Items.{resolved-length}
+use Rattle.call.proofs.Whole.{exit-part, exit-stands, offset-four, offset-exit}
 use Rattle.call.proofs.Cells.{Inside, at-cell}
 use Rattle.call.proofs.Follow.{Rel, code-now}
 use Rattle.call.proofs.Saved.{held}
@@ -96,9 +96,7 @@ module _ (Q : Floats) (p : Program) (g : Good p) (s : State) (o : Sound s) (c : 
       here = line-offset p (r .line)
 
       exit-span : here + span (exit p) ≤ code-length p
-      unfolding line-offset items
-      exit-span =
-          omega (arith, part (r .line) (p .lines), span-append (code-items p) (data-items p), span-append (entry p) (body (p .lines) ++ exit p), span-append (body (p .lines)) (exit p))
+      exit-span = offset-exit p (r .line)
 
       saved-kept : (y : ℕ) → List·Memᴰ y (saved (H .mask)) → load8 (u .mem) (bottom H s + 8 * save-cell y) ≡ s .f y
       saved-kept y m =

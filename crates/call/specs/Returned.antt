@@ -44,6 +44,9 @@ pub record Returned (Q : Floats) (p : Program) (code-bytes : ℕ) (s : State) (n
   pub runs : Run Q s count end
   pub sound : Sound end
   pub few : count ≤ 11 * n + frame-steps (p .head) (s .x 11)
+  -- before the end pc is within the code, so it comes to ra, which is outside, at the end and not before
+  pub inside : (k : ℕ) (t : State) → k < count → Run Q s k t → Within (code code-bytes s) (t .pc)
+  pub first : (k : ℕ) (t : State) → k < count → Run Q s k t → t .pc ≡ s .x 1 → ⊥
   -- shared with the twin: pc, which is ra; sp, ra, gp, tp and every register that the psABI preserves; the rounding mode
   pub pc : end .pc ≡ s .x 1
   pub x : (y : ℕ) → T (member y callers) → end .x y ≡ s .x y
