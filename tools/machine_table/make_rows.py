@@ -337,28 +337,27 @@ MODES = ["rne", "rtz", "rdn", "rup", "rmm"]
 
 
 def ask(text, function, modes, shape="w64 ({})"):
-    """modes: a rounding field as it is written, the state's mode, and the mode asked for, if any"""
+    """modes: a rounding field as it is written, the state's mode, and the mode asked for"""
     rd, *sources = text.replace(",", "").split()[1:]
     operands = [str((plain_x if r[0] == "x" else plain_f)(int(r[1:]))) for r in sources]
     for field, m, mode in modes:
-        call = " ".join([f"Q .{function}", *mode, *operands])
+        call = " ".join([f"Q .{function}", mode, *operands])
         ASKED[rd[0]].append((text + field, m, shape.format(call)))
 
 
-NO_FIELD = [("", 3, [])]
-FIXED = [("", 3, ["0"])]
-DYNAMIC = [("", 3, ["3"])]
-FREE = [(f", {name}", (k + 2) % 5, [str(k)]) for k, name in enumerate(MODES)] + [("", m, [str(m)]) for m in range(5)]
+FIXED = [("", 3, "0")]
+DYNAMIC = [("", 3, "3")]
+FREE = [(f", {name}", (k + 2) % 5, str(k)) for k, name in enumerate(MODES)] + [("", m, str(m)) for m in range(5)]
 ask("fadd.d f5, f12, f13", "add", FREE)
 for text, function in [("fsub.d f5, f12, f13", "sub"), ("fmul.d f5, f12, f13", "mul"), ("fdiv.d f5, f12, f13", "div"), ("fsqrt.d f5, f12", "sqrt"), ("fmadd.d f5, f12, f13, f14", "mul-add"), ("fmsub.d f5, f12, f13, f14", "mul-sub"), ("fnmsub.d f5, f12, f13, f14", "neg-mul-add"), ("fnmadd.d f5, f12, f13, f14", "neg-mul-sub"), ("fcvt.d.l f5, x12", "of-l")]:
     ask(text, function, DYNAMIC)
 ask("fcvt.d.w f5, x12", "of-w", FIXED)
-ask("fmin.d f5, f12, f13", "min", NO_FIELD)
-ask("fmax.d f5, f12, f13", "max", NO_FIELD)
+ask("fmin.d f5, f12, f13", "min", DYNAMIC)
+ask("fmax.d f5, f12, f13", "max", DYNAMIC)
 ask("fcvt.w.d x5, f12", "to-w", DYNAMIC, "sext 32 ({})")
 ask("fcvt.l.d x5, f12", "to-l", FREE)
 for text, function in [("fle.d x5, f12, f13", "le"), ("flt.d x5, f12, f13", "lt"), ("feq.d x5, f12, f13", "eq")]:
-    ask(text, function, NO_FIELD, "bit ({})")
+    ask(text, function, DYNAMIC, "bit ({})")
 
 # ---------------------------------------------------------------- the tools
 

@@ -13,13 +13,13 @@ use Rattle.machine.specs.Word.{w64, upd, load8, store8}
 use Rattle.machine.specs.Floats.{Floats}
 use Rattle.machine.specs.State.{State, getx, setx, next}
 use Rattle.machine.specs.Effect.{effect, apply}
-use Rattle.machine.specs.Step.{Run, execs}
+use Rattle.machine.specs.Step.{Among, execs}
 use Rattle.machine.proofs.Effects.{setx-twice}
 use Rattle.machine.proofs.Memory.{wrap-r, Apart, load4-store}
-use Rattle.machine.proofs.Straight.{aligned, path-run}
+use Rattle.machine.proofs.Straight.{aligned, at-first, path-run}
 use Rattle.accesses.specs.Code.{li-code, point-code, access-code}
 use Rattle.accesses.specs.Fault.{offset-limit, access-fault, last-pair}
-use Rattle.accesses.specs.Stands.{Stands, behind, cell-at, with-t0}
+use Rattle.accesses.specs.Stands.{Stands, Goes, behind, cell-at, with-t0}
 use Rattle.accesses.proofs.Then.{passed, leads, through, behind-both}
 use Rattle.accesses.proofs.LoadImmediate.{eight, li-runs}
 
@@ -55,7 +55,7 @@ module _ (Q : Floats) (s : State) (b n : ℕ) (hn : n ≤ offset-limit) where
   abbrev pub pointed : State
   pointed = behind (point-code b n) s (setx (s .x) 5 (cell-at s b n)) (s .f) (s .mem)
 
-  pub point-runs : b < 32 → eqb b 5 ≡ false → Stands (point-code b n) s → Run Q s (length (point-code b n)) pointed
+  pub point-runs : b < 32 → eqb b 5 ≡ false → Stands (point-code b n) s → Goes Q (point-code b n) s pointed
   unfolding point-code effect apply
   point-runs hb e =
       let is : List Instr = li-code 5 (pos n) in
@@ -66,11 +66,11 @@ module _ (Q : Floats) (s : State) (b n : ℕ) (hn : n ≤ offset-limit) where
       (leads Q js _ _ (omega arith) tt (rw (point-x (s .x) b n e) (behind-both Q is js s x (s .f) _ (s .f) (s .mem))))
 
   -- An access through t0 does what a direct one does: X on registers, and f and m.
-  pub access-runs : (near : ℕ) (is : ℕ → ℕ → List Instr) (X : (ℕ → ℕ) → ℕ → ℕ) (f m : ℕ → ℕ) → b < 32 → (ltb n near ≡ false → eqb b 5 ≡ false) → (n < near → Stands (is b n) s → Run Q s (length (is b n)) (behind (is b n) s (X (s .x)) f m)) → (near ≤ n → Stands (is 5 0) pointed → Run Q pointed (length (is 5 0)) (behind (is 5 0) pointed (X (pointed .x)) f m)) → Stands (access-code near is b n) s → Run Q s (length (access-code near is b n)) (behind (access-code near is b n) s (X (with-t0 near b n s)) f m)
+  pub access-runs : (near : ℕ) (is : ℕ → ℕ → List Instr) (X : (ℕ → ℕ) → ℕ → ℕ) (f m : ℕ → ℕ) → b < 32 → (ltb n near ≡ false → eqb b 5 ≡ false) → (n < near → Stands (is b n) s → Goes Q (is b n) s (behind (is b n) s (X (s .x)) f m)) → (near ≤ n → Stands (is 5 0) pointed → Goes Q (is 5 0) pointed (behind (is 5 0) pointed (X (pointed .x)) f m)) → Stands (access-code near is b n) s → Goes Q (access-code near is b n) s (behind (access-code near is b n) s (X (with-t0 near b n s)) f m)
   unfolding access-code
   access-runs near is X f m hb h direct far = by (ltb n near) refl
     where
-      by : (t : Bool) → ltb n near ≡ t → Stands (cond t (is b n) (point-code b n ++ is 5 0)) s → Run Q s (length (cond t (is b n) (point-code b n ++ is 5 0))) (behind (cond t (is b n) (point-code b n ++ is 5 0)) s (X (cond t (s .x) (setx (s .x) 5 (cell-at s b n)))) f m)
+      by : (t : Bool) → ltb n near ≡ t → Stands (cond t (is b n) (point-code b n ++ is 5 0)) s → Goes Q (cond t (is b n) (point-code b n ++ is 5 0)) s (behind (cond t (is b n) (point-code b n ++ is 5 0)) s (X (cond t (s .x) (setx (s .x) 5 (cell-at s b n)))) f m)
       by true e o = direct (ltb-true n near e) o
       by false e o =
           let x : ℕ → ℕ = setx (s .x) 5 (cell-at s b n) in
@@ -84,15 +84,15 @@ module _ (Q : Floats) (s : State) (b n a : ℕ) (hb : b < 32) (hn : n < 2048) (e
   addr : w64 (getx s b + n % 2 ^ 64) ≡ a
   addr = wrap-r (getx s b) n ∙ e
 
-  pub load-float-direct : (d : ℕ) → d < 32 → Stands (I FLD d b (pos n) ∷ []) s → Run Q s 1 (behind (I FLD d b (pos n) ∷ []) s (s .x) (upd (s .f) d (load8 (s .mem) a)) (s .mem))
+  pub load-float-direct : (d : ℕ) → d < 32 → Stands (I FLD d b (pos n) ∷ []) s → Goes Q (I FLD d b (pos n) ∷ []) s (behind (I FLD d b (pos n) ∷ []) s (s .x) (upd (s .f) d (load8 (s .mem) a)) (s .mem))
   unfolding effect apply
   load-float-direct d hd = leads Q _ s _ (omega arith) tt (rw addr)
 
-  pub load-int-direct : (d : ℕ) → d < 32 → Stands (I LD d b (pos n) ∷ []) s → Run Q s 1 (behind (I LD d b (pos n) ∷ []) s (setx (s .x) d (load8 (s .mem) a)) (s .f) (s .mem))
+  pub load-int-direct : (d : ℕ) → d < 32 → Stands (I LD d b (pos n) ∷ []) s → Goes Q (I LD d b (pos n) ∷ []) s (behind (I LD d b (pos n) ∷ []) s (setx (s .x) d (load8 (s .mem) a)) (s .f) (s .mem))
   unfolding effect apply
   load-int-direct d hd = leads Q _ s _ (omega arith) tt (rw addr)
 
-  pub save-float-direct : (d : ℕ) → d < 32 → Stands (S FSD b d (pos n) ∷ []) s → Run Q s 1 (behind (S FSD b d (pos n) ∷ []) s (s .x) (s .f) (store8 (s .mem) a (s .f d)))
+  pub save-float-direct : (d : ℕ) → d < 32 → Stands (S FSD b d (pos n) ∷ []) s → Goes Q (S FSD b d (pos n) ∷ []) s (behind (S FSD b d (pos n) ∷ []) s (s .x) (s .f) (store8 (s .mem) a (s .f d)))
   unfolding effect apply
   save-float-direct d hd = leads Q _ s _ (omega arith) tt (rw addr)
 
@@ -100,16 +100,16 @@ module _ (Q : Floats) (s : State) (b n a a′ : ℕ) (hb : b < 32) (hn : n < 204
   ahead : w64 (getx s b + (n + 8) % 2 ^ 64) ≡ a′
   ahead = wrap-r (getx s b) (n + 8) ∙ e′
 
-  pub load-pair-direct : Stands (I FLD d b (pos n) ∷ I FLD (d + 1) b (pos (n + 8)) ∷ []) s → Run Q s 2 (behind (I FLD d b (pos n) ∷ I FLD (d + 1) b (pos (n + 8)) ∷ []) s (s .x) (upd (upd (s .f) d (load8 (s .mem) a)) (d + 1) (load8 (s .mem) a′)) (s .mem))
+  pub load-pair-direct : Stands (I FLD d b (pos n) ∷ I FLD (d + 1) b (pos (n + 8)) ∷ []) s → Goes Q (I FLD d b (pos n) ∷ I FLD (d + 1) b (pos (n + 8)) ∷ []) s (behind (I FLD d b (pos n) ∷ I FLD (d + 1) b (pos (n + 8)) ∷ []) s (s .x) (upd (upd (s .f) d (load8 (s .mem) a)) (d + 1) (load8 (s .mem) a′)) (s .mem))
   unfolding effect apply
   load-pair-direct = leads Q _ s _ (omega arith) tt (rw (addr Q s b n a hb (omega arith) e, ahead, eight (s .pc)))
 
   -- the first store misses the second word
-  pub save-pair-direct : Apart a 8 (next s) 4 → Stands (S FSD b d (pos n) ∷ S FSD b (d + 1) (pos (n + 8)) ∷ []) s → Run Q s 2 (behind (S FSD b d (pos n) ∷ S FSD b (d + 1) (pos (n + 8)) ∷ []) s (s .x) (s .f) (store8 (store8 (s .mem) a (s .f d)) a′ (s .f (d + 1))))
+  pub save-pair-direct : Apart a 8 (next s) 4 → Stands (S FSD b d (pos n) ∷ S FSD b (d + 1) (pos (n + 8)) ∷ []) s → Goes Q (S FSD b d (pos n) ∷ S FSD b (d + 1) (pos (n + 8)) ∷ []) s (behind (S FSD b d (pos n) ∷ S FSD b (d + 1) (pos (n + 8)) ∷ []) s (s .x) (s .f) (store8 (store8 (s .mem) a (s .f d)) a′ (s .f (d + 1))))
   unfolding effect apply
   save-pair-direct h o =
       let is : List Instr = S FSD b d (pos n) ∷ S FSD b (d + 1) (pos (n + 8)) ∷ [] in
       let p = addr Q s b n a hb (omega arith) e in
       let q : execs Q is s ≡ behind is s (s .x) (s .f) (store8 (store8 (s .mem) a (s .f d)) a′ (s .f (d + 1))) = rw (p, ahead, eight (s .pc)) in
       rw (← q)
-      (path-run Q is s (omega arith) (o .aligned, o .code .0, (aligned s (o .aligned), rw p (load4-store (s .mem) a (s .f d) (next s) h ∙ o .code .1 .0), tt)))
+      (path-run Q (Among (s .pc) 2) is s (omega arith) (at-first (s .pc) 1 (o .sound .pc), o .aligned, o .code .0, ((1, omega arith, refl), aligned s (o .aligned), rw p (load4-store (s .mem) a (s .f d) (next s) h ∙ o .code .1 .0), tt)))

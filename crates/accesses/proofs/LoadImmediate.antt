@@ -16,12 +16,11 @@ use Rattle.machine.specs.Word.{w64}
 use Rattle.machine.specs.Floats.{Floats}
 use Rattle.machine.specs.State.{State, setx}
 use Rattle.machine.specs.Effect.{effect, apply}
-use Rattle.machine.specs.Step.{Run}
 use Rattle.machine.proofs.Effects.{setx-zero, setx-same, setx-twice, twos-small}
 use Rattle.machine.proofs.Placed.{Valids}
 use Rattle.accesses.specs.Code.{near-li, li-code}
 use Rattle.accesses.specs.Fault.{li-takes, li-fault}
-use Rattle.accesses.specs.Stands.{Stands, behind}
+use Rattle.accesses.specs.Stands.{Stands, Goes, behind}
 use Rattle.accesses.proofs.Parts.{parts}
 use Rattle.accesses.proofs.Then.{passed, leads}
 
@@ -56,10 +55,10 @@ module _ (d : ℕ) (z : ℤ) (hd : d < 32) where
 
   module _ (t : T (li-takes z)) (Q : Floats) (s : State) where
     -- The register holds the number, sign-extended to 64 bits; nothing else changes.
-    pub li-runs : Stands (li-code d z) s → Run Q s (length (li-code d z)) (behind (li-code d z) s (setx (s .x) d (twos 64 z)) (s .f) (s .mem))
+    pub li-runs : Stands (li-code d z) s → Goes Q (li-code d z) s (behind (li-code d z) s (setx (s .x) d (twos 64 z)) (s .f) (s .mem))
     unfolding li-code effect apply
     li-runs = by (ltb (mag z) near-li) li-valid
       where
-        by : (b : Bool) → Valids (form b) → Stands (form b) s → Run Q s (length (form b)) (behind (form b) s (setx (s .x) d (twos 64 z)) (s .f) (s .mem))
+        by : (b : Bool) → Valids (form b) → Stands (form b) s → Goes Q (form b) s (behind (form b) s (setx (s .x) d (twos 64 z)) (s .f) (s .mem))
         by true v o = let e : w64 (0 + twos 64 z) ≡ twos 64 z = omega (arith, twos-small z) in leads Q (form true) s _ v tt (rw e) o
         by false v o = leads Q (form false) s _ v tt (rw (eight (s .pc), setx-sum (s .x) d _ _ (twos 64 z) (parts z t))) o

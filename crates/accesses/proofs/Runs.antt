@@ -13,13 +13,12 @@ use Rattle.isa.specs.Instr.{Instr, R, I, U, ADD, ADDI, LUI}
 use Rattle.machine.specs.Word.{w64, upd, load8, store8}
 use Rattle.machine.specs.Floats.{Floats}
 use Rattle.machine.specs.State.{State, getx, setx, next}
-use Rattle.machine.specs.Step.{Run}
 use Rattle.machine.proofs.Effects.{and-l, and-r}
 use Rattle.machine.proofs.Memory.{Apart, dist-ahead}
 use Rattle.machine.proofs.Placed.{Valids}
 use Rattle.accesses.specs.Code.{near-li, li-code, point-code, access-code, near-one, near-pair, load-float-code, save-float-code, load-int-code, load-complex-code, save-complex-code}
 use Rattle.accesses.specs.Fault.{offset-limit, one-fault, last-pair, pair-fault}
-use Rattle.accesses.specs.Stands.{Stands, behind, cell-at, with-t0}
+use Rattle.accesses.specs.Stands.{Stands, Goes, behind, cell-at, with-t0}
 use Rattle.accesses.proofs.Then.{valids-join}
 use Rattle.accesses.proofs.LoadImmediate.{li-valid}
 use Rattle.accesses.proofs.Access.{Accepted, accepted, access-runs, load-float-direct, load-int-direct, save-float-direct, load-pair-direct, save-pair-direct}
@@ -93,7 +92,7 @@ module _ (d b n : ℕ) (h : one-fault d b n ≡ 0) where
 
   module _ (Q : Floats) (s : State) where
     -- the float register holds the cell
-    pub load-float-runs : Stands (load-float-code d b n) s → Run Q s (length (load-float-code d b n)) (behind (load-float-code d b n) s (with-t0 near-one b n s) (upd (s .f) d (load8 (s .mem) (cell-at s b n))) (s .mem))
+    pub load-float-runs : Stands (load-float-code d b n) s → Goes Q (load-float-code d b n) s (behind (load-float-code d b n) s (with-t0 near-one b n s) (upd (s .f) d (load8 (s .mem) (cell-at s b n))) (s .mem))
     unfolding setx upd
     load-float-runs =
         let p = one-fits in
@@ -102,7 +101,7 @@ module _ (d b n : ℕ) (h : one-fault d b n ≡ 0) where
         (λ l. load-float-direct Q _ 5 0 _ (omega arith) (omega arith) (at-zero (getx s b) n) d (p .0))
 
     -- the register holds the cell; x0 stays 0
-    pub load-int-runs : Stands (load-int-code d b n) s → Run Q s (length (load-int-code d b n)) (behind (load-int-code d b n) s (setx (with-t0 near-one b n s) d (load8 (s .mem) (cell-at s b n))) (s .f) (s .mem))
+    pub load-int-runs : Stands (load-int-code d b n) s → Goes Q (load-int-code d b n) s (behind (load-int-code d b n) s (setx (with-t0 near-one b n s) d (load8 (s .mem) (cell-at s b n))) (s .f) (s .mem))
     unfolding setx upd
     load-int-runs =
         let p = one-fits in
@@ -111,7 +110,7 @@ module _ (d b n : ℕ) (h : one-fault d b n ≡ 0) where
         (λ l. load-int-direct Q _ 5 0 _ (omega arith) (omega arith) (at-zero (getx s b) n) d (p .0))
 
     -- the cell holds the float register
-    pub save-float-runs : Stands (save-float-code d b n) s → Run Q s (length (save-float-code d b n)) (behind (save-float-code d b n) s (with-t0 near-one b n s) (s .f) (store8 (s .mem) (cell-at s b n) (s .f d)))
+    pub save-float-runs : Stands (save-float-code d b n) s → Goes Q (save-float-code d b n) s (behind (save-float-code d b n) s (with-t0 near-one b n s) (s .f) (store8 (s .mem) (cell-at s b n) (s .f d)))
     unfolding setx upd
     save-float-runs =
         let p = one-fits in
@@ -147,7 +146,7 @@ module _ (d b n : ℕ) (h : pair-fault d b n ≡ 0) where
 
   module _ (Q : Floats) (s : State) where
     -- both float registers hold their cells
-    pub load-complex-runs : Stands (load-complex-code d b n) s → Run Q s (length (load-complex-code d b n)) (behind (load-complex-code d b n) s (with-t0 near-pair b n s) (upd (upd (s .f) d (load8 (s .mem) (cell-at s b n))) (d + 1) (load8 (s .mem) (cell-at s b (n + 8)))) (s .mem))
+    pub load-complex-runs : Stands (load-complex-code d b n) s → Goes Q (load-complex-code d b n) s (behind (load-complex-code d b n) s (with-t0 near-pair b n s) (upd (upd (s .f) d (load8 (s .mem) (cell-at s b n))) (d + 1) (load8 (s .mem) (cell-at s b (n + 8)))) (s .mem))
     unfolding setx upd
     load-complex-runs =
         let p = pair-fits in
@@ -170,7 +169,7 @@ module _ (d b n : ℕ) (h : pair-fault d b n ≡ 0) where
         rw e (last-word (cell-at s b n) (s .pc) (k + 1) (omega (arith, point-length b n)) (rw (far-form near-pair _ b n l, length-append (point-code b n) _, g) at a))
 
     -- both cells hold their float registers, where the first misses the code
-    pub save-complex-runs : Away → Stands (save-complex-code d b n) s → Run Q s (length (save-complex-code d b n)) (behind (save-complex-code d b n) s (with-t0 near-pair b n s) (s .f) (store8 (store8 (s .mem) (cell-at s b n) (s .f d)) (cell-at s b (n + 8)) (s .f (d + 1))))
+    pub save-complex-runs : Away → Stands (save-complex-code d b n) s → Goes Q (save-complex-code d b n) s (behind (save-complex-code d b n) s (with-t0 near-pair b n s) (s .f) (store8 (store8 (s .mem) (cell-at s b n) (s .f d)) (cell-at s b (n + 8)) (s .f (d + 1))))
     unfolding setx upd
     save-complex-runs away =
         let p = pair-fits in

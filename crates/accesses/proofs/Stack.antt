@@ -14,11 +14,10 @@ use Rattle.machine.specs.Word.{w64, upd}
 use Rattle.machine.specs.Floats.{Floats}
 use Rattle.machine.specs.State.{State, setx}
 use Rattle.machine.specs.Effect.{write-x, minus, effect, apply}
-use Rattle.machine.specs.Step.{Run}
 use Rattle.machine.proofs.Placed.{Valids}
 use Rattle.accesses.specs.Code.{near-size, li-code, sub-stack-code, add-stack-code, allocate-stack-code}
 use Rattle.accesses.specs.Fault.{offset-limit, li-takes, stack-fault}
-use Rattle.accesses.specs.Stands.{Stands, behind, with-size}
+use Rattle.accesses.specs.Stands.{Stands, Goes, behind, with-size}
 use Rattle.accesses.proofs.Then.{passed, leads, valids-join, through, behind-both}
 use Rattle.accesses.proofs.Numbers.{mag-neg}
 use Rattle.accesses.proofs.LoadImmediate.{li-valid, li-runs}
@@ -41,11 +40,11 @@ sized n i z j = cond (ltb n near-size) (i ∷ []) (li-code 5 z ++ (j ∷ []))
 
 module _ (Q : Floats) (s : State) (n : ℕ) (z : ℤ) (t : T (li-takes z)) (i j : Instr) (v : ℕ) where
   -- sp set to v: directly, or from t0 that holds z
-  pub size-runs : (n < near-size → Valid i) → (n < near-size → effect Q i s ≡ write-x 2 v) → Valid j → effect Q j (behind (li-code 5 z) s (setx (s .x) 5 (twos 64 z)) (s .f) (s .mem)) ≡ write-x 2 v → Stands (sized n i z j) s → Run Q s (length (sized n i z j)) (behind (sized n i z j) s (setx (with-size n z s) 2 v) (s .f) (s .mem))
+  pub size-runs : (n < near-size → Valid i) → (n < near-size → effect Q i s ≡ write-x 2 v) → Valid j → effect Q j (behind (li-code 5 z) s (setx (s .x) 5 (twos 64 z)) (s .f) (s .mem)) ≡ write-x 2 v → Stands (sized n i z j) s → Goes Q (sized n i z j) s (behind (sized n i z j) s (setx (with-size n z s) 2 v) (s .f) (s .mem))
   unfolding apply
   size-runs vi hi vj hj = by (ltb n near-size) refl
     where
-      by : (b : Bool) → ltb n near-size ≡ b → Stands (cond b (i ∷ []) (li-code 5 z ++ (j ∷ []))) s → Run Q s (length (cond b (i ∷ []) (li-code 5 z ++ (j ∷ [])))) (behind (cond b (i ∷ []) (li-code 5 z ++ (j ∷ []))) s (setx (cond b (s .x) (setx (s .x) 5 (twos 64 z))) 2 v) (s .f) (s .mem))
+      by : (b : Bool) → ltb n near-size ≡ b → Stands (cond b (i ∷ []) (li-code 5 z ++ (j ∷ []))) s → Goes Q (cond b (i ∷ []) (li-code 5 z ++ (j ∷ []))) s (behind (cond b (i ∷ []) (li-code 5 z ++ (j ∷ []))) s (setx (cond b (s .x) (setx (s .x) 5 (twos 64 z))) 2 v) (s .f) (s .mem))
       by true e o = let l : n < near-size = ltb-true n near-size e in leads Q (i ∷ []) s _ (vi l, tt) tt (rw (hi l)) o
       by false e o =
           let x : ℕ → ℕ = setx (s .x) 5 (twos 64 z) in
@@ -85,7 +84,7 @@ allocate-stack-valid n =
 
 module _ (Q : Floats) (s : State) (n : ℕ) (h : stack-fault n ≡ 0) where
   -- sp less n
-  pub sub-stack-runs : Stands (sub-stack-code n) s → Run Q s (length (sub-stack-code n)) (behind (sub-stack-code n) s (setx (with-size n (negℤ (pos n)) s) 2 (minus (s .x 2) n)) (s .f) (s .mem))
+  pub sub-stack-runs : Stands (sub-stack-code n) s → Goes Q (sub-stack-code n) s (behind (sub-stack-code n) s (setx (with-size n (negℤ (pos n)) s) 2 (minus (s .x 2) n)) (s .f) (s .mem))
   unfolding sub-stack-code effect setx upd
   sub-stack-runs =
       let l : n ≤ offset-limit = size-fits n h in
@@ -93,7 +92,7 @@ module _ (Q : Floats) (s : State) (n : ℕ) (h : stack-fault n ≡ 0) where
       size-runs Q s n (negℤ (pos n)) (takes-minus n l) (I ADDI 2 2 (negℤ (pos n))) (R ADD 2 2 5) _ (less-valid n) (λ k. rw e) (omega arith) (rw e)
 
   -- sp and n
-  pub add-stack-runs : Stands (add-stack-code n) s → Run Q s (length (add-stack-code n)) (behind (add-stack-code n) s (setx (with-size n (pos n) s) 2 (w64 (s .x 2 + n))) (s .f) (s .mem))
+  pub add-stack-runs : Stands (add-stack-code n) s → Goes Q (add-stack-code n) s (behind (add-stack-code n) s (setx (with-size n (pos n) s) 2 (w64 (s .x 2 + n))) (s .f) (s .mem))
   unfolding add-stack-code effect setx upd
   add-stack-runs =
       let l : n ≤ offset-limit = size-fits n h in
@@ -101,7 +100,7 @@ module _ (Q : Floats) (s : State) (n : ℕ) (h : stack-fault n ≡ 0) where
       size-runs Q s n (pos n) (le→leb n offset-limit l) (I ADDI 2 2 (pos n)) (R ADD 2 2 5) _ (λ k. omega arith) (λ k. rw e) (omega arith) (rw e)
 
   -- sp less n, and s5 the same
-  pub allocate-stack-runs : Stands (allocate-stack-code n) s → Run Q s (length (allocate-stack-code n)) (behind (allocate-stack-code n) s (setx (setx (with-size n (pos n) s) 2 (minus (s .x 2) n)) 21 (minus (s .x 2) n)) (s .f) (s .mem))
+  pub allocate-stack-runs : Stands (allocate-stack-code n) s → Goes Q (allocate-stack-code n) s (behind (allocate-stack-code n) s (setx (setx (with-size n (pos n) s) 2 (minus (s .x 2) n)) 21 (minus (s .x 2) n)) (s .f) (s .mem))
   unfolding allocate-stack-code effect apply setx upd
   allocate-stack-runs =
       let l : n ≤ offset-limit = size-fits n h in

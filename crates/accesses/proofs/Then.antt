@@ -1,5 +1,5 @@
 -- One list of instructions behind another, from states that stand at their words. Assumes nothing.
-use mathlib.Core.Path.{_≡_}
+use mathlib.Core.Path.{_≡_, _∙_}
 use mathlib.Core.Bool.{Bool, true, false, cond}
 use mathlib.Core.List.{List, [], _∷_, _++_, map-append}
 use Prim.Native.Nat.{ℕ, suc, _+_, _*_, _%_}
@@ -11,11 +11,11 @@ use Rattle.isa.specs.Encode.{encode}
 use Rattle.machine.specs.Word.{w64}
 use Rattle.machine.specs.Floats.{Floats}
 use Rattle.machine.specs.State.{State}
-use Rattle.machine.specs.Step.{words, Run, execs, Fit}
-use Rattle.machine.proofs.Runs.{joined, run-sound}
+use Rattle.machine.specs.Step.{words, execs, Fit}
+use Rattle.machine.proofs.Runs.{joined, wider, run-sound}
 use Rattle.machine.proofs.Straight.{lead, lead-run}
 use Rattle.machine.proofs.Placed.{Valids, code-left, code-right}
-use Rattle.accesses.specs.Stands.{Stands, behind}
+use Rattle.accesses.specs.Stands.{Stands, Goes, behind}
 
 -- a test passed in a row of them
 pub passed : (b : Bool) (u k : ℕ) → cond b u (suc k) ≡ 0 → T b × (u ≡ 0)
@@ -33,8 +33,11 @@ module _ (Q : Floats) where
   fits (i ∷ is) s v = (v .0, fits is _ (v .1))
 
   -- code that neither jumps nor stores before its last word
-  pub leads : (is : List Instr) (s t : State) → Valids is → T (lead Q is s) → execs Q is s ≡ t → Stands is s → Run Q s (length is) t
-  leads is s t v h e o = rw (← e) (lead-run Q is s (fits is s v) h (o .aligned) (o .code))
+  pub leads : (is : List Instr) (s t : State) → Valids is → T (lead Q is s) → execs Q is s ≡ t → Stands is s → Goes Q is s t
+  leads is s t v h e o = rw (← e) (lead-run Q is s (fits is s v) h (o .sound .pc) (o .aligned) (o .code))
+
+  plain : (p a b : ℕ) → w64 (w64 (p + 4 * a) + 4 * b) ≡ w64 (p + 4 * (a + b))
+  plain p a b = omega arith
 
   module _ (is js : List Instr) (s : State) (x f : ℕ → ℕ) where
     abbrev half : State
@@ -49,26 +52,25 @@ module _ (Q : Floats) where
           code = code-left (s .mem) (s .pc) (words is) (words js) (rw (map-append encode is js) at (o .code));
         }
 
-    pub stands-second : Stands (is ++ js) s → Run Q s (length is) half → Stands js half
+    pub stands-second : Stands (is ++ js) s → Goes Q is s half → Stands js half
     stands-second o r =
         record {
-          sound = run-sound Q r (o .sound);
+          sound = run-sound Q (r .runs) (o .sound);
           aligned = let a : s .pc % 4 ≡ 0 = o .aligned in omega arith;
           code =
               rw (length-map is encode) at (code-right (s .mem) (s .pc) (words is) (words js) (o .sound .pc) (rw (map-append encode is js) at (o .code)));
         }
 
     -- A run through both lists.
-    pub through : (t : State) → (Stands is s → Run Q s (length is) half) → (Stands js half → Run Q half (length js) t) → Stands (is ++ js) s → Run Q s (length (is ++ js)) t
+    pub through : (t : State) → (Stands is s → Goes Q is s half) → (Stands js half → Goes Q js half t) → Stands (is ++ js) s → Goes Q (is ++ js) s t
     through t p q o =
-        let r : Run Q s (length is) half = p (stands-first o) in
-        rw (length-append is js) (joined Q r (q (stands-second o r)))
+        let r : Goes Q is s half = p (stands-first o) in
+        rw (length-append is js)
+        (joined Q (wider Q (λ x w. (w .0, omega (arith, w .1), w .2)) r)
+        (wider Q (λ x w. (length is + w .0, omega (arith, w .1), w .2 ∙ plain (s .pc) (length is) (w .0))) (q (stands-second o r))))
 
     -- pc behind both
     pub behind-both : (x′ f′ m′ : ℕ → ℕ) → behind js half x′ f′ m′ ≡ behind (is ++ js) s x′ f′ m′
     behind-both x′ f′ m′ =
         let e : w64 (half .pc + 4 * length js) ≡ w64 (s .pc + 4 * length (is ++ js)) = rw (length-append is js) (plain (s .pc) (length is) (length js)) in
         λ i. record { pc = e i; x = x′; f = f′; rm = s .rm; mem = m′ }
-      where
-        plain : (p a b : ℕ) → w64 (w64 (p + 4 * a) + 4 * b) ≡ w64 (p + 4 * (a + b))
-        plain p a b = omega arith

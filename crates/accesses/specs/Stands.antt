@@ -10,7 +10,8 @@ use Rattle.isa.specs.Immediate.{twos}
 use Rattle.isa.specs.Instr.{Instr}
 use Rattle.machine.specs.Word.{w64}
 use Rattle.machine.specs.State.{State, Sound, getx, setx}
-use Rattle.machine.specs.Step.{CodeAt, words}
+use Rattle.machine.specs.Floats.{Floats}
+use Rattle.machine.specs.Step.{CodeAt, words, Among, RunIn}
 use Rattle.accesses.specs.Code.{near-size}
 
 -- s is a machine's state, and the words stand at its pc, a multiple of 4
@@ -18,6 +19,10 @@ pub record Stands (is : List Instr) (s : State) : Type 0 where
   pub sound : Sound s
   pub aligned : s .pc % 4 ≡ 0
   pub code : CodeAt (s .mem) (s .pc) (words is)
+
+-- the run from s to t: a step for each word, and before t pc is at one of them
+abbrev pub Goes : Floats → List Instr → State → State → Type 0
+Goes Q is s t = RunIn Q (Among (s .pc) (length is)) s (length is) t
 
 -- behind the words, with registers x, float registers f and memory m; the rounding mode is kept
 abbrev pub behind : List Instr → State → (x f m : ℕ → ℕ) → State

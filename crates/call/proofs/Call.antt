@@ -13,10 +13,11 @@ use Rattle.order.specs.Count.{cells, cell-count}
 use Rattle.machine.specs.Word.{w64, upd, dist, load8}
 use Rattle.machine.specs.Floats.{Floats}
 use Rattle.machine.specs.State.{State, Sound}
-use Rattle.machine.specs.Step.{CodeAt}
+use Rattle.machine.specs.Step.{CodeAt, Among, RunIn}
 use Rattle.machine.proofs.Memory.{inside, dist-near, dist-back, load8-local, upd-other}
 use Rattle.machine.proofs.Effects.{and-r}
-use Rattle.machine.proofs.Runs.{joined}
+use Rattle.machine.proofs.Runs.{joined, wider, run-sound}
+use Rattle.assembler.specs.Resolved.{resolved}
 use Rattle.order.specs.declared.Place.{Place}
 use Rattle.order.specs.declared.Place.the-variants.{Mem, Stack, Param}
 use Rattle.order.specs.declared.Frame.{Frame}
@@ -33,9 +34,12 @@ use Rattle.framing.proofs.Closing.{leaves}
 use Rattle.call.specs.Program.{Program}
 use Rattle.call.specs.Plain.{Reading, Reads, Ended}
 use Rattle.call.specs.Terms.{table-used, bottom, base, cell-address, as-called, table-cell, start-f, start, observed, end-obs, Within, frame, Terms}
-use Rattle.call.specs.Layout.{place, code-length, routine-words, line-offset}
+use Rattle.call.specs.Layout.{entry, exit, place, code-length, routine-words, line-offset}
 use Rattle.call.specs.Good.{member, Good}
-use Rattle.call.specs.Claim.{callers, Byte-of, Observation, Returned, Claim, ForwardClaim}
+use Rattle.call.specs.Returned.{callers, Byte-of, Observation, Returned}
+use Rattle.call.specs.Claim.{Claim, ForwardClaim}
+use Rattle.call.proofs.Items.{resolved-length}
+use Rattle.call.proofs.Whole.{offset-exit, entry-fits, In-code, part-in}
 use Rattle.call.proofs.Forth.{ends}
 use Rattle.call.proofs.Words.{code-stands}
 use Rattle.call.proofs.Cells.{Inside, at-cell}
@@ -100,7 +104,7 @@ used-holds : (F : Frame) (a1 : ℕ) → T (uses-table F a1) → T (holds-mem F a
 used-holds Fast a1 h = absurd h
 used-holds Indirect a1 h = h
 
-module _ (Q : Floats) (p : Program) (g : Good p) (s : State) (o : Sound s) (c : CodeAt (s .mem) (s .pc) (routine-words p)) (t : Terms (p .head) (code-length p) s) (n : ℕ) (r : Reading) (q : Reads Q p (start (p .head) s) n r) (z : Ended Q p r) where
+module _ (Q : Floats) (p : Program) (g : Good p) (s : State) (o : Sound s) (c : CodeAt (s .mem) (s .pc) (routine-words p)) (t : Terms (p .head) (code-length p) s) (n : ℕ) (r : Reading) (q : Reads Q p (start (p .head) s) n r) (z : Ended p r) where
   abbrev H : Head
   H = p .head
 
@@ -124,13 +128,13 @@ module _ (Q : Floats) (p : Program) (g : Good p) (s : State) (o : Sound s) (c : 
   h = ran .rel
 
   -- the end
-  back : (v : State) × F.Returned Q H s (bottom H s) u v
+  back : (v : State) × F.Returned Q H (place p) s (bottom H s) (line-offset p (r .line)) u v
   back = leaves Q H (place p) s (bottom H s) (s .pc) (line-offset p (r .line)) u (leaving Q p g s o c t r u h n q z)
 
   abbrev v : State
   v = back .0
 
-  abbrev w : F.Returned Q H s (bottom H s) u v
+  abbrev w : F.Returned Q H (place p) s (bottom H s) (line-offset p (r .line)) u v
   w = back .1
 
   kept-held : Held (H .mask) (start H s) r
@@ -204,7 +208,7 @@ module _ (Q : Floats) (p : Program) (g : Good p) (s : State) (o : Sound s) (c : 
       let b : j < 8 = omega arith in
       ap (u .mem) d ∙ same-bytes (u .mem) (s .mem) (w64 (a + 8 * i)) (h .sound .mem) (o .mem) (h .cells q i k ∙ f i k (j, b, d)) j b ∙ ap (s .mem) (sym d)
 
-  byte-after : (x : ℕ) → x < 2 ^ 64 → (Within (frame H (code-length p) s) x → ⊥) → ((q : Place) (i : ℕ) → i < cell-count H q → Byte-of (cell-address H s q i) x → r .cells q i ≡ as-called H s q i) → u .mem x ≡ s .mem x
+  byte-after : (x : ℕ) → x < 2 ^ 64 → (Within (frame H s) x → ⊥) → ((q : Place) (i : ℕ) → i < cell-count H q → Byte-of (cell-address H s q i) x → r .cells q i ≡ as-called H s q i) → u .mem x ≡ s .mem x
   byte-after x b f k = by (found Mem) (found Stack) (found Param)
     where
       found : (q : Place) → Dec (Inside (base H s q) (cell-count H q) x)
@@ -257,14 +261,31 @@ module _ (Q : Floats) (p : Program) (g : Good p) (s : State) (o : Sound s) (c : 
           ∙ kept-held .registers y (k, rw e tt)
           ∙ start-kept H s y (H .states) (not-ten y k)
 
+  -- ---- the run
+
+  all : RunIn Q (In-code p (s .pc)) s (prologue-steps H (H .frame) (s .x 11) + (ran .count + epilogue-steps H (H .frame) (s .x 11))) v
+  all = joined Q (wider Q opening (r0 .runs)) (joined Q (ran .runs) (wider Q closing (w .runs)))
+    where
+      opening : (x : ℕ) → Among (s .pc) (length (resolved (place p) 0 (entry p))) x → In-code p (s .pc) x
+      opening x = part-in p (s .pc) 0 (length (resolved (place p) 0 (entry p))) (s .pc) x (omega (arith, o .pc)) (omega (arith, resolved-length (place p) 0 (entry p), entry-fits p)) (l .code-top)
+
+      closing : (x : ℕ) → Among (u .pc) (length (resolved (place p) (line-offset p (r .line)) (exit p))) x → In-code p (s .pc) x
+      closing x =
+          part-in p (s .pc) (line-offset p (r .line)) (length (resolved (place p) (line-offset p (r .line)) (exit p))) (u .pc) x (h .pc)
+          (omega (arith, resolved-length (place p) (line-offset p (r .line)) (exit p), offset-exit p (r .line)))
+          (l .code-top)
+
   -- ---- THE CLAIM
 
-  pub returned : Returned Q p s n r
+  pub returned : Returned Q p (code-length p) s n r
   returned =
       record {
         count = prologue-steps H (H .frame) (s .x 11) + (ran .count + epilogue-steps H (H .frame) (s .x 11));
         end = v;
-        runs = joined Q (r0 .runs) (joined Q (ran .runs) (w .runs));
+        runs = all .runs;
+        sound = run-sound Q (w .runs .runs) (h .sound);
+        inside = all .inside;
+        first = λ k u m q e. t .ra-outside (subst (In-code p (s .pc)) e (all .inside k u m q));
         few = omega (arith, ran .few);
         pc = w .pc;
         x = all-of Same callers (registers (H .frame) (w .restored) (w .others) (r0 .others));

@@ -33,7 +33,8 @@ use Rattle.call.specs.Plain.{Reading, with-cell, means, with-meaning, do
 use Rattle.call.specs.Terms.{table-cell, start, Clear, frame, regions, Terms}
 use Rattle.call.specs.Layout.{span, body, constants-from, items, place, code-length, routine-words}
 use Rattle.call.specs.Good.{GoodOrder, Good}
-use Rattle.call.specs.Claim.{Returned, Called}
+use Rattle.call.specs.Returned.{Returned}
+use Rattle.call.specs.Claim.{Called}
 use Rattle.call.proofs.Items.{resolved-length}
 use Rattle.call.proofs.Call.{call}
 
@@ -157,7 +158,7 @@ module _ (Q : Floats) (f : ℕ → ℕ) (small : (r : ℕ) → f r < 2 ^ 64) whe
         terms = subst (λ (n : ℕ). Terms (sample .head) n first) (sym sample-length) (machine-terms (bytes (routine-words sample)) f 1 84 (omega arith) (omega arith));
       }
 
-  first-returns : Returned Q sample first 0 (start (sample .head) first)
+  first-returns : Returned Q sample (code-length sample) first 0 (start (sample .head) first)
   first-returns = call Q sample sample-good first first-called 0 (start (sample .head) first) none-read (omega arith)
 
   -- it comes back to ra in at most 21 words, with the state as the result
@@ -304,7 +305,7 @@ module _ (s : State) where
   unfolding meaning
   four = line-read refl (does refl) (line-read refl (does refl) (line-read refl (does refl) (line-read refl (does refl) none-read)))
 
-block-returns : Returned binary64 product block 4 (r4 block)
+block-returns : Returned binary64 product (code-length product) block 4 (r4 block)
 block-returns = call binary64 product product-good block block-called 4 (r4 block) (four block) (omega arith)
 
 -- 6.0 in the block's second cell, and the parameter as it was
@@ -338,7 +339,7 @@ table-terms =
       obs-cells = λ h. only-obs;
     }
   where
-    only-state : (i : ℕ) → i < 1 → Clear (table-cell (product .head) table i) (frame (product .head) 204 table ∷ [])
+    only-state : (i : ℕ) → i < 1 → Clear (table-cell (product .head) table i) (frame (product .head) table ∷ [])
     only-state zero h = omega arith
     only-state (suc i) h = absurd (omega arith)
 
@@ -364,7 +365,7 @@ table-called =
       terms = subst (λ (n : ℕ). Terms (product .head) n table) (sym product-length) table-terms;
     }
 
-table-returns : Returned binary64 product table 4 (r4 table)
+table-returns : Returned binary64 product (code-length product) table 4 (r4 table)
 table-returns = call binary64 product product-good table table-called 4 (r4 table) (four table) (omega arith)
 
 -- the two high bytes of 6.0 in the observation cell, s2 and f8 as they were

@@ -165,7 +165,7 @@ module _ (Q : Floats) (p : Program) (g : Good p) (s : State) (o : Sound s) (c : 
   unfolding line-offset body span
   start-rel =
       record {
-        sound = run-sound Q (r .runs) o;
+        sound = run-sound Q (r .runs .runs) o;
         pc = r .pc ∙ ap (λ (k : ℕ). w64 (s .pc + k)) (omega (arith, resolved-length (place p) 0 (entry p)));
         f = r .f ∙ start-floats H s (H .states);
         rm = r .rm;

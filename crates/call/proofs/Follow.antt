@@ -12,10 +12,10 @@ use Rattle.order.specs.Count.{cell-count}
 use Rattle.machine.specs.Word.{w64, load8}
 use Rattle.machine.specs.Floats.{Floats}
 use Rattle.machine.specs.State.{State, Sound, getx}
-use Rattle.machine.specs.Step.{CodeAt, Run, stop}
+use Rattle.machine.specs.Step.{CodeAt, Among, RunIn}
 use Rattle.machine.specs.Ends.{temporary}
 use Rattle.machine.proofs.Memory.{inside}
-use Rattle.machine.proofs.Runs.{joined, run-sound}
+use Rattle.machine.proofs.Runs.{no-step, joined, wider, run-sound}
 use Rattle.machine.proofs.Placed.{code-kept}
 use Rattle.order.specs.declared.Place.{Place}
 use Rattle.order.specs.declared.Place.the-variants.{Mem, Stack, Param}
@@ -33,7 +33,7 @@ use Rattle.call.specs.Plain.{Reading, goes, const, means, with-meaning, 
 use Rattle.call.specs.Layout.{span, place, items, code-length, routine-words, line-offset}
 use Rattle.call.specs.Good.{GoodOrder, Good}
 use Rattle.call.proofs.Items.{resolved-length}
-use Rattle.call.proofs.Whole.{line-part, constant-part, offset-next, offset-four, offset-small, user-place, constants-place, placed}
+use Rattle.call.proofs.Whole.{line-part, constant-part, offset-next, offset-four, offset-exit, offset-small, user-place, constants-place, placed, In-code, part-in}
 use Rattle.call.proofs.Cells.{Inside, Rooms, Fine, stored, stored-cells, stored-rest}
 use Rattle.call.proofs.Means.{same-meaning, fine-cells, exit-label}
 
@@ -74,7 +74,7 @@ module _ (Q : Floats) (p : Program) (A : Place → ℕ) (start : ℕ) (x0 m0 : �
   pub record Comes (r : Reading) (s : State) (most : ℕ) : Type 0 where
     pub count : ℕ
     pub end : State
-    pub runs : Run Q s count end
+    pub runs : RunIn Q (In-code p start) s count end
     pub few : count ≤ most
     pub rel : Rel r end
 
@@ -113,7 +113,7 @@ module _ (Q : Floats) (p : Program) (A : Place → ℕ) (start : ℕ) (x0 m0 : �
           record {
             count = 0;
             end = s;
-            runs = stop;
+            runs = no-step Q;
             few = omega arith;
             rel =
                 record {
@@ -173,11 +173,11 @@ module _ (Q : Floats) (p : Program) (A : Place → ℕ) (start : ℕ) (x0 m0 : �
             record {
               count = done .count;
               end = end;
-              runs = done .ends .runs;
+              runs = wider Q words (done .ends .runs);
               few = omega (arith, done .few, line-length (place p) here (order o));
               rel =
                   record {
-                    sound = run-sound Q (done .ends .runs) (h .sound);
+                    sound = run-sound Q (done .ends .runs .runs) (h .sound);
                     pc =
                         done .ends .does .pc
                         ∙ ap (λ (m : Meaning). exit-address (place p) start s (length (resolved (place p) here (code o))) (m .exit)) meant
@@ -190,6 +190,12 @@ module _ (Q : Floats) (p : Program) (A : Place → ℕ) (start : ℕ) (x0 m0 : �
                   };
             }
           where
+            words : (x : ℕ) → Among (s .pc) (length (resolved (place p) here (code o))) x → In-code p start x
+            words x =
+                part-in p start here (length (resolved (place p) here (code o))) (s .pc) x (h .pc)
+                (omega (arith, resolved-length (place p) here (code o), offset-next p (r .line) (order o) e, offset-exit p (suc (r .line))))
+                (g .code-fits)
+
             end : State
             end = done .ends .end
 
@@ -209,7 +215,7 @@ module _ (Q : Floats) (p : Program) (A : Place → ℕ) (start : ℕ) (x0 m0 : �
 
     -- THE simulation: where the reading comes, the machine comes.
     pub follows : {r t : Reading} {k : ℕ} (s : State) → Rel r s → Reads Q p r k t → Comes t s (11 * k)
-    follows s h none-read = record { count = 0; end = s; runs = stop; few = omega arith; rel = h }
+    follows s h none-read = record { count = 0; end = s; runs = no-step Q; few = omega arith; rel = h }
     follows s h (line-read e w q) =
         let u = line-comes s h e w in
         let v = follows (u .end) (u .rel) q in

@@ -51,7 +51,7 @@ module _ (Q : Floats) (p : Program) (g : Good p) where
         record { next = with-meaning Q p (t .0) (means Q p o r) r; step = does (t .1); ahead = t .2; most = t .3 }
     onward (constant c) e = record { next = passed Q p r; step = passes; ahead = λ f. omega arith; most = omega arith }
 
-  reads-on : Forward p → (fuel : ℕ) (r : Reading) → length (p .lines) ≤ r .line + fuel → (k : ℕ) × (t : Reading) × Reads Q p r k t × Ended Q p t
+  reads-on : Forward p → (fuel : ℕ) (r : Reading) → length (p .lines) ≤ r .line + fuel → (k : ℕ) × (t : Reading) × Reads Q p r k t × Ended p t
   reads-on f zero r h = (0, r, none-read, omega arith)
   reads-on forward (suc fuel) r h =
       by (decLt (r .line) (length (p .lines)))
@@ -61,9 +61,9 @@ module _ (Q : Floats) (p : Program) (g : Good p) where
       let q = reads-on forward fuel (v .next) (omega (arith, v .ahead forward)) in
       (weight (f .0) + q .0, q .1, line-read (f .1) (v .step) (q .2), q .3))
     where
-      by : Dec (r .line < length (p .lines)) → (r .line < length (p .lines) → (k : ℕ) × (t : Reading) × Reads Q p r k t × Ended Q p t) → (k : ℕ) × (t : Reading) × Reads Q p r k t × Ended Q p t
+      by : Dec (r .line < length (p .lines)) → (r .line < length (p .lines) → (k : ℕ) × (t : Reading) × Reads Q p r k t × Ended p t) → (k : ℕ) × (t : Reading) × Reads Q p r k t × Ended p t
       by (yes m) f = f m
       by (no m) f = (0, r, none-read, omega arith)
 
-  pub ends : Forward p → (r : Reading) → (k : ℕ) × (t : Reading) × Reads Q p r k t × Ended Q p t
+  pub ends : Forward p → (r : Reading) → (k : ℕ) × (t : Reading) × Reads Q p r k t × Ended p t
   ends f r = reads-on f (length (p .lines)) r (omega arith)

@@ -26,10 +26,10 @@ use Rattle.framing.proofs.Claim.{Observed-at, Ready, Leaving}
 use Rattle.call.specs.Program.{Program}
 use Rattle.call.specs.Plain.{Reading, Reads, Ended}
 use Rattle.call.specs.Terms.{table-used, frame-bytes, bottom, base, start, Within, frame, Terms}
-use Rattle.call.specs.Layout.{span, body, items, place, entry, exit, code-items, data-items, code-length, routine-words, line-offset}
+use Rattle.call.specs.Layout.{span, place, exit, code-length, routine-words, line-offset}
 use Rattle.call.specs.Good.{Good}
-use Rattle.call.proofs.Items.{span-append, resolved-length}
-use Rattle.call.proofs.Whole.{exit-part, exit-stands, offset-four, part}
+use Rattle.call.proofs.Items.{resolved-length}
+use Rattle.call.proofs.Whole.{exit-part, exit-stands, offset-four, offset-exit}
 use Rattle.call.proofs.Cells.{Inside, at-cell}
 use Rattle.call.proofs.Follow.{Rel, code-now}
 use Rattle.call.proofs.Saved.{held}
@@ -61,7 +61,7 @@ module _ (Q : Floats) (p : Program) (g : Good p) (s : State) (o : Sound s) (c : 
   -- u stands where the reading r stands
   module _ (r : Reading) (u : State) (h : Rel Q p (base H s) (s .pc) (first .x) (first .mem) r u) where
     -- bytes that are neither in cells nor in the frame are the call's
-    pub far-bytes : (x : ℕ) → x < 2 ^ 64 → ((q : Place) → Inside (base H s q) (cell-count H q) x → ⊥) → (Within (frame H (code-length p) s) x → ⊥) → u .mem x ≡ s .mem x
+    pub far-bytes : (x : ℕ) → x < 2 ^ 64 → ((q : Place) → Inside (base H s q) (cell-count H q) x → ⊥) → (Within (frame H s) x → ⊥) → u .mem x ≡ s .mem x
     far-bytes x b k f = h .rest x b k ∙ outside-frame Q p g s o c t x b f
 
     place-kept : (i : ℕ) → i < length (kept (H .frame)) → load8 (u .mem) (bottom H s + below-saves H (s .x 11) + 8 * i) ≡ load8 (first .mem) (bottom H s + below-saves H (s .x 11) + 8 * i)
@@ -91,14 +91,12 @@ module _ (Q : Floats) (p : Program) (g : Good p) (s : State) (o : Sound s) (c : 
         let w : Within (record { start = s .x 11; size = 16 * cells H }) x = (omega (arith, v .0), omega (arith, v .1)) in
         far-bytes x b (λ q y. l .off-table e q x y w) (l .table-frame e x w)))
 
-    module _ (n : ℕ) (q : Reads Q p (start H s) n r) (z : Ended Q p r) where
+    module _ (n : ℕ) (q : Reads Q p (start H s) n r) (z : Ended p r) where
       abbrev here : ℕ
       here = line-offset p (r .line)
 
       exit-span : here + span (exit p) ≤ code-length p
-      unfolding line-offset items
-      exit-span =
-          omega (arith, part (r .line) (p .lines), span-append (code-items p) (data-items p), span-append (entry p) (body (p .lines) ++ exit p), span-append (body (p .lines)) (exit p))
+      exit-span = offset-exit p (r .line)
 
       saved-kept : (y : ℕ) → List·Memᴰ y (saved (H .mask)) → load8 (u .mem) (bottom H s + 8 * save-cell y) ≡ s .f y
       saved-kept y m =

@@ -15,3 +15,4 @@ pub mod Call
 pub mod Words
 pub mod Decks
 pub mod Calls
+pub mod One

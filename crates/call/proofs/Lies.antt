@@ -27,7 +27,7 @@ pub record Lies (H : Head) (len : ℕ) (s : State) : Type 0 where
   pub top : bottom H s + frame-bytes H s ≤ 2 ^ 64
   pub sp : s .x 2 ≡ w64 (bottom H s + frame-bytes H s)
   pub code-top : s .pc + len ≤ 2 ^ 64
-  pub code-frame : (x : ℕ) → Within (code H len s) x → Within (frame H len s) x → ⊥
+  pub code-frame : (x : ℕ) → Within (code len s) x → Within (frame H s) x → ⊥
   -- the cells
   pub mem-base : T (holds-mem (H .frame) (s .x 11)) → base H s Mem ≡ bottom H s + stack-size H
   pub rooms : Rooms (base H s) (cell-count H)
@@ -35,18 +35,18 @@ pub record Lies (H : Head) (len : ℕ) (s : State) : Type 0 where
   -- the places of ra and other whole-number registers are no cells
   pub off-places : (q : Place) (x : ℕ) → Inside (base H s q) (cell-count H q) x → bottom H s + below-saves H (s .x 11) ≤ x → x < bottom H s + frame-bytes H s → ⊥
   -- a cell in the frame, or in one of the blocks
-  pub mem-in : T (holds-mem (H .frame) (s .x 11)) → (x : ℕ) → Inside (base H s Mem) (cell-count H Mem) x → Within (frame H len s) x
-  pub stack-in : (x : ℕ) → Inside (base H s Stack) (cell-count H Stack) x → Within (frame H len s) x
-  pub param-frame : (x : ℕ) → Inside (base H s Param) (cell-count H Param) x → Within (frame H len s) x → ⊥
+  pub mem-in : T (holds-mem (H .frame) (s .x 11)) → (x : ℕ) → Inside (base H s Mem) (cell-count H Mem) x → Within (frame H s) x
+  pub stack-in : (x : ℕ) → Inside (base H s Stack) (cell-count H Stack) x → Within (frame H s) x
+  pub param-frame : (x : ℕ) → Inside (base H s Param) (cell-count H Param) x → Within (frame H s) x → ⊥
   -- the table
   pub table-top : T (table-used H s) → s .x 11 + 16 * cells H ≤ 2 ^ 64
-  pub table-frame : T (table-used H s) → (x : ℕ) → Within (table H len s) x → Within (frame H len s) x → ⊥
-  pub off-table : T (table-used H s) → (q : Place) (x : ℕ) → Inside (base H s q) (cell-count H q) x → Within (table H len s) x → ⊥
+  pub table-frame : T (table-used H s) → (x : ℕ) → Within (table H s) x → Within (frame H s) x → ⊥
+  pub off-table : T (table-used H s) → (q : Place) (x : ℕ) → Inside (base H s q) (cell-count H q) x → Within (table H s) x → ⊥
   -- observation cells
-  pub obs-off : T (table-used H s) → (i : ℕ) → i < H .obs → (x : ℕ) → x < 2 ^ 64 → dist (table-cell H s (H .states + i)) x < 8 → (Within (code H len s) x → ⊥) × (Within (frame H len s) x → ⊥) × (Within (table H len s) x → ⊥) × (Inside (base H s Param) (cell-count H Param) x → ⊥)
+  pub obs-off : T (table-used H s) → (i : ℕ) → i < H .obs → (x : ℕ) → x < 2 ^ 64 → dist (table-cell H s (H .states + i)) x < 8 → (Within (code len s) x → ⊥) × (Within (frame H s) x → ⊥) × (Within (table H s) x → ⊥) × (Inside (base H s Param) (cell-count H Param) x → ⊥)
   -- the block
   pub block-top : T (not (holds-mem (H .frame) (s .x 11))) → s .x 10 + 8 * cells H ≤ 2 ^ 64
-  pub block-frame : T (not (holds-mem (H .frame) (s .x 11))) → (x : ℕ) → Within (block H len s) x → Within (frame H len s) x → ⊥
+  pub block-frame : T (not (holds-mem (H .frame) (s .x 11))) → (x : ℕ) → Within (block H s) x → Within (frame H s) x → ⊥
 
 -- sp and the bottom
 sp-back : (x n : ℕ) → x < 2 ^ 64 → n ≤ 2 ^ 64 → x ≡ w64 (w64 (x + (2 ^ 64 - n)) + n)
@@ -139,7 +139,7 @@ module _ (cap states obs last mask : ℕ) (len : ℕ) (s : State) (o : Sound s) 
     top1 : b1 + (ss + fs + 32) ≤ 2 ^ 64
     top1 = t .separate .2 .0 (omega (arith, m1 .1))
 
-    in1 : (q : Place) (x : ℕ) → Inside (base (head Fast) s q) (cell-count (head Fast) q) x → Within (frame (head Fast) len s) x
+    in1 : (q : Place) (x : ℕ) → Inside (base (head Fast) s q) (cell-count (head Fast) q) x → Within (frame (head Fast) s) x
     in1 Mem x u = mem-frame b1 ss fs 32 (states + obs) cap (m1 .0) (s1 .0) top1 (m1 .1) x u
     in1 Stack x u = stack-frame b1 ss fs 32 (states + obs) cap (m1 .0) (s1 .0) top1 x u
     in1 Param x u = absurd (none-inside (s .x 13) x u)
@@ -194,7 +194,7 @@ module _ (cap states obs last mask : ℕ) (len : ℕ) (s : State) (o : Sound s) 
       abbrev b2 : ℕ
       b2 = w64 (s .x 2 + (2 ^ 64 - (ss + fs + 64)))
 
-      sep2 : Separate (code (head Indirect) len s ∷ record { start = b2; size = ss + fs + 64 } ∷ params (head Indirect) len s ∷ table (head Indirect) len s ∷ [])
+      sep2 : Separate (code len s ∷ record { start = b2; size = ss + fs + 64 } ∷ params (head Indirect) s ∷ table (head Indirect) s ∷ [])
       sep2 = rw e at (t .separate)
 
       top2 : b2 + (ss + fs + 64) ≤ 2 ^ 64
@@ -238,12 +238,12 @@ module _ (cap states obs last mask : ℕ) (len : ℕ) (s : State) (o : Sound s) 
       places2 Stack x u a b = stack-places b2 ss fs 64 (states + obs) cap (m2 .0) (s2 .0) top2 x u a
       places2 Param x u a b = sep2 .2 .1 .0 x (omega arith, b) u
 
-      off2 : (q : Place) (x : ℕ) → Inside (A2 q) (cell-count (head Indirect) q) x → Within (table (head Indirect) len s) x → ⊥
+      off2 : (q : Place) (x : ℕ) → Inside (A2 q) (cell-count (head Indirect) q) x → Within (table (head Indirect) s) x → ⊥
       off2 Mem x u v = sep2 .2 .1 .1 .0 x (mem2 x u) v
       off2 Stack x u v = sep2 .2 .1 .1 .0 x (stack2 x u) v
       off2 Param x u v = sep2 .2 .2 .1 .0 x u v
 
-      obs2 : T (not (eqb (s .x 11) 0)) → (i : ℕ) → i < obs → (x : ℕ) → x < 2 ^ 64 → dist (table-cell (head Indirect) s (states + i)) x < 8 → (Within (code (head Indirect) len s) x → ⊥) × (Within (frame (head Indirect) len s) x → ⊥) × (Within (table (head Indirect) len s) x → ⊥) × (Within (params (head Indirect) len s) x → ⊥)
+      obs2 : T (not (eqb (s .x 11) 0)) → (i : ℕ) → i < obs → (x : ℕ) → x < 2 ^ 64 → dist (table-cell (head Indirect) s (states + i)) x < 8 → (Within (code len s) x → ⊥) × (Within (frame (head Indirect) s) x → ⊥) × (Within (table (head Indirect) s) x → ⊥) × (Within (params (head Indirect) s) x → ⊥)
       obs2 h i k x b d =
           let a : ℕ = table-cell (head Indirect) s (states + i) in
           let y : w64 (a + dist a x) ≡ x = dist-back a x b in
@@ -278,7 +278,7 @@ module _ (cap states obs last mask : ℕ) (len : ℕ) (s : State) (o : Sound s) 
       abbrev b3 : ℕ
       b3 = w64 (s .x 2 + (2 ^ 64 - (ss + 0 + 64)))
 
-      sep3 : Separate (code (head Indirect) len s ∷ record { start = b3; size = ss + 0 + 64 } ∷ params (head Indirect) len s ∷ block (head Indirect) len s ∷ [])
+      sep3 : Separate (code len s ∷ record { start = b3; size = ss + 0 + 64 } ∷ params (head Indirect) s ∷ block (head Indirect) s ∷ [])
       sep3 = rw e at (t .separate)
 
       top3 : b3 + (ss + 0 + 64) ≤ 2 ^ 64

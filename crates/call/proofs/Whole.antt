@@ -9,7 +9,7 @@ use lib.Dec.{leb, leb→le}
 use lib.ListN.{length, getD, getElem?, take}
 use lib.Seq.{take-all}
 use Rattle.machine.specs.Word.{w64, load8}
-use Rattle.machine.specs.Step.{CodeAt}
+use Rattle.machine.specs.Step.{CodeAt, Among}
 use Rattle.machine.proofs.Memory.{wrap-l}
 use Rattle.machine.proofs.Placed.{code-left, code-right}
 use Rattle.order.specs.declared.Frame.{Frame}
@@ -30,7 +30,7 @@ use Rattle.accesses.proofs.Then.{passed}
 use Rattle.framing.specs.Items.{code as instrs, obs-copy, at-epi, at-done, by-frame, repeated, closing, epilogue, epilogue-fast, epilogue-indirect, reloads}
 use Rattle.framing.proofs.Walk.{Stands}
 use Rattle.call.specs.Program.{Program, constants, label-line}
-use Rattle.call.specs.Layout.{span, body, constants-from, entry, exit, code-items, data-items, items, constants-offset, place, routine-words, line-offset}
+use Rattle.call.specs.Layout.{span, body, constants-from, entry, exit, code-items, data-items, items, constants-offset, code-length, place, routine-words, line-offset}
 use Rattle.call.specs.Good.{Good}
 use Rattle.call.proofs.Items.{span-append, span-four, resolved-append, resolved-length, Unset, unset-append, past, found, within, fresh-unset, stands-of, Worded, worded-append, worded-instrs, before-end}
 use Rattle.call.proofs.Labels.{Early, Late, entry-fresh, exit-fresh}
@@ -199,8 +199,26 @@ module _ (p : Program) where
         at : (l : ℕ) → (place p l ≤ 65536) × (place p l % 4 ≡ 0)
         at l = by l (label-place l 0 (items p)) refl
 
-  -- line n stands before the end
-  pub offset-small : Good p → (n : ℕ) → line-offset p n ≤ 65536
+  -- line n stands before the exit
+  pub offset-exit : (n : ℕ) → line-offset p n + span (exit p) ≤ code-length p
   unfolding line-offset items
-  offset-small g n =
-      omega (arith, g .room, part n (p .lines), back, span-append (code-items p) (data-items p), span-append (entry p) (body (p .lines) ++ exit p), span-append (body (p .lines)) (exit p))
+  offset-exit n =
+      omega (arith, part n (p .lines), span-append (code-items p) (data-items p), span-append (entry p) (body (p .lines) ++ exit p), span-append (body (p .lines)) (exit p))
+
+  pub entry-fits : span (entry p) ≤ code-length p
+  unfolding items
+  entry-fits = omega (arith, span-append (code-items p) (data-items p), span-append (entry p) (body (p .lines) ++ exit p))
+
+  pub offset-small : Good p → (n : ℕ) → line-offset p n ≤ 65536
+  offset-small g n = omega (arith, g .room, offset-exit n, back)
+
+-- ---- addresses in the code, which starts at a
+
+abbrev pub In-code : Program → (a : ℕ) → ℕ → Type 0
+In-code p a x = (a ≤ x) × (x < a + code-length p)
+
+-- n words `here` bytes behind it
+pub part-in : (p : Program) (a here n pc x : ℕ) → pc ≡ w64 (a + here) → here + 4 * n ≤ code-length p → a + code-length p ≤ 2 ^ 64 → Among pc n x → In-code p a x
+part-in p a here n pc x e h l w =
+    let z : x ≡ a + here + 4 * w .0 = w .2 ∙ omega (arith, e, w .1) in
+    (omega arith, omega (arith, w .1))

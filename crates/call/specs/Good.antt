@@ -19,11 +19,8 @@ use Rattle.order.specs.Mask.{preserved, in-mask, saved, save-cell}
 use Rattle.framing.specs.Fault.{epilogue-holds}
 use Rattle.orders.specs.Fault.{fault}
 use Rattle.call.specs.Program.{Program, constants, label-line}
+pub use Rattle.call.specs.Program.{member}
 use Rattle.call.specs.Layout.{code-length}
-
-abbrev pub member : ℕ → List ℕ → Bool
-member n [] = false
-member n (m ∷ ms) = eqb n m || member n ms
 
 abbrev pub all-hold : (ℕ → Bool) → List ℕ → Bool
 all-hold t [] = true

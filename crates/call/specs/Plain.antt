@@ -67,19 +67,44 @@ module _ (Q : Floats) (p : Program) where
 
   -- "Each step does one line on what the last left"; "`label`, `float` and `bits` alter nothing".
   pub data Step : Reading → Line → Reading → Type 0 where
-    does : {r : Reading} {o : Order} {n : ℕ} → goes (p .lines) (r .line) (means o r .exit) ≡ some n → Step r (order o) (with-meaning n (means o r) r)
+    does :
+        {r : Reading} {o : Order} {n : ℕ}
+        → goes (p .lines) (r .line) (means o r .exit) ≡ some n
+        → Step r (order o) (with-meaning n (means o r) r)
     passes : {r : Reading} {c : Constant} → Step r (constant c) (passed r)
 
   -- From one reading to another: n is the sum of the weights of the lines read, 1 for an order and 0 for `label`, `float` and `bits`.
   pub data Reads : Reading → (n : ℕ) → Reading → Type 0 where
     none-read : {r : Reading} → Reads r 0 r
-    line-read : {r s t : Reading} {l : Line} {n : ℕ} → getElem? (p .lines) (r .line) ≡ some l → Step r l s → Reads s n t → Reads r (weight l + n) t
+    line-read :
+        {r s t : Reading} {l : Line} {n : ℕ}
+        → getElem? (p .lines) (r .line) ≡ some l
+        → Step r l s
+        → Reads s n t
+        → Reads r (weight l + n) t
 
-  -- "Behind the last line"
-  abbrev pub Ended : Reading → Type 0
-  Ended r = length (p .lines) ≤ r .line
+-- "Behind the last line"
+abbrev pub Ended : Program → Reading → Type 0
+Ended p r = length (p .lines) ≤ r .line
+
+-- THE plain reading: from one start no two end, so each theorem that says what a reading's end is says it of the one.
+-- Proved as `one-reading` (`proofs`, module One).
+abbrev pub OneReading : Type 0
+OneReading =
+    (Q : Floats) (p : Program) (a : Reading)
+    → (n : ℕ) (r : Reading)
+    → Reads Q p a n r
+    → Ended p r
+    → (m : ℕ) (q : Reading)
+    → Reads Q p a m q
+    → Ended p q
+    → (n ≡ m) × (r ≡ q)
 
 -- Branches go forward, by line numbers.
 abbrev pub Forward : Program → Type 0
 Forward p =
-    (i : ℕ) (c l : ℕ) (e : Bool) → getElem? (p .lines) i ≡ some (order (BranchIf c l e)) → (j : ℕ) → label-line l 0 (p .lines) ≡ some j → i < j
+    (i : ℕ) (c l : ℕ) (e : Bool)
+    → getElem? (p .lines) i ≡ some (order (BranchIf c l e))
+    → (j : ℕ)
+    → label-line l 0 (p .lines) ≡ some j
+    → i < j

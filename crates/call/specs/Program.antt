@@ -1,5 +1,5 @@
 -- A file as it is read: its line 1, and its lines from line 2 on. Lines are counted from 0, which is line 2 of the file.
-use mathlib.Core.Bool.{cond}
+use mathlib.Core.Bool.{Bool, false, _||_, cond}
 use mathlib.Core.List.{List, [], _∷_}
 use mathlib.Core.Option.{Option, some, none}
 use Prim.Native.Nat.{ℕ, suc}
@@ -43,3 +43,8 @@ unfoldable pub label-line : (l n : ℕ) → List Line → Option ℕ
 label-line l n [] = none
 label-line l n (order o ∷ ls) = here-or l n (sets o) (label-line l (suc n) ls)
 label-line l n (constant c ∷ ls) = label-line l (suc n) ls
+
+-- n is one of them
+abbrev pub member : ℕ → List ℕ → Bool
+member n [] = false
+member n (m ∷ ms) = eqb n m || member n ms

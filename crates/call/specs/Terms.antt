@@ -116,11 +116,8 @@ abbrev pub Clear : ℕ → List Region → Type 0
 Clear a [] = Unit {0}
 Clear a (g ∷ gs) = ((k : ℕ) → k < 8 → Within g (w64 (a + k)) → ⊥) × Clear a gs
 
--- s is the state at the call, `length` the code's in bytes
-module _ (H : Head) (length : ℕ) (s : State) where
-  abbrev pub code : Region
-  code = record { start = s .pc; size = length }
-
+-- s is the state at the call
+module _ (H : Head) (s : State) where
   abbrev pub frame : Region
   frame = record { start = bottom H s; size = frame-bytes H s }
 
@@ -136,18 +133,23 @@ module _ (H : Head) (length : ℕ) (s : State) where
   abbrev pub table : Region
   table = record { start = s .x 11; size = 16 * cells H }
 
+-- the code: so many bytes from pc on, constants included
+abbrev pub code : (code-bytes : ℕ) → State → Region
+code code-bytes s = record { start = s .pc; size = code-bytes }
+
+module _ (H : Head) (code-bytes : ℕ) (s : State) where
   -- "Code, frame below sp, and (in an indirect frame) the parameter block at a3"; with a1 zero the block at a0 joins, else the table
   abbrev pub regions : Frame → List Region
-  regions Fast = code ∷ frame ∷ []
-  regions Indirect = code ∷ frame ∷ params ∷ cond (eqb (s .x 11) 0) block table ∷ []
+  regions Fast = code code-bytes s ∷ frame H s ∷ []
+  regions Indirect = code code-bytes s ∷ frame H s ∷ params H s ∷ cond (eqb (s .x 11) 0) (block H s) (table H s) ∷ []
 
   pub record Terms : Type 0 where
     -- "code starts, and ra is, at a multiple of 4, ra outside the code; sp is a multiple of 16"
     pub code-aligned : s .pc % 4 ≡ 0
     pub ra-aligned : s .x 1 % 4 ≡ 0
-    pub ra-outside : Within code (s .x 1) → ⊥
+    pub ra-outside : Within (code code-bytes s) (s .x 1) → ⊥
     pub sp-aligned : s .x 2 % 16 ≡ 0
     pub separate : Separate (regions (H .frame))
     -- "no state cell touches the frame, and no observation cell touches code, frame, table or parameters"
-    pub state-cells : T (table-used H s) → (i : ℕ) → i < H .states → Clear (table-cell H s i) (frame ∷ [])
+    pub state-cells : T (table-used H s) → (i : ℕ) → i < H .states → Clear (table-cell H s i) (frame H s ∷ [])
     pub obs-cells : T (table-used H s) → (i : ℕ) → i < H .obs → Clear (table-cell H s (H .states + i)) (regions (H .frame))

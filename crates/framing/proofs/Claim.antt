@@ -10,7 +10,7 @@ use Rattle.order.specs.Count.{cells}
 use Rattle.machine.specs.Word.{w64, dist, upd, load8, store8}
 use Rattle.machine.specs.Floats.{Floats}
 use Rattle.machine.specs.State.{State, Sound}
-use Rattle.machine.specs.Step.{CodeAt, Run}
+use Rattle.machine.specs.Step.{CodeAt, Among, RunIn}
 use Rattle.machine.proofs.Stores.{Same, Off}
 use Rattle.order.specs.declared.Frame.{Frame}
 use Rattle.order.specs.declared.Frame.the-variants.{Fast, Indirect}
@@ -83,7 +83,7 @@ floats-of H s =
     (upd (s .f) 10 (load8 (s .mem) (table-cell s (H .states - 1)))) (s .f)
 
 pub record Ready (Q : Floats) (H : Head) (at : ℕ → ℕ) (s : State) (bottom : ℕ) (t : State) : Type 0 where
-  pub runs : Run Q s (prologue-steps H (H .frame) (s .x 11)) t
+  pub runs : RunIn Q (Among (s .pc) (length (resolved at 0 (prologue H ++ saves (H .mask))))) s (prologue-steps H (H .frame) (s .x 11)) t
   pub pc : t .pc ≡ w64 (s .pc + 4 * length (resolved at 0 (prologue H ++ saves (H .mask))))
   pub sp : t .x 2 ≡ bottom
   pub s5 : t .x 21 ≡ bottom
@@ -156,8 +156,8 @@ abbrev pub end-sets : Frame → ℕ → Bool
 end-sets Fast r = eqb r 1 || (eqb r 2 || (eqb r 8 || (eqb r 9 || (eqb r 10 || eqb r 21))))
 end-sets Indirect r = eqb r 1 || (eqb r 2 || (eqb r 5 || (eqb r 6 || (eqb r 7 || (eqb r 8 || (eqb r 9 || (eqb r 10 || (eqb r 18 || (eqb r 19 || (eqb r 20 || eqb r 21))))))))))
 
-pub record Returned (Q : Floats) (H : Head) (s : State) (bottom : ℕ) (u v : State) : Type 0 where
-  pub runs : Run Q u (epilogue-steps H (H .frame) (s .x 11)) v
+pub record Returned (Q : Floats) (H : Head) (at : ℕ → ℕ) (s : State) (bottom here : ℕ) (u v : State) : Type 0 where
+  pub runs : RunIn Q (Among (u .pc) (length (exit-words H at here))) u (epilogue-steps H (H .frame) (s .x 11)) v
   pub pc : v .pc ≡ s .x 1
   pub sp : v .x 2 ≡ s .x 2
   pub a0 : v .x 10 ≡ 0

@@ -12,8 +12,9 @@ use Rattle.isa.specs.Encode.{encode}
 use Rattle.machine.specs.Word.{w64, load8}
 use Rattle.machine.specs.Floats.{Floats}
 use Rattle.machine.specs.State.{State}
-use Rattle.machine.specs.Step.{Run, stop}
+use Rattle.machine.specs.Step.{Among, RunIn}
 use Rattle.machine.proofs.Effects.{and-l, and-r}
+use Rattle.machine.proofs.Runs.{no-step}
 use Rattle.machine.proofs.Stores.{Off}
 use Rattle.order.specs.declared.Frame.the-variants.{Fast}
 use Rattle.order.specs.declared.Head.{Head}
@@ -71,6 +72,9 @@ module _ (Q : Floats) (cap states obs last mask : ℕ) (at : ℕ → ℕ) (s : S
     abbrev P : ℕ → Type 0
     P = Frame-at H s bottom
 
+    abbrev C : ℕ → Type 0
+    C = Among (s .pc) (length (resolved at 0 (prologue H ++ saves mask)))
+
     -- the opening, `mem`, `stack`, the states, the saves
     one : (v : State) × Begun Q (In fp (fp + 32)) Fast fp s v
     one = begun Q Fast fp s (c .sound) (omega (arith, top)) top (c .sp ∙ omega arith)
@@ -110,7 +114,7 @@ module _ (Q : Floats) (cap states obs last mask : ℕ) (at : ℕ → ℕ) (s : S
     unfolding prologue saves
     words-are = rw (code-append straight (map save (saved mask))) (resolved-instrs at 0 (straight ++ map save (saved mask)))
 
-    stand : Words P (s .mem) (s .pc) (map encode (straight ++ map save (saved mask)))
+    stand : Words C P (s .mem) (s .pc) (map encode (straight ++ map save (saved mask)))
     stand =
         let e : w64 (s .pc) ≡ s .pc = omega (arith, c .sound .pc) in
         record {
@@ -118,10 +122,11 @@ module _ (Q : Floats) (cap states obs last mask : ℕ) (at : ℕ → ℕ) (s : S
           off = rw (e, ← words-are) (c .code-apart);
           short = rw (← words-are) (omega (arith, c .code-fits));
           even = c .start;
+          inside = λ k l. (k, rw words-are l, refl);
         }
 
-    came : Came Q P s (s .pc + 4 * length (straight ++ map save (saved mask))) (0 + length (straight ++ map save (saved mask))) (five .0)
-    came = onward-seg (straight ++ map save (saved mask)) (s .pc) 0 s stand (record { runs = stop; same = λ x l o. refl; pc = omega (arith, c .sound .pc) }) whole
+    came : Came Q C P s (s .pc + 4 * length (straight ++ map save (saved mask))) (0 + length (straight ++ map save (saved mask))) (five .0)
+    came = onward-seg (straight ++ map save (saved mask)) (s .pc) 0 s stand (record { runs = no-step Q; same = λ x l o. refl; pc = omega (arith, c .sound .pc) }) whole
 
     count : 0 + length (straight ++ map save (saved mask)) ≡ prologue-steps H Fast (s .x 11)
     count =
@@ -183,7 +188,7 @@ module _ (Q : Floats) (cap states obs last mask : ℕ) (at : ℕ → ℕ) (s : S
     ready = (
       end,
       record {
-        runs = subst (λ (k : ℕ). Run Q s k (five .0)) count (came .runs);
+        runs = subst (λ (k : ℕ). RunIn Q C s k (five .0)) count (came .runs);
         pc = came .pc ∙ rw (words-are, length-map (straight ++ map save (saved mask)) encode);
         sp = ap (λ (x : ℕ → ℕ). x 2) five-x ∙ three .1 .sp;
         s5 = ap (λ (x : ℕ → ℕ). x 21) five-x ∙ three .1 .copy;
@@ -199,7 +204,7 @@ module _ (Q : Floats) (cap states obs last mask : ℕ) (at : ℕ → ℕ) (s : S
         stack-cells = unsaved;
         saved-cells = λ r m. five .2 r m ∙ ap (λ (f : ℕ → ℕ). f r) (four .1 .f ∙ same-f);
         f = five .1 .f ∙ four .1 .f ∙ same-f;
-        rm = run-rm (came .runs);
+        rm = run-rm (came .runs .runs);
         mem = came .same;
       },
     )

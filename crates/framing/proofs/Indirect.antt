@@ -17,10 +17,10 @@ use Rattle.machine.specs.Word.{w64, upd, load8}
 use Rattle.machine.specs.Floats.{Floats}
 use Rattle.machine.specs.State.{State, setx}
 use Rattle.machine.specs.Effect.{effect, apply, exec}
-use Rattle.machine.specs.Step.{Run, stop, execs}
+use Rattle.machine.specs.Step.{Among, RunIn, execs}
 use Rattle.machine.proofs.Memory.{upd-other}
 use Rattle.machine.proofs.Effects.{and-l, and-r}
-use Rattle.machine.proofs.Runs.{run-sound}
+use Rattle.machine.proofs.Runs.{no-step, run-sound}
 use Rattle.machine.proofs.Straight.{execs-x}
 use Rattle.machine.proofs.Stores.{Same, Off}
 use Rattle.order.specs.declared.Frame.the-variants.{Indirect}
@@ -144,6 +144,9 @@ module _ (Q : Floats) (cap states obs last mask : ℕ) (at : ℕ → ℕ) (s : S
     abbrev P : ℕ → Type 0
     P = Frame-at H s bottom
 
+    abbrev C : ℕ → Type 0
+    C = Among (s .pc) (length (resolved at 0 (prologue H ++ saves mask)))
+
     -- the items
     abbrev first : List Instr
     first = opening Indirect ++ moves
@@ -170,28 +173,28 @@ module _ (Q : Floats) (cap states obs last mask : ℕ) (at : ℕ → ℕ) (s : S
     abbrev h3 : ℕ
     h3 = h2 + 4 * length (resolved at h2 copies)
 
-    stood : Stood at P (s .mem) (s .pc) 0 (items ++ saves mask)
+    stood : Stood at C P (s .mem) (s .pc) 0 (items ++ saves mask)
     unfolding prologue
     stood =
         let e : w64 (s .pc + 0) ≡ s .pc = omega (arith, c .sound .pc) in
         record {
-          words = record { code = rw e (c .code); off = rw e (c .code-apart); short = omega (arith, c .code-fits); even = omega (arith, c .start) };
+          words = record { code = rw e (c .code); off = rw e (c .code-apart); short = omega (arith, c .code-fits); even = omega (arith, c .start); inside = λ k l. (k, l, omega arith) };
           labels = c .labels;
         }
 
-    st0 : Stood at P (s .mem) (s .pc) 0 (code first ++ (jump Beq at-main 0 ∷ (code down ++ (copies ++ up))))
+    st0 : Stood at C P (s .mem) (s .pc) 0 (code first ++ (jump Beq at-main 0 ∷ (code down ++ (copies ++ up))))
     st0 = behind-label 0 at-self _ (stood-left 0 items (saves mask) stood)
 
-    st1 : Stood at P (s .mem) (s .pc) h1 (jump Beq at-main 0 ∷ (code down ++ (copies ++ up)))
+    st1 : Stood at C P (s .mem) (s .pc) h1 (jump Beq at-main 0 ∷ (code down ++ (copies ++ up)))
     st1 = behind 0 first _ st0
 
-    st2 : Stood at P (s .mem) (s .pc) (h1 + 4) (code down ++ (copies ++ up))
+    st2 : Stood at C P (s .mem) (s .pc) (h1 + 4) (code down ++ (copies ++ up))
     st2 = behind-jump h1 Beq at-main 0 _ st1
 
-    st3 : Stood at P (s .mem) (s .pc) h2 (copies ++ up)
+    st3 : Stood at C P (s .mem) (s .pc) h2 (copies ++ up)
     st3 = behind (h1 + 4) down _ st2
 
-    st4 : Stood at P (s .mem) (s .pc) h3 up
+    st4 : Stood at C P (s .mem) (s .pc) h3 up
     st4 = stood-right h2 copies up st3
 
     -- how far the branch goes
@@ -202,7 +205,7 @@ module _ (Q : Floats) (cap states obs last mask : ℕ) (at : ℕ → ℕ) (s : S
     short-way =
         omega (arith, length-append (sub-stack-code fs) (mv 9 2 ∷ Shift SLLI 19 19 (pos 3) ∷ []), sub-stack-length fs, repeated-words at h2 states at-pro (mv 6 9 ∷ []) state-copy refl)
 
-    branch : Words P (s .mem) (s .pc + h1) (encode (over way) ∷ [])
+    branch : Words C P (s .mem) (s .pc + h1) (encode (over way) ∷ [])
     branch =
         let e : at at-main ≡ h1 + 4 * way = st4 .labels .0 ∙ omega arith in
         rw (e, forward h1 way) at (jump-word h1 Beq at-main 0 _ st1)
@@ -228,15 +231,15 @@ module _ (Q : Floats) (cap states obs last mask : ℕ) (at : ℕ → ℕ) (s : S
         let m = moved-to Q P (one .0) (small 10 tt) (small 11 tt) (small 12 tt) (small 13 tt) in
         (m .0 ∙ arg 10 tt, m .1 ∙ arg 11 tt, m .2 ∙ arg 12 tt, m .3 ∙ arg 13 tt)
 
-    came1 : Came Q P s (s .pc + h1) 13 two
+    came1 : Came Q C P s (s .pc + h1) 13 two
     came1 =
         came-at (omega arith) (omega (arith, thirteen))
-        (onward-seg first (s .pc + 0) 0 s (piece 0 first _ st0) (record { runs = stop; same = λ x l o. refl; pc = omega (arith, c .sound .pc) }) (seg-join {is = opening Indirect} (seg-wider one-in (one .1 .seg)) (moved Q P (one .0) .0)))
+        (onward-seg first (s .pc + 0) 0 s (piece 0 first _ st0) (record { runs = no-step Q; same = λ x l o. refl; pc = omega (arith, c .sound .pc) }) (seg-join {is = opening Indirect} (seg-wider one-in (one .1 .seg)) (moved Q P (one .0) .0)))
 
     abbrev past : State
     past = exec Q (over way) two
 
-    came2 : (b : ℕ) → past .pc ≡ w64 b → Came Q P s b 14 past
+    came2 : (b : ℕ) → past .pc ≡ w64 b → Came Q C P s b 14 past
     came2 b p = hop (over way) (s .pc + h1) b 13 two branch came1 (omega (arith, short-way)) (over-keeps Q two way .2) p
 
     -- registers there
@@ -250,7 +253,7 @@ module _ (Q : Floats) (cap states obs last mask : ℕ) (at : ℕ → ℕ) (s : S
     -- ---- at `@main`, whichever way it was reached
 
     record Main (k : ℕ) (w : State) : Type 0 where
-      came : Came Q P s (s .pc + h3) k w
+      came : Came Q C P s (s .pc + h3) k w
       sp : w .x 2 ≡ base
       s0 : w .x 8 ≡ fp
       s1 : w .x 9 ≡ mem-at H s bottom
@@ -299,7 +302,7 @@ module _ (Q : Floats) (cap states obs last mask : ℕ) (at : ℕ → ℕ) (s : S
       ms-is : ms ≡ fs
       ms-is = rw e refl
 
-      fall : Came Q P s (s .pc + (h1 + 4)) 14 past
+      fall : Came Q C P s (s .pc + (h1 + 4)) 14 past
       fall = came2 (s .pc + (h1 + 4)) (over-stays Q two way (s .pc + h1) (came1 .pc) (λ z. not-zero (sym (args .1) ∙ z)) ∙ omega arith)
 
       low : (v : State) × Lowered Q P (sub-stack-code fs ++ (mv 9 2 ∷ [])) 9 base past v
@@ -319,7 +322,7 @@ module _ (Q : Floats) (cap states obs last mask : ℕ) (at : ℕ → ℕ) (s : S
       unfolding effect apply setx upd
       three-does = (record { fit = omega arith; lands = omega arith; end = refl }, refl, refl, refl)
 
-      came3 : Came Q P s (s .pc + h2) (14 + (length (sub-stack-code fs) + 2)) three
+      came3 : Came Q C P s (s .pc + h2) (14 + (length (sub-stack-code fs) + 2)) three
       came3 =
           let k = length-append (sub-stack-code fs) (mv 9 2 ∷ eight ∷ []) in
           came-at (omega arith) (omega (arith, k))
@@ -371,9 +374,9 @@ module _ (Q : Floats) (cap states obs last mask : ℕ) (at : ℕ → ℕ) (s : S
       abbrev steps : ℕ
       steps = 14 + (length (sub-stack-code fs) + 2 + repeated-steps states 1)
 
-      copied : states ≢ 0 → (w : State) × Came Q P s (s .pc + h3) (14 + (length (sub-stack-code fs) + 2) + repeated-steps states 1) w × Done states w
+      copied : states ≢ 0 → (w : State) × Came Q C P s (s .pc + h3) (14 + (length (sub-stack-code fs) + 2) + repeated-steps states 1) w × Done states w
       copied n =
-          repeat Q P state-copy states Done refl again (copied-free Q P (s .mem) (three .mem) (three .x) (s .f) base states (s .x 11) (8 * s .x 12) states) at (s .pc) s h2 (14 + (length (sub-stack-code fs) + 2)) at-pro three four (mv 6 9 ∷ []) n (omega (arith, few)) came3 (started .0) (started .1)
+          repeat Q P state-copy states Done C refl again (copied-free Q P (s .mem) (three .mem) (three .x) (s .f) base states (s .x 11) (8 * s .x 12) states) at (s .pc) s h2 (14 + (length (sub-stack-code fs) + 2)) at-pro three four (mv 6 9 ∷ []) n (omega (arith, few)) came3 (started .0) (started .1)
           (stood-left h2 copies up st3)
 
       abbrev States : ℕ → Type 0
@@ -448,11 +451,11 @@ module _ (Q : Floats) (cap states obs last mask : ℕ) (at : ℕ → ℕ) (s : S
     low-sp : (v : State) × Lowered Q P (allocate-stack-code ss) 21 bottom (main .0) v
     low-sp = allocate-to Q P bottom ss (omega (arith, sizes)) (main .0) (main .1 .sp ∙ omega (arith, top)) (omega (arith, top))
 
-    came5 : Came Q P s (s .pc + h3 + 4 * length (allocate-stack-code ss)) (main-steps (eqb (s .x 11) 0) + length (allocate-stack-code ss)) (low-sp .0)
+    came5 : Came Q C P s (s .pc + h3 + 4 * length (allocate-stack-code ss)) (main-steps (eqb (s .x 11) 0) + length (allocate-stack-code ss)) (low-sp .0)
     came5 = onward-seg (allocate-stack-code ss) (s .pc + h3) (main-steps (eqb (s .x 11) 0)) (main .0) (stood-code h3 (allocate-stack-code ss) (behind-label h3 at-main _ st4)) (main .1 .came) (low-sp .1 .seg)
 
     six : (v : State) × Stored Q bottom cap (map save (saved mask)) (low-sp .0) v × ((r : ℕ) → List·Memᴰ r (saved mask) → load8 (v .mem) (bottom + 8 * save-cell r) ≡ low-sp .0 .f r) × ((c : ℕ) → c < cap → ((r : ℕ) → List·Memᴰ r (saved mask) → save-cell r ≢ c) → load8 (v .mem) (bottom + 8 * c) ≡ load8 (low-sp .0 .mem) (bottom + 8 * c))
-    six = saves-stored Q bottom cap mask (low-sp .0) (low-sp .1 .copy) (omega (arith, sizes, top)) (c .room-for-saves) ((run-sound Q (came5 .runs) (c .sound)) .f)
+    six = saves-stored Q bottom cap mask (low-sp .0) (low-sp .1 .copy) (omega (arith, sizes, top)) (c .room-for-saves) ((run-sound Q (came5 .runs .runs) (c .sound)) .f)
 
     words-before : 4 * length (resolved at 0 items) ≡ h3 + 4 * length (allocate-stack-code ss)
     unfolding resolved
@@ -463,13 +466,13 @@ module _ (Q : Floats) (cap states obs last mask : ℕ) (at : ℕ → ℕ) (s : S
     abbrev row : List Instr
     row = map save (saved mask)
 
-    saves-stood : Words P (s .mem) (s .pc + (h3 + 4 * length (allocate-stack-code ss))) (map encode row)
+    saves-stood : Words C P (s .mem) (s .pc + (h3 + 4 * length (allocate-stack-code ss))) (map encode row)
     unfolding saves
     saves-stood =
         rw (zero-add (4 * length (resolved at 0 items)), words-before)
         at (stood-code (0 + 4 * length (resolved at 0 items)) row (stood-right 0 items (code row) stood))
 
-    came6 : Came Q P s (s .pc + (h3 + 4 * length (allocate-stack-code ss)) + 4 * length row) (main-steps (eqb (s .x 11) 0) + length (allocate-stack-code ss) + length row) (six .0)
+    came6 : Came Q C P s (s .pc + (h3 + 4 * length (allocate-stack-code ss)) + 4 * length row) (main-steps (eqb (s .x 11) 0) + length (allocate-stack-code ss) + length row) (six .0)
     came6 =
         onward-seg row (s .pc + (h3 + 4 * length (allocate-stack-code ss))) (main-steps (eqb (s .x 11) 0) + length (allocate-stack-code ss)) (low-sp .0) saves-stood (came-at (omega arith) refl came5)
         (seg-wider (λ x p. omega (arith, p, sizes)) (six .1 .seg))
@@ -528,7 +531,7 @@ module _ (Q : Floats) (cap states obs last mask : ℕ) (at : ℕ → ℕ) (s : S
     ready = (
       end,
       record {
-        runs = subst (λ (k : ℕ). Run Q s k end) (omega (arith, length-map (saved mask) save)) (came6 .runs);
+        runs = subst (λ (k : ℕ). RunIn Q C s k end) (omega (arith, length-map (saved mask) save)) (came6 .runs);
         pc = came6 .pc ∙ ap (λ (b : ℕ). b % 2 ^ 64) (omega (arith, words-all, words-before));
         sp = ap (λ (x : ℕ → ℕ). x 2) (six .1 .x) ∙ low-sp .1 .sp;
         s5 = ap (λ (x : ℕ → ℕ). x 21) (six .1 .x) ∙ low-sp .1 .copy;
@@ -544,7 +547,7 @@ module _ (Q : Floats) (cap states obs last mask : ℕ) (at : ℕ → ℕ) (s : S
         stack-cells = unsaved;
         saved-cells = λ r m. six .2 r m ∙ ap (λ (f : ℕ → ℕ). f r) (low-sp .1 .f ∙ main .1 .f) ∙ kept-f r (not-ten mask r m);
         f = six .1 .f ∙ low-sp .1 .f ∙ main .1 .f;
-        rm = run-rm (came6 .runs);
+        rm = run-rm (came6 .runs .runs);
         mem = came6 .same;
       },
     )

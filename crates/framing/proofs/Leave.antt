@@ -1,5 +1,5 @@
 -- Reloads, and the return, as both frames have them. Assumes nothing.
-use mathlib.Core.Path.{_≡_, refl, ap, subst, _∙_}
+use mathlib.Core.Path.{_≡_, refl, ap, sym, subst, _∙_}
 use mathlib.Core.Logic.{_≢_}
 use mathlib.Core.Bool.{not}
 use mathlib.Core.List.{List, [], _∷_, _++_, map, map-append, List·Memᴰ}
@@ -14,8 +14,9 @@ use Rattle.machine.specs.Word.{w64, load8}
 use Rattle.machine.specs.Floats.{Floats}
 use Rattle.machine.specs.State.{State, setx}
 use Rattle.machine.specs.Effect.{effect, apply, exec}
-use Rattle.machine.specs.Step.{stop}
+use Rattle.machine.specs.Step.{Among}
 use Rattle.machine.proofs.Effects.{setx-other}
+use Rattle.machine.proofs.Runs.{no-step}
 use Rattle.order.specs.declared.Frame.{Frame}
 use Rattle.order.specs.declared.Head.{Head}
 use Rattle.assembler.specs.Item.{label}
@@ -23,11 +24,11 @@ use Rattle.assembler.specs.Resolved.{resolved}
 use Rattle.framing.specs.Size.{save-size}
 use Rattle.order.specs.Mask.{saved, save-cell}
 use Rattle.framing.specs.Items.{at-success, at-epilogue, code, kept, closing, reload, reloads, epilogue}
-use Rattle.framing.proofs.Walk.{resolved-instrs, Words, words-left, words-right, Stood, stood-left, stood-code, piece, behind, behind-label, Came, came-at, hop}
+use Rattle.framing.proofs.Walk.{resolved-instrs, Words, words-left, words-right, Stood, stood-left, stood-code, piece, behind, behind-label, wrapped, Came, came-at, hop}
 use Rattle.framing.proofs.Seg.{Seg, onward-seg}
 use Rattle.framing.proofs.Rows.{saved-proper, proper-fits}
 use Rattle.framing.proofs.Reload.{Loaded, loaded, restoring, return, closing-is, closing-length, restored, Restored}
-use Rattle.framing.proofs.Claim.{Observed-at, Leaving}
+use Rattle.framing.proofs.Claim.{Observed-at, exit-words, Leaving}
 
 -- ---- the reloads
 
@@ -36,7 +37,7 @@ zero-a0 = I ADDI 10 0 (pos 0)
 
 -- behind them: a0 and the reloaded registers apart, all is as before
 pub record Reloaded (Q : Floats) (H : Head) (at : ℕ → ℕ) (s : State) (a here : ℕ) (u w : State) : Type 0 where
-  pub came : Came Q (Observed-at H s) u (a + (here + 4 * length (resolved at here (reloads (H .mask))))) (1 + length (saved (H .mask))) w
+  pub came : Came Q (Among (u .pc) (length (exit-words H at here))) (Observed-at H s) u (a + (here + 4 * length (resolved at here (reloads (H .mask))))) (1 + length (saved (H .mask))) w
   pub x : (r : ℕ) → r ≢ 10 → w .x r ≡ u .x r
   pub mem : w .mem ≡ u .mem
   pub saved-f : (r : ℕ) → List·Memᴰ r (saved (H .mask)) → w .f r ≡ s .f r
@@ -46,10 +47,13 @@ module _ (Q : Floats) (H : Head) (at : ℕ → ℕ) (s : State) (bottom a here :
   abbrev P : ℕ → Type 0
   P = Observed-at H s
 
-  pub stood : Stood at P (u .mem) a here (reloads (H .mask) ++ epilogue H)
+  abbrev C : ℕ → Type 0
+  C = Among (u .pc) (length (exit-words H at here))
+
+  pub stood : Stood at C P (u .mem) a here (reloads (H .mask) ++ epilogue H)
   stood =
       record {
-        words = record { code = rw (← (l .pc)) (l .code); off = rw (← (l .pc)) (l .code-apart); short = l .short; even = l .even };
+        words = record { code = rw (← (l .pc)) (l .code); off = rw (← (l .pc)) (l .code-apart); short = l .short; even = l .even; inside = λ k m. (k, m, sym (rw (l .pc) (wrapped (a + here) k))) };
         labels = l .labels;
       }
 
@@ -69,14 +73,14 @@ module _ (Q : Floats) (H : Head) (at : ℕ → ℕ) (s : State) (bottom a here :
       loaded Q P (one .x) (u .mem) bottom (one-does .3 21 (λ z. omega arith) ∙ l .s5) (saved (H .mask)) one refl (one-does .1)
       (λ r m. proper-fits r (saved-proper (H .mask) r m))
 
-  came : Came Q P u (a + (here + 4 * length (resolved at here (reloads (H .mask))))) (1 + length (saved (H .mask))) (two .0)
+  came : Came Q C P u (a + (here + 4 * length (resolved at here (reloads (H .mask))))) (1 + length (saved (H .mask))) (two .0)
   unfolding reloads resolved
   came =
       let st = stood-left here (reloads (H .mask)) (epilogue H) stood in
       let st1 = behind-label here at-success _ st in
       let st2 = behind-label (here + 4) at-epilogue _ (behind here (zero-a0 ∷ []) (label at-epilogue ∷ code list) st1) in
       let n : length list ≡ length (saved (H .mask)) = length-map (saved (H .mask)) reload in
-      let c1 = onward-seg (zero-a0 ∷ []) (a + here) 0 u (piece here (zero-a0 ∷ []) (label at-epilogue ∷ code list) st1) (record { runs = stop; same = λ x k o. refl; pc = l .pc }) (one-does .0) in
+      let c1 = onward-seg (zero-a0 ∷ []) (a + here) 0 u (piece here (zero-a0 ∷ []) (label at-epilogue ∷ code list) st1) (record { runs = no-step Q; same = λ x k o. refl; pc = l .pc }) (one-does .0) in
       let c2 = onward-seg list (a + (here + 4)) 1 one (stood-code (here + 4) list st2) (came-at (omega arith) refl c1) (two .1 .seg) in
       came-at (rw (resolved-instrs at (here + 4) list) (omega (arith, length-map list encode))) (omega (arith, n)) c2
 
@@ -108,8 +112,8 @@ module _ (Q : Floats) (v : State) where
   return-goes b e h l = rw e (omega arith)
 
 -- behind the closing
-pub record Closed (Q : Floats) (P : ℕ → Type 0) (F : Frame) (fp ra k : ℕ) (u w v : State) : Type 0 where
-  pub came : Came Q P u ra (k + (4 + length (kept F))) v
+pub record Closed (Q : Floats) (C P : ℕ → Type 0) (F : Frame) (fp ra k : ℕ) (u w v : State) : Type 0 where
+  pub came : Came Q C P u ra (k + (4 + length (kept F))) v
   pub regs : (i : ℕ) → i < length (kept F) → v .x (getD (kept F) i 0) ≡ load8 (w .mem) (fp + 8 * i)
   pub sp : v .x 2 ≡ w64 (fp + save-size F)
   pub a0 : v .x 10 ≡ 0
@@ -117,10 +121,10 @@ pub record Closed (Q : Floats) (P : ℕ → Type 0) (F : Frame) (fp ra k : ℕ) 
   pub f : v .f ≡ w .f
   pub mem : v .mem ≡ w .mem
 
-module _ (Q : Floats) (P : ℕ → Type 0) (at : ℕ → ℕ) (F : Frame) (fp ra a h k : ℕ) (u w v : State) where
-  pub closes : Stood at P (u .mem) a h (code (closing F)) → Came Q P u (a + h) k w → Restored Q P F fp w v → v .x 1 ≡ ra → ra % 4 ≡ 0 → ra < 2 ^ 64 → Closed Q P F fp ra k u w (exec Q return v)
+module _ (Q : Floats) (C P : ℕ → Type 0) (at : ℕ → ℕ) (F : Frame) (fp ra a h k : ℕ) (u w v : State) where
+  pub closes : Stood at C P (u .mem) a h (code (closing F)) → Came Q C P u (a + h) k w → Restored Q P F fp w v → v .x 1 ≡ ra → ra % 4 ≡ 0 → ra < 2 ^ 64 → Closed Q C P F fp ra k u w (exec Q return v)
   closes st c r e d l =
-      let ws : Words P (u .mem) (a + h) (map encode (restoring F) ++ (encode return ∷ [])) = subst (λ (w : List ℕ). Words P (u .mem) (a + h) w) (ap (λ (is : List Instr). map encode is) (closing-is F) ∙ map-append encode (restoring F) (return ∷ [])) (stood-code h (closing F) st) in
+      let ws : Words C P (u .mem) (a + h) (map encode (restoring F) ++ (encode return ∷ [])) = subst (λ (w : List ℕ). Words C P (u .mem) (a + h) w) (ap (λ (is : List Instr). map encode is) (closing-is F) ∙ map-append encode (restoring F) (return ∷ [])) (stood-code h (closing F) st) in
       let n : length (map encode (restoring F)) ≡ length (restoring F) = length-map (restoring F) encode in
       let c1 = onward-seg (restoring F) (a + h) k w (words-left (a + h) (map encode (restoring F)) (encode return ∷ []) ws) c (r .seg) in
       let g = return-keeps Q v in

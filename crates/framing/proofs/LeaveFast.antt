@@ -13,7 +13,7 @@ use Rattle.machine.specs.Word.{w64, upd, load8}
 use Rattle.machine.specs.Floats.{Floats}
 use Rattle.machine.specs.State.{State}
 use Rattle.machine.specs.Effect.{effect, apply, exec}
-use Rattle.machine.specs.Step.{Run, execs}
+use Rattle.machine.specs.Step.{Among, RunIn, execs}
 use Rattle.machine.proofs.Memory.{upd-same, upd-other, load8-small}
 use Rattle.machine.proofs.Effects.{and-l, and-r}
 use Rattle.order.specs.declared.Frame.the-variants.{Fast}
@@ -28,7 +28,7 @@ use Rattle.framing.proofs.Seg.{Seg, onward-seg}
 use Rattle.framing.proofs.Rows.{not-ten}
 use Rattle.framing.proofs.Reload.{restoring, return, Restored, restores-fast}
 use Rattle.framing.proofs.Leave.{Reloaded, stood, reloaded, Closed, closes}
-use Rattle.framing.proofs.Claim.{Observed-at, Leaving, Returned, end-sets}
+use Rattle.framing.proofs.Claim.{Observed-at, exit-words, Leaving, Returned, end-sets}
 
 module _ (Q : Floats) (cap states obs last mask : ℕ) (at : ℕ → ℕ) (s : State) (bottom a here : ℕ) (u : State) where
   abbrev H : Head
@@ -37,6 +37,9 @@ module _ (Q : Floats) (cap states obs last mask : ℕ) (at : ℕ → ℕ) (s : S
   module _ (l : Leaving H at s bottom a here u) where
     abbrev P : ℕ → Type 0
     P = Observed-at H s
+
+    abbrev C : ℕ → Type 0
+    C = Among (u .pc) (length (exit-words H at here))
 
     abbrev fp : ℕ
     fp = bottom + (stack-size H + frame-size H)
@@ -55,7 +58,7 @@ module _ (Q : Floats) (cap states obs last mask : ℕ) (at : ℕ → ℕ) (s : S
     abbrev load : Instr
     load = I FLD 10 9 (pos (8 * last))
 
-    st : Stood at P (u .mem) a there (code (load ∷ closing Fast))
+    st : Stood at C P (u .mem) a there (code (load ∷ closing Fast))
     unfolding epilogue
     st = stood-right here (reloads mask) (code (load ∷ closing Fast)) (stood Q H at s bottom a here u l)
 
@@ -66,7 +69,7 @@ module _ (Q : Floats) (cap states obs last mask : ℕ) (at : ℕ → ℕ) (s : S
     unfolding effect apply
     two-does = (record { fit = omega (arith, near); lands = omega arith; end = refl }, refl, refl, refl)
 
-    came2 : Came Q P u (a + (there + 4)) (2 + length (saved mask)) two
+    came2 : Came Q C P u (a + (there + 4)) (2 + length (saved mask)) two
     came2 = came-at (omega arith) (omega arith) (onward-seg (load ∷ []) (a + there) (1 + length (saved mask)) (one .0) (piece there (load ∷ []) (code (closing Fast)) st) (one .1 .came) (two-does .0))
 
     s0 : two .x 8 ≡ fp
@@ -90,17 +93,17 @@ module _ (Q : Floats) (cap states obs last mask : ℕ) (at : ℕ → ℕ) (s : S
     ra-small : s .x 1 < 2 ^ 64
     ra-small = subst (λ (k : ℕ). k < 2 ^ 64) (l .places 0 (omega arith)) (load8-small (u .mem) (fp + 8 * 0) (l .sound .mem))
 
-    end : Closed Q P Fast fp (s .x 1) (2 + length (saved mask)) u two (exec Q return three)
-    end = closes Q P at Fast fp (s .x 1) a (there + 4) (2 + length (saved mask)) u two three (behind there (load ∷ []) (code (closing Fast)) st) came2 back ra (l .ra) ra-small
+    end : Closed Q C P Fast fp (s .x 1) (2 + length (saved mask)) u two (exec Q return three)
+    end = closes Q C P at Fast fp (s .x 1) a (there + 4) (2 + length (saved mask)) u two three (behind there (load ∷ []) (code (closing Fast)) st) came2 back ra (l .ra) ra-small
 
     ten-out : (r : ℕ) → T (not (end-sets Fast r)) → r ≢ 10
     ten-out r h e = rw e at h
 
-    pub returned : (v : State) × Returned Q H s bottom u v
+    pub returned : (v : State) × Returned Q H at s bottom here u v
     returned = (
       exec Q return three,
       record {
-        runs = subst (λ (k : ℕ). Run Q u k (exec Q return three)) (omega arith) (end .came .runs);
+        runs = subst (λ (k : ℕ). RunIn Q C u k (exec Q return three)) (omega arith) (end .came .runs);
         pc = end .came .pc ∙ omega (arith, ra-small);
         sp = end .sp ∙ sym (l .sp ∙ ap (λ (k : ℕ). k % 2 ^ 64) (omega arith));
         a0 = end .a0;
@@ -109,7 +112,7 @@ module _ (Q : Floats) (cap states obs last mask : ℕ) (at : ℕ → ℕ) (s : S
         reloaded = λ r m. ap (λ (f : ℕ → ℕ). f r) (end .f ∙ two-does .3) ∙ upd-other (one .0 .f) 10 _ r (not-ten mask r m) ∙ one .1 .saved-f r m;
         result = λ h. ap (λ (f : ℕ → ℕ). f 10) (end .f ∙ two-does .3) ∙ upd-same (one .0 .f) 10 _ ∙ rw (one .1 .mem, one .1 .x 9 (λ z. omega arith), l .s1, cell) refl;
         floats = λ r h n. ap (λ (f : ℕ → ℕ). f r) (end .f ∙ two-does .3) ∙ upd-other (one .0 .f) 10 _ r h ∙ one .1 .f r n;
-        rm = run-rm (end .came .runs);
+        rm = run-rm (end .came .runs .runs);
         mem = end .mem ∙ same-mem;
       },
     )

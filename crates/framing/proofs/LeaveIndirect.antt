@@ -15,7 +15,7 @@ use Rattle.machine.specs.Word.{w64, load8}
 use Rattle.machine.specs.Floats.{Floats}
 use Rattle.machine.specs.State.{State}
 use Rattle.machine.specs.Effect.{exec}
-use Rattle.machine.specs.Step.{Run, execs}
+use Rattle.machine.specs.Step.{Among, RunIn, execs}
 use Rattle.machine.proofs.Memory.{load8-small}
 use Rattle.machine.proofs.Effects.{and-l, and-r}
 use Rattle.machine.proofs.Stores.{Off}
@@ -41,7 +41,7 @@ use Rattle.framing.proofs.Rows.{not-ten}
 use Rattle.framing.proofs.Reload.{restoring, return, restored, Restored, restores-indirect}
 use Rattle.framing.proofs.Leave.{Reloaded, stood, reloaded, Closed, closes}
 use Rattle.framing.specs.Steps.{repeated-steps}
-use Rattle.framing.proofs.Claim.{Observed-at, observed, table-cell, mem-at, Leaving, Returned, end-sets}
+use Rattle.framing.proofs.Claim.{Observed-at, observed, table-cell, mem-at, exit-words, Leaving, Returned, end-sets}
 
 -- a register that the end doesn't set
 clear : (r : ℕ) → T (not (end-sets Indirect r)) → T (not (restored Indirect r)) × T (not (copy-regs r)) × (r ≢ 10)
@@ -67,6 +67,9 @@ module _ (Q : Floats) (cap states obs last mask : ℕ) (at : ℕ → ℕ) (s : S
   module _ (l : Leaving H at s bottom a here u) where
     abbrev P : ℕ → Type 0
     P = Observed-at H s
+
+    abbrev C : ℕ → Type 0
+    C = Among (u .pc) (length (exit-words H at here))
 
     abbrev ss : ℕ
     ss = stack-size H
@@ -107,14 +110,14 @@ module _ (Q : Floats) (cap states obs last mask : ℕ) (at : ℕ → ℕ) (s : S
     abbrev h3 : ℕ
     h3 = h2 + 4 * length (resolved at h2 copies)
 
-    st1 : Stood at P (u .mem) a h1 items
+    st1 : Stood at C P (u .mem) a h1 items
     unfolding epilogue
     st1 = stood-right here (reloads mask) items (stood Q H at s bottom a here u l)
 
-    st2 : Stood at P (u .mem) a h2 (copies ++ down)
+    st2 : Stood at C P (u .mem) a h2 (copies ++ down)
     st2 = behind-jump h1 Beq at-done 0 _ st1
 
-    st3 : Stood at P (u .mem) a h3 down
+    st3 : Stood at C P (u .mem) a h3 down
     st3 = stood-right h2 copies down st2
 
     abbrev way : ℕ
@@ -123,7 +126,7 @@ module _ (Q : Floats) (cap states obs last mask : ℕ) (at : ℕ → ℕ) (s : S
     short-way : way < 1024
     short-way = omega (arith, repeated-words at h2 obs at-epi first obs-copy refl, length-append (li-code 6 (pos (8 * states))) (R ADD 6 6 9 ∷ []), li-length 6 (pos (8 * states)))
 
-    branch : Words P (u .mem) (a + h1) (encode (over way) ∷ [])
+    branch : Words C P (u .mem) (a + h1) (encode (over way) ∷ [])
     branch =
         let e : at at-done ≡ h1 + 4 * way = st3 .labels .0 ∙ omega arith in
         rw (e, forward h1 way) at (jump-word h1 Beq at-done 0 _ st1)
@@ -134,7 +137,7 @@ module _ (Q : Floats) (cap states obs last mask : ℕ) (at : ℕ → ℕ) (s : S
     abbrev begun : ℕ
     begun = 2 + length (saved mask)
 
-    came2 : (b : ℕ) → past .pc ≡ w64 b → Came Q P u b begun past
+    came2 : (b : ℕ) → past .pc ≡ w64 b → Came Q C P u b begun past
     came2 b p = came-at refl (omega arith) (hop (over way) (a + h1) b (1 + length (saved mask)) (one .0) branch (one .1 .came) (omega (arith, short-way)) (over-keeps Q (one .0) way .2) p)
 
     past-x : (r : ℕ) → r ≢ 10 → past .x r ≡ u .x r
@@ -148,7 +151,7 @@ module _ (Q : Floats) (cap states obs last mask : ℕ) (at : ℕ → ℕ) (s : S
 
     -- at `@done`, whichever way it was reached
     record Done (k : ℕ) (w : State) : Type 0 where
-      came : Came Q P u (a + h3) k w
+      came : Came Q C P u (a + h3) k w
       x : (r : ℕ) → T (not (copy-regs r)) → r ≢ 10 → w .x r ≡ u .x r
       f : (r : ℕ) → r ≢ 10 → w .f r ≡ one .0 .f r
       mem : w .mem ≡ cond (not (eqb (s .x 11) 0)) (observed H s cell 0 obs (u .mem)) (u .mem)
@@ -205,7 +208,7 @@ module _ (Q : Floats) (cap states obs last mask : ℕ) (at : ℕ → ℕ) (s : S
         not-zero : one .0 .x 18 ≢ 0
         not-zero z = omega (arith, pointer, z, l .table-fits used, eqb-false (s .x 11) 0 e, n)
 
-        fall : Came Q P u (a + h2) begun past
+        fall : Came Q C P u (a + h2) begun past
         fall = came2 (a + h2) (over-stays Q (one .0) way (a + h1) (one .1 .came .pc) not-zero ∙ ap (λ (k : ℕ). k % 2 ^ 64) (omega arith))
 
         abbrev base : ℕ
@@ -241,9 +244,9 @@ module _ (Q : Floats) (cap states obs last mask : ℕ) (at : ℕ → ℕ) (s : S
             (λ i h. off-part P (s .x 11) (16 * (states + obs)) (16 * (states + i)) (l .table-apart used) (omega arith) (omega (arith, few)))
             cell-off
 
-        done : (w : State) × Came Q P u (a + h3) (begun + repeated-steps obs (length first)) w × Inv obs w
+        done : (w : State) × Came Q C P u (a + h3) (begun + repeated-steps obs (length first)) w × Inv obs w
         done =
-            repeat Q P obs-copy obs Inv refl again (given-free Q P (past .mem) (past .x) (past .f) base (s .x 11) (8 * s .x 12) states obs) at a u h2 begun at-epi past (begin .0) first n (omega (arith, few)) fall (begin .1) (begin .2)
+            repeat Q P obs-copy obs Inv C refl again (given-free Q P (past .mem) (past .x) (past .f) base (s .x 11) (8 * s .x 12) states obs) at a u h2 begun at-epi past (begin .0) first n (omega (arith, few)) fall (begin .1) (begin .2)
             (stood-left h2 copies down st2)
 
         -- memory with i given, in the reading's terms
@@ -306,17 +309,17 @@ module _ (Q : Floats) (cap states obs last mask : ℕ) (at : ℕ → ℕ) (s : S
     ra-small : s .x 1 < 2 ^ 64
     ra-small = subst (λ (k : ℕ). k < 2 ^ 64) (l .places 0 (omega arith)) (load8-small (u .mem) (fp + 8 * 0) (l .sound .mem))
 
-    end : Closed Q P Indirect fp (s .x 1) (done-steps (eqb (s .x 11) 0)) u (two .0) (exec Q return three)
-    end = closes Q P at Indirect fp (s .x 1) a h3 (done-steps (eqb (s .x 11) 0)) u (two .0) three (behind-label h3 at-done _ st3) (two .1 .came) back ra (l .ra) ra-small
+    end : Closed Q C P Indirect fp (s .x 1) (done-steps (eqb (s .x 11) 0)) u (two .0) (exec Q return three)
+    end = closes Q C P at Indirect fp (s .x 1) a h3 (done-steps (eqb (s .x 11) 0)) u (two .0) three (behind-label h3 at-done _ st3) (two .1 .came) back ra (l .ra) ra-small
 
     first-length : length first ≡ length (li-code 6 (pos (8 * states))) + 1
     first-length = length-append (li-code 6 (pos (8 * states))) (R ADD 6 6 9 ∷ [])
 
-    pub returned : (v : State) × Returned Q H s bottom u v
+    pub returned : (v : State) × Returned Q H at s bottom here u v
     returned = (
       exec Q return three,
       record {
-        runs = subst (λ (k : ℕ). Run Q u k (exec Q return three)) count (end .came .runs);
+        runs = subst (λ (k : ℕ). RunIn Q C u k (exec Q return three)) count (end .came .runs);
         pc = end .came .pc ∙ omega (arith, ra-small);
         sp = end .sp ∙ sym (l .sp ∙ ap (λ (k : ℕ). k % 2 ^ 64) (omega arith));
         a0 = end .a0;
@@ -325,7 +328,7 @@ module _ (Q : Floats) (cap states obs last mask : ℕ) (at : ℕ → ℕ) (s : S
         reloaded = λ r m. ap (λ (f : ℕ → ℕ). f r) (end .f) ∙ two .1 .f r (not-ten mask r m) ∙ one .1 .saved-f r m;
         result = λ h. absurd h;
         floats = λ r h n. ap (λ (f : ℕ → ℕ). f r) (end .f) ∙ two .1 .f r h ∙ one .1 .f r n;
-        rm = run-rm (end .came .runs);
+        rm = run-rm (end .came .runs .runs);
         mem = end .mem ∙ two .1 .mem;
       },
     )

@@ -68,7 +68,7 @@ module _ (Q : Floats) (P : ℕ → Type 0) (each : List Instr) (n : ℕ) (Inv : 
   abbrev pub Free : Type 0
   Free = (i : ℕ) (u v : State) → ((r : ℕ) → r ≢ 7 → v .x r ≡ u .x r) → v .f ≡ u .f → v .mem ≡ u .mem → Inv i u → Inv i v
 
-  module _ (six : length each ≡ 6) (round : (i : ℕ) (u : State) → i < n → Inv i u → Round i u) (free : Free) where
+  module _ (C : ℕ → Type 0) (six : length each ≡ 6) (round : (i : ℕ) (u : State) → i < n → Inv i u → Round i u) (free : Free) where
     over : (k i : ℕ) (u : State) → i + k ≡ n → Inv i u → (v : State) × Seg Q P (times-over k each) u v × Inv n v
     over zero i u e h = let z : i ≡ n = omega arith in (u, seg-none, subst (λ (j : ℕ). Inv j u) z h)
     over (suc k) i u e h =
@@ -77,12 +77,12 @@ module _ (Q : Floats) (P : ℕ → Type 0) (each : List Instr) (n : ℕ) (Inv : 
         (t .0, seg-join {is = each} (record { fit = r .fit; lands = r .lands; end = refl }) (t .1), t .2)
 
     -- the loop
-    module _ (at : ℕ → ℕ) (s : State) (b : ℕ) (w : Words P (s .mem) b (map encode (each ++ (count-down ∷ [])))) (j : Words P (s .mem) (b + 28) (encode back ∷ [])) where
-      module _ (k i c : ℕ) (u : State) (e : i + suc k ≡ n) (l : suc k < 2 ^ 64) (h : Inv i u) (x : u .x 7 ≡ suc k) (m : Came Q P s b c u) where
+    module _ (at : ℕ → ℕ) (s : State) (b : ℕ) (w : Words C P (s .mem) b (map encode (each ++ (count-down ∷ [])))) (j : Words C P (s .mem) (b + 28) (encode back ∷ [])) where
+      module _ (k i c : ℕ) (u : State) (e : i + suc k ≡ n) (l : suc k < 2 ^ 64) (h : Inv i u) (x : u .x 7 ≡ suc k) (m : Came Q C P s b c u) where
         abbrev low : State
         low = exec Q count-down (execs Q each u)
 
-        down : Came Q P s (b + 28) (c + 7) low
+        down : Came Q C P s (b + 28) (c + 7) low
         unfolding effect
         down =
             let r = round i u (omega arith) h in
@@ -106,10 +106,10 @@ module _ (Q : Floats) (P : ℕ → Type 0) (each : List Instr) (n : ℕ) (Inv : 
         new-x = ap (λ (x : ℕ → ℕ). x 7) (back-keeps Q low .0) ∙ low-x
 
         -- to b′
-        jumped : (b′ : ℕ) → new .pc ≡ w64 b′ → Came Q P s b′ (c + 7 + 1) new
+        jumped : (b′ : ℕ) → new .pc ≡ w64 b′ → Came Q C P s b′ (c + 7 + 1) new
         jumped b′ p = hop back (b + 28) b′ (c + 7) low j down (omega arith) (back-keeps Q low .2) p
 
-      loop : (k i c : ℕ) (u : State) → i + suc k ≡ n → suc k < 2 ^ 64 → Inv i u → u .x 7 ≡ suc k → Came Q P s b c u → (v : State) × Came Q P s (b + 32) (c + 8 * suc k) v × Inv n v
+      loop : (k i c : ℕ) (u : State) → i + suc k ≡ n → suc k < 2 ^ 64 → Inv i u → u .x 7 ≡ suc k → Came Q C P s b c u → (v : State) × Came Q C P s (b + 32) (c + 8 * suc k) v × Inv n v
       loop zero i c u e l h x m =
           let q = jumped zero i c u e l h x m (b + 28 + 4) (leaves Q (low zero i c u e l h x m) (b + 28) (down zero i c u e l h x m .pc) (low-x zero i c u e l h x m)) in
           let z : suc i ≡ n = omega arith in
@@ -121,8 +121,8 @@ module _ (Q : Floats) (P : ℕ → Type 0) (each : List Instr) (n : ℕ) (Inv : 
 
     -- ---- all of it
 
-    module _ (at : ℕ → ℕ) (a : ℕ) (s : State) (here c l : ℕ) (u v : State) (first : List Instr) (some : n ≢ 0) (few : n ≤ 4096) (m : Came Q P s (a + here) c u) (g : Seg Q P first u v) (h : Inv 0 v) where
-      in-row : Stood at P (s .mem) a here (code (first ++ times-over n each)) → (w : State) × Came Q P s (a + (here + 4 * length (resolved at here (code (first ++ times-over n each))))) (c + (length first + 6 * n)) w × Inv n w
+    module _ (at : ℕ → ℕ) (a : ℕ) (s : State) (here c l : ℕ) (u v : State) (first : List Instr) (some : n ≢ 0) (few : n ≤ 4096) (m : Came Q C P s (a + here) c u) (g : Seg Q P first u v) (h : Inv 0 v) where
+      in-row : Stood at C P (s .mem) a here (code (first ++ times-over n each)) → (w : State) × Came Q C P s (a + (here + 4 * length (resolved at here (code (first ++ times-over n each))))) (c + (length first + 6 * n)) w × Inv n w
       in-row st =
           let o = over n 0 v (omega arith) h in
           let k = row-words at here n l first each six in
@@ -142,12 +142,12 @@ module _ (Q : Floats) (P : ℕ → Type 0) (each : List Instr) (n : ℕ) (Inv : 
       seven : length (each ++ (count-down ∷ [])) ≡ 7
       seven = omega (arith, length-append each (count-down ∷ []), six)
 
-      back-word : (p there : ℕ) → p ≡ there → Words P (s .mem) (a + (there + 4 * length (each ++ (count-down ∷ [])))) (encode (B BNE 7 0 (subℕ p (there + 4 * length (each ++ (count-down ∷ []))))) ∷ []) → Words P (s .mem) (a + there + 28) (encode back ∷ [])
+      back-word : (p there : ℕ) → p ≡ there → Words C P (s .mem) (a + (there + 4 * length (each ++ (count-down ∷ [])))) (encode (B BNE 7 0 (subℕ p (there + 4 * length (each ++ (count-down ∷ []))))) ∷ []) → Words C P (s .mem) (a + there + 28) (encode back ∷ [])
       back-word p there e w =
           let z : a + there + 28 ≡ a + (there + 28) = omega arith in
           rw (z, ← (back-by there)) (rw (seven, e) at w)
 
-      by-loop : Stood at P (s .mem) a here (code start ++ (label l ∷ inner)) → (w : State) × Came Q P s (a + (here + 4 * length (resolved at here (code start ++ (label l ∷ inner))))) (c + (length first + length (li-code 7 (pos n)) + 8 * n)) w × Inv n w
+      by-loop : Stood at C P (s .mem) a here (code start ++ (label l ∷ inner)) → (w : State) × Came Q C P s (a + (here + 4 * length (resolved at here (code start ++ (label l ∷ inner))))) (c + (length first + length (li-code 7 (pos n)) + 8 * n)) w × Inv n w
       by-loop st =
           let q = li Q 7 (pos n) v (omega arith) (λ z. omega arith) (le→leb n 0x7FFFF7FF (omega arith)) in
           let w2 = execs Q (li-code 7 (pos n)) v in
@@ -164,11 +164,11 @@ module _ (Q : Floats) (P : ℕ → Type 0) (each : List Instr) (n : ℕ) (Inv : 
           in
           (t .0, came-at {u = t .0} (omega (arith, loop-words at here n l first each six, k)) (omega (arith, k)) (t .1), t .2)
 
-      pub repeat : Stood at P (s .mem) a here (repeated n first each l) → (w : State) × Came Q P s (a + (here + 4 * length (resolved at here (repeated n first each l)))) (c + repeated-steps n (length first)) w × Inv n w
+      pub repeat : Stood at C P (s .mem) a here (repeated n first each l) → (w : State) × Came Q C P s (a + (here + 4 * length (resolved at here (repeated n first each l)))) (c + repeated-steps n (length first)) w × Inv n w
       unfolding repeated
       repeat st = by (eqb n 0) (leb n 16) refl st
         where
-          by : (z t : Bool) → eqb n 0 ≡ z → Stood at P (s .mem) a here (cond z [] (cond t (code (first ++ times-over n each)) (code start ++ (label l ∷ inner)))) → (w : State) × Came Q P s (a + (here + 4 * length (resolved at here (cond z [] (cond t (code (first ++ times-over n each)) (code start ++ (label l ∷ inner))))))) (c + cond z 0 (cond t (length first + 6 * n) (length first + length (li-code 7 (pos n)) + 8 * n))) w × Inv n w
+          by : (z t : Bool) → eqb n 0 ≡ z → Stood at C P (s .mem) a here (cond z [] (cond t (code (first ++ times-over n each)) (code start ++ (label l ∷ inner)))) → (w : State) × Came Q C P s (a + (here + 4 * length (resolved at here (cond z [] (cond t (code (first ++ times-over n each)) (code start ++ (label l ∷ inner))))))) (c + cond z 0 (cond t (length first + 6 * n) (length first + length (li-code 7 (pos n)) + 8 * n))) w × Inv n w
           by true t e st = absurd (some (eqb-true n 0 e))
           by false true e st = in-row st
           by false false e st = by-loop st

@@ -54,8 +54,8 @@ module _ {Q : Floats} {P : ℕ → Type 0} where
   pub seg-none : {u : State} → Seg Q P [] u u
   seg-none = record { fit = tt; lands = tt; end = refl }
 
-pub onward-seg : {Q : Floats} {P : ℕ → Type 0} {s : State} (is : List Instr) (b k : ℕ) (u : State) {v : State} → Words P (s .mem) b (map encode is) → Came Q P s b k u → Seg Q P is u v → Came Q P s (b + 4 * length is) (k + length is) v
-onward-seg {Q} {P} {s} is b k u w c g = subst (λ (v : State). Came Q P s (b + 4 * length is) (k + length is) v) (g .end) (onward is b k u w c (g .fit) (g .lands))
+pub onward-seg : {Q : Floats} {C P : ℕ → Type 0} {s : State} (is : List Instr) (b k : ℕ) (u : State) {v : State} → Words C P (s .mem) b (map encode is) → Came Q C P s b k u → Seg Q P is u v → Came Q C P s (b + 4 * length is) (k + length is) v
+onward-seg {Q} {C} {P} {s} is b k u w c g = subst (λ (v : State). Came Q C P s (b + 4 * length is) (k + length is) v) (g .end) (onward is b k u w c (g .fit) (g .lands))
 
 module _ {Q : Floats} {P : ℕ → Type 0} {W : ℕ → Bool} {is : List Instr} {u : State} where
   pub seg-quiet : Quiet Q W is u → Seg Q P is u (execs Q is u)

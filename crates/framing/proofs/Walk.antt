@@ -1,8 +1,8 @@
 -- Going through items that stand in memory: straight pieces, labels and jumps. Assumes nothing.
-use mathlib.Core.Path.{_≡_, refl, ap, sym, _∙_}
+use mathlib.Core.Path.{_≡_, refl, ap, sym, subst, _∙_}
 use mathlib.Core.List.{List, [], _∷_, _++_, map, map-append}
 use mathlib.Core.Option.{Option, some, none, Option·map}
-use Prim.Native.Nat.{ℕ, suc, _+_, _*_, _%_, _^_, _≤_}
+use Prim.Native.Nat.{ℕ, suc, _+_, _*_, _%_, _^_, _≤_, _<_}
 use native.Mathlib.Nat.{add-zero}
 use native.Mathlib.Omega.{arith}
 use lib.IntN.{subℕ}
@@ -14,10 +14,10 @@ use Rattle.machine.specs.Word.{w64}
 use Rattle.machine.specs.Floats.{Floats}
 use Rattle.machine.specs.State.{State}
 use Rattle.machine.specs.Effect.{effect, exec}
-use Rattle.machine.specs.Step.{and-then, fetch, step, CodeAt, words, Run, stop, go, execs, Fit}
+use Rattle.machine.specs.Step.{and-then, fetch, step, CodeAt, words, Run, stop, go, RunIn, execs, Fit}
 use Rattle.machine.proofs.Memory.{dist-ahead}
 use Rattle.machine.proofs.Effects.{apply-rm}
-use Rattle.machine.proofs.Runs.{step-at, joined}
+use Rattle.machine.proofs.Runs.{step-at, no-step, one-more, joined, wider}
 use Rattle.machine.proofs.Straight.{flow-pc}
 use Rattle.machine.proofs.Stores.{Same, Off, Landing, landing-same, landing-flow, landing-run}
 use Rattle.machine.proofs.Placed.{code-left, code-right, code-kept}
@@ -79,15 +79,16 @@ module _ (at : ℕ → ℕ) where
 pub code-append : (is js : List Instr) → code is ++ code js ≡ code (is ++ js)
 code-append is js = sym (map-append instr is js)
 
--- Words that stand at b in the memory m and are never written: P x says that the byte at x may be.
-pub record Words (P : ℕ → Type 0) (m : ℕ → ℕ) (b : ℕ) (ws : List ℕ) : Type 0 where
+-- Words that stand at b in the memory m, at addresses in C, and are never written: P x says that the byte at x may be.
+pub record Words (C P : ℕ → Type 0) (m : ℕ → ℕ) (b : ℕ) (ws : List ℕ) : Type 0 where
   pub code : CodeAt m (w64 b) ws
   pub off : Off P (w64 b) (4 * length ws)
   pub short : 4 * length ws ≤ 2 ^ 64
   pub even : b % 4 ≡ 0
+  pub inside : (k : ℕ) → k < length ws → C (w64 (b + 4 * k))
 
-module _ {P : ℕ → Type 0} {m : ℕ → ℕ} where
-  pub words-left : (b : ℕ) (us vs : List ℕ) → Words P m b (us ++ vs) → Words P m b us
+module _ {C P : ℕ → Type 0} {m : ℕ → ℕ} where
+  pub words-left : (b : ℕ) (us vs : List ℕ) → Words C P m b (us ++ vs) → Words C P m b us
   words-left b us vs w =
       let n = length-append us vs in
       record {
@@ -95,9 +96,10 @@ module _ {P : ℕ → Type 0} {m : ℕ → ℕ} where
         off = λ x l d. w .off x l (omega (arith, n));
         short = omega (arith, n, w .short);
         even = w .even;
+        inside = λ k l. w .inside k (omega (arith, n));
       }
 
-  pub words-right : (b : ℕ) (us vs : List ℕ) → Words P m b (us ++ vs) → Words P m (b + 4 * length us) vs
+  pub words-right : (b : ℕ) (us vs : List ℕ) → Words C P m b (us ++ vs) → Words C P m (b + 4 * length us) vs
   words-right b us vs w =
       let n = length-append us vs in
       let e : w64 (w64 b + 4 * length us) ≡ w64 (b + 4 * length us) = omega arith in
@@ -106,11 +108,12 @@ module _ {P : ℕ → Type 0} {m : ℕ → ℕ} where
         off = λ x l d. w .off x l (omega (arith, n, w .short, rw e at (dist-ahead (w64 b) (4 * length us) x (rw e (omega (arith, n, w .short, d))))));
         short = omega (arith, n, w .short);
         even = omega (arith, w .even);
+        inside = λ k l. subst (λ (x : ℕ). C (w64 x)) (omega arith) (w .inside (length us + k) (omega (arith, n)));
       }
 
 -- Items that stand `here` bytes behind a.
-pub record Stood (at : ℕ → ℕ) (P : ℕ → Type 0) (m : ℕ → ℕ) (a here : ℕ) (items : List Item) : Type 0 where
-  pub words : Words P m (a + here) (resolved at here items)
+pub record Stood (at : ℕ → ℕ) (C P : ℕ → Type 0) (m : ℕ → ℕ) (a here : ℕ) (items : List Item) : Type 0 where
+  pub words : Words C P m (a + here) (resolved at here items)
   pub labels : Stands at here items
 
 shift : (a here n : ℕ) → a + here + 4 * n ≡ a + (here + 4 * n)
@@ -119,15 +122,15 @@ shift a here n = omega arith
 four : (a here : ℕ) → a + here + 4 * 1 ≡ a + (here + 4)
 four a here = omega arith
 
-module _ {at : ℕ → ℕ} {P : ℕ → Type 0} {m : ℕ → ℕ} {a : ℕ} where
-  pub stood-left : (here : ℕ) (is js : List Item) → Stood at P m a here (is ++ js) → Stood at P m a here is
+module _ {at : ℕ → ℕ} {C P : ℕ → Type 0} {m : ℕ → ℕ} {a : ℕ} where
+  pub stood-left : (here : ℕ) (is js : List Item) → Stood at C P m a here (is ++ js) → Stood at C P m a here is
   stood-left here is js s =
       record {
         words = words-left (a + here) (resolved at here is) (resolved at (here + 4 * length (resolved at here is)) js) (rw (resolved-append at here is js) at (s .words));
         labels = stands-left at here is js (s .labels);
       }
 
-  pub stood-right : (here : ℕ) (is js : List Item) → Stood at P m a here (is ++ js) → Stood at P m a (here + 4 * length (resolved at here is)) js
+  pub stood-right : (here : ℕ) (is js : List Item) → Stood at C P m a here (is ++ js) → Stood at C P m a (here + 4 * length (resolved at here is)) js
   stood-right here is js s =
       record {
         words =
@@ -137,13 +140,13 @@ module _ {at : ℕ → ℕ} {P : ℕ → Type 0} {m : ℕ → ℕ} {a : ℕ} whe
       }
 
   -- straight code alone
-  pub stood-code : (here : ℕ) (is : List Instr) → Stood at P m a here (code is) → Words P m (a + here) (map encode is)
+  pub stood-code : (here : ℕ) (is : List Instr) → Stood at C P m a here (code is) → Words C P m (a + here) (map encode is)
   stood-code here is s = rw (resolved-instrs at here is) at (s .words)
 
-  pub piece : (here : ℕ) (is : List Instr) (rest : List Item) → Stood at P m a here (code is ++ rest) → Words P m (a + here) (map encode is)
+  pub piece : (here : ℕ) (is : List Instr) (rest : List Item) → Stood at C P m a here (code is ++ rest) → Words C P m (a + here) (map encode is)
   piece here is rest s = words-left (a + here) (map encode is) (resolved at (here + 4 * length is) rest) (rw (resolved-code at here is rest) at (s .words))
 
-  pub behind : (here : ℕ) (is : List Instr) (rest : List Item) → Stood at P m a here (code is ++ rest) → Stood at P m a (here + 4 * length is) rest
+  pub behind : (here : ℕ) (is : List Instr) (rest : List Item) → Stood at C P m a here (code is ++ rest) → Stood at C P m a (here + 4 * length is) rest
   behind here is rest s =
       record {
         words =
@@ -152,16 +155,16 @@ module _ {at : ℕ → ℕ} {P : ℕ → Type 0} {m : ℕ → ℕ} {a : ℕ} whe
         labels = stands-code at here is rest (s .labels);
       }
 
-  pub behind-label : (here l : ℕ) (rest : List Item) → Stood at P m a here (label l ∷ rest) → Stood at P m a here rest
+  pub behind-label : (here l : ℕ) (rest : List Item) → Stood at C P m a here (label l ∷ rest) → Stood at C P m a here rest
   unfolding resolved
   behind-label here l rest s = record { words = s .words; labels = s .labels .1 }
 
   -- a jump's word, and what stands behind it
-  pub jump-word : (here : ℕ) (k : Kind) (l r : ℕ) (rest : List Item) → Stood at P m a here (jump k l r ∷ rest) → Words P m (a + here) (encode (jump-instr k r (subℕ (at l) here)) ∷ [])
+  pub jump-word : (here : ℕ) (k : Kind) (l r : ℕ) (rest : List Item) → Stood at C P m a here (jump k l r ∷ rest) → Words C P m (a + here) (encode (jump-instr k r (subℕ (at l) here)) ∷ [])
   unfolding resolved
   jump-word here k l r rest s = words-left (a + here) (encode (jump-instr k r (subℕ (at l) here)) ∷ []) (resolved at (here + 4) rest) (s .words)
 
-  pub behind-jump : (here : ℕ) (k : Kind) (l r : ℕ) (rest : List Item) → Stood at P m a here (jump k l r ∷ rest) → Stood at P m a (here + 4) rest
+  pub behind-jump : (here : ℕ) (k : Kind) (l r : ℕ) (rest : List Item) → Stood at C P m a here (jump k l r ∷ rest) → Stood at C P m a (here + 4) rest
   unfolding resolved
   behind-jump here k l r rest s =
       record {
@@ -184,37 +187,43 @@ pub run-rm : {Q : Floats} {s t : State} {n : ℕ} → Run Q s n t → t .rm ≡ 
 run-rm stop = refl
 run-rm {Q} (go {s = s} {t = t} e r) = run-rm r ∙ step-rm Q s t e
 
--- k steps from s the machine is at b, memory differing where it may.
-pub record Came (Q : Floats) (P : ℕ → Type 0) (s : State) (b k : ℕ) (u : State) : Type 0 where
-  pub runs : Run Q s k u
+pub wrapped : (a k : ℕ) → w64 (w64 a + 4 * k) ≡ w64 (a + 4 * k)
+wrapped a k = omega arith
+
+-- k steps from s the machine is at b, memory differing where it may; before, pc is in C.
+pub record Came (Q : Floats) (C P : ℕ → Type 0) (s : State) (b k : ℕ) (u : State) : Type 0 where
+  pub runs : RunIn Q C s k u
   pub same : Same P (u .mem) (s .mem)
   pub pc : u .pc ≡ w64 b
 
-module _ {Q : Floats} {P : ℕ → Type 0} {s : State} where
-  kept : (b k : ℕ) (ws : List ℕ) (u : State) → Words P (s .mem) b ws → Came Q P s b k u → CodeAt (u .mem) (w64 b) ws
+module _ {Q : Floats} {C P : ℕ → Type 0} {s : State} where
+  kept : (b k : ℕ) (ws : List ℕ) (u : State) → Words C P (s .mem) b ws → Came Q C P s b k u → CodeAt (u .mem) (w64 b) ws
   kept b k ws u w c = code-kept (s .mem) (u .mem) (w64 b) ws (w .short) (λ x l d. c .same x l (w .off x l d)) (w .code)
 
-  pub came-at : {b k b′ k′ : ℕ} {u : State} → b ≡ b′ → k ≡ k′ → Came Q P s b k u → Came Q P s b′ k′ u
+  pub came-at : {b k b′ k′ : ℕ} {u : State} → b ≡ b′ → k ≡ k′ → Came Q C P s b k u → Came Q C P s b′ k′ u
   came-at {u = u} p q c = rw (← p, ← q) c
 
   -- straight code
-  pub onward : (is : List Instr) (b k : ℕ) (u : State) → Words P (s .mem) b (map encode is) → Came Q P s b k u → Fit Q is u → Landing P Q is u → Came Q P s (b + 4 * length is) (k + length is) (execs Q is u)
+  pub onward : (is : List Instr) (b k : ℕ) (u : State) → Words C P (s .mem) b (map encode is) → Came Q C P s b k u → Fit Q is u → Landing P Q is u → Came Q C P s (b + 4 * length is) (k + length is) (execs Q is u)
   onward is b k u w c f l =
       let n : length (map encode is) ≡ length is = length-map is encode in
       let p = c .pc in
       record {
-        runs = joined Q (c .runs) (landing-run P Q is u f l (omega (arith, w .short)) (rw (p, ← n) (w .off)) (omega (arith, w .even)) (rw p (kept b k (map encode is) u w c)));
+        runs =
+            joined Q (c .runs)
+            (wider Q (λ x v. subst C (sym (v .2 ∙ rw p (wrapped b (v .0)))) (w .inside (v .0) (omega (arith, v .1, n))))
+            (landing-run P Q is u f l (omega (arith, w .short)) (rw (p, ← n) (w .off)) (rw p (omega arith)) (omega (arith, w .even)) (rw p (kept b k (map encode is) u w c))));
         same = λ x h o. landing-same P Q is u l x h o ∙ c .same x h o;
         pc = flow-pc Q is u (landing-flow P Q is u l) (omega arith) ∙ rw p (omega arith);
       }
 
   -- one word that stores nothing, wherever it leads
-  pub hop : (i : Instr) (b b′ k : ℕ) (u : State) → Words P (s .mem) b (encode i ∷ []) → Came Q P s b k u → Valid i → (exec Q i u) .mem ≡ u .mem → (exec Q i u) .pc ≡ w64 b′ → Came Q P s b′ (k + 1) (exec Q i u)
+  pub hop : (i : Instr) (b b′ k : ℕ) (u : State) → Words C P (s .mem) b (encode i ∷ []) → Came Q C P s b k u → Valid i → (exec Q i u) .mem ≡ u .mem → (exec Q i u) .pc ≡ w64 b′ → Came Q C P s b′ (k + 1) (exec Q i u)
   hop i b b′ k u w c v e g =
       let p = c .pc in
       let q = kept b k (encode i ∷ []) u w c in
       record {
-        runs = joined Q (c .runs) (go (step-at Q i u v (omega (arith, w .even)) (rw p (q .0))) stop);
+        runs = joined Q (c .runs) (one-more Q (subst C (omega (arith, p)) (w .inside 0 (omega arith))) (step-at Q i u v (omega (arith, w .even)) (rw p (q .0))) (no-step Q));
         same = rw e (c .same);
         pc = g;
       }

@@ -20,7 +20,7 @@ use Rattle.call.specs.Program.{Program, constants, label-line}
 use Rattle.call.specs.Layout.{code-length, routine-words}
 use Rattle.call.specs.Plain.{with-cell, does, passes, none-read, line-read, Forward}
 use Rattle.call.specs.Terms.{start, Terms}
-use Rattle.call.specs.Claim.{Returned}
+use Rattle.call.specs.Returned.{Returned}
 use Rattle.call.proofs.Calls.{with-bytes, loaded, Bytes, words-small, upd-small, machine, machine-sound, machine-terms, sample, first, first-called, product, block, block-called, table, table-called, r4, four}
 use Rattle.call.proofs.Decks.{larger, scaled, Read}
 use Rattle.routine.specs.Routine.{Told, told-of, buffer-after, program-of, Promise}
@@ -55,7 +55,7 @@ product-promise : Promise product-text product-buffer (accepted (told-of product
 product-promise = answered product-text product-buffer product (files .product-reads)
 
 module _ (s : State) (h : Handed product-text product-buffer (told-of product) product-after product s) where
-  product-back : Returned binary64 product s 4 (r4 s)
+  product-back : Returned binary64 product (told-of product .length) s 4 (r4 s)
   product-back = handover binary64 product-text product-buffer (told-of product) product-after product s h 4 (r4 s) (four s) (omega arith)
 
 pub block-handed : Handed product-text product-buffer (told-of product) product-after product block

@@ -15,11 +15,13 @@ use Rattle.assembler.proofs.Writes.{length-bytes}
 use Rattle.call.specs.Program.{Program}
 use Rattle.call.specs.Layout.{code-items, data-items, items, place, code-length, constants-offset, routine-words}
 use Rattle.call.specs.Good.{Good}
-use Rattle.call.specs.Terms.{Terms}
+use Rattle.call.specs.Terms.{start, Terms}
+use Rattle.call.specs.Returned.{Returned}
 use Rattle.call.specs.Claim.{Called}
 use Rattle.call.proofs.Items.{span-append, resolved-length}
 use Rattle.call.proofs.Words.{decodes, code-stands}
-use Rattle.call.proofs.Call.{call, forward-call}
+use Rattle.call.proofs.Forth.{ends}
+use Rattle.call.proofs.Call.{call}
 use Rattle.routine.specs.Routine.{Told, told-of, told-answer, buffer-after, program-of, Promise}
 use Rattle.handover.specs.Claim.{Handed, Claim, ForwardClaim, ProgramClaim, WordsClaim, SameClaim}
 use Rattle.handover.proofs.Accepts.{same}
@@ -84,11 +86,14 @@ handed file buf t after p s h e c =
     }
 
 pub handover : Claim
-handover Q file buf t after p s h = call Q p (accepted-good (length buf) file p (h .lines)) s (called file buf t after p s h)
+handover Q file buf t after p s h n r q z =
+    subst (λ (u : Told). Returned Q p (u .length) s n r) (sym (told file buf t after (h .promised) p (h .lines)))
+    (call Q p (accepted-good (length buf) file p (h .lines)) s (called file buf t after p s h) n r q z)
 
 pub forward-handover : ForwardClaim
 forward-handover Q file buf t after p s h f =
-    forward-call Q p (accepted-good (length buf) file p (h .lines)) f s (called file buf t after p s h)
+    let e = ends Q p (accepted-good (length buf) file p (h .lines)) f (start (p .head) s) in
+    (e .0, e .1, e .2, e .3, handover Q file buf t after p s h (e .0) (e .1) (e .2) (e .3))
 
 -- ---- what follows
 

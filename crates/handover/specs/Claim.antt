@@ -14,7 +14,7 @@ use Rattle.refusal.specs.Answer.{accepted}
 use Rattle.call.specs.Program.{Program}
 use Rattle.call.specs.Plain.{Reading, Reads, Ended, Forward}
 use Rattle.call.specs.Terms.{start, Terms}
-use Rattle.call.specs.Claim.{Returned}
+use Rattle.call.specs.Returned.{Returned}
 use Rattle.routine.specs.Routine.{program-of, Told, Promise}
 
 -- The routine took the file, answered t and left `after` in the buffer; the bytes it left stand at the pc of s, and the terms of a call hold there.
@@ -31,33 +31,57 @@ pub record Handed (file buf : List ℕ) (t : Told) (after : List ℕ) (p : Progr
   pub terms : Terms (p .head) (t .length) s
 
 -- For every Floats, file, buffer and machine: where the plain reading from the call's start ends, the machine comes back as the reading says.
+-- The conclusion is `Returned`, in crate call. The plain reading is one: `OneReading`, beside `Reads` in crate call.
 abbrev pub Claim : Type 0
 Claim =
-    (Q : Floats) (file buf : List ℕ) (t : Told) (after : List ℕ) (p : Program) (s : State) → Handed file buf t after p s → (n : ℕ) (r : Reading) → Reads Q p (start (p .head) s) n r → Ended Q p r → Returned Q p s n r
+    (Q : Floats) (file buf : List ℕ) (t : Told) (after : List ℕ) (p : Program) (s : State)
+    → Handed file buf t after p s
+    → (n : ℕ) (r : Reading)
+    → Reads Q p (start (p .head) s) n r
+    → Ended p r
+    → Returned Q p (t .length) s n r
 
 -- And it ends where branches go forward.
 abbrev pub ForwardClaim : Type 0
 ForwardClaim =
-    (Q : Floats) (file buf : List ℕ) (t : Told) (after : List ℕ) (p : Program) (s : State) → Handed file buf t after p s → Forward p → (n : ℕ) × (r : Reading) × Reads Q p (start (p .head) s) n r × Ended Q p r × Returned Q p s n r
+    (Q : Floats) (file buf : List ℕ) (t : Told) (after : List ℕ) (p : Program) (s : State)
+    → Handed file buf t after p s
+    → Forward p
+    → (n : ℕ) × (r : Reading)
+    × Reads Q p (start (p .head) s) n r
+    × Ended p r
+    × Returned Q p (t .length) s n r
 
 -- ---- what follows
 
 -- An accepted file is some program.
 abbrev pub ProgramClaim : Type 0
 ProgramClaim =
-    (file buf : List ℕ) (t : Told) (after : List ℕ) → Promise file buf (accepted t) after → (p : Program) × (program-of (length buf) file ≡ accepted p)
+    (file buf : List ℕ) (t : Told) (after : List ℕ)
+    → Promise file buf (accepted t) after
+    → (p : Program) × (program-of (length buf) file ≡ accepted p)
 
 -- Every word before the constants is a valid instruction's.
 abbrev pub WordsClaim : Type 0
 WordsClaim =
-    (file buf : List ℕ) (t : Told) (after : List ℕ) → Promise file buf (accepted t) after → (k : ℕ) → 4 * k < t .offset → (i : Instr) × Valid i × (decode (load4 (λ x. getD after x 0) (4 * k)) ≡ some i)
+    (file buf : List ℕ) (t : Told) (after : List ℕ)
+    → Promise file buf (accepted t) after
+    → (k : ℕ)
+    → 4 * k < t .offset
+    → (i : Instr) × Valid i × (decode (load4 (λ x. getD after x 0) (4 * k)) ≡ some i)
 
 -- An accepted file is one program, whatever the buffer's size.
 abbrev pub OneProgram : Type 0
 OneProgram =
-    (m n : ℕ) (file : List ℕ) (p q : Program) → program-of m file ≡ accepted p → program-of n file ≡ accepted q → p ≡ q
+    (m n : ℕ) (file : List ℕ) (p q : Program)
+    → program-of m file ≡ accepted p
+    → program-of n file ≡ accepted q
+    → p ≡ q
 
 -- An accepted routine depends on neither the size nor the contents of the buffer.
 abbrev pub SameClaim : Type 0
 SameClaim =
-    (file buf buf′ : List ℕ) (t t′ : Told) (after after′ : List ℕ) → Promise file buf (accepted t) after → Promise file buf′ (accepted t′) after′ → (t ≡ t′) × (take (t .length) after ≡ take (t′ .length) after′)
+    (file buf buf′ : List ℕ) (t t′ : Told) (after after′ : List ℕ)
+    → Promise file buf (accepted t) after
+    → Promise file buf′ (accepted t′) after′
+    → (t ≡ t′) × (take (t .length) after ≡ take (t′ .length) after′)

@@ -8,14 +8,17 @@ use lib.ListN.{length, drop, replicate}
 use Rattle.refusal.specs.Answer.{Answer, refused}
 use Rattle.text.specs.Ascii.{bytes}
 use Rattle.assembler.specs.Bytes.{room}
-use Rattle.call.specs.Good.{member}
+use Rattle.call.specs.Program.{member}
 use Rattle.routine.specs.Routine.{program-of, Told, Promise}
 
 -- ---- all files
 
 -- "A file too long is refused before all else at line 1"
 abbrev pub TooLong : Type 0
-TooLong = (size : ℕ) (file : List ℕ) → 65536 < length file → program-of size file ≡ refused 7 1
+TooLong =
+    (size : ℕ) (file : List ℕ)
+    → 65536 < length file
+    → program-of size file ≡ refused 7 1
 
 -- The numbers that files are refused by. 6, 8 and 10 come from none: a file's only `beq` and `bne` to labels are its frame's, which are near; its record is its own, and open; and no order's base is t0.
 abbrev pub numbers : List ℕ
@@ -23,17 +26,23 @@ numbers = 1 ∷ 2 ∷ 3 ∷ 4 ∷ 5 ∷ 7 ∷ 9 ∷ 11 ∷ 12 ∷ []
 
 abbrev pub Never : Type 0
 Never =
-    (size : ℕ) (file : List ℕ) (number line : ℕ) → program-of size file ≡ refused number line → T (member number numbers)
+    (size : ℕ) (file : List ℕ) (number line : ℕ)
+    → program-of size file ≡ refused number line
+    → T (member number numbers)
 
 -- A refused routine leaves zeros, and bytes behind the room as they were.
 abbrev pub Zeroed : Type 0
 Zeroed =
-    (file buf : List ℕ) (number line : ℕ) (after : List ℕ) → Promise file buf (refused number line) after → after ≡ replicate (room (length buf)) 0 ++ drop (room (length buf)) buf
+    (file buf : List ℕ) (number line : ℕ) (after : List ℕ)
+    → Promise file buf (refused number line) after
+    → after ≡ replicate (room (length buf)) 0 ++ drop (room (length buf)) buf
 
 -- "bytes behind them never change", whatever the answer; and the buffer has the size it had
 abbrev pub Behind : Type 0
 Behind =
-    (file buf : List ℕ) (answer : Answer Told) (after : List ℕ) → Promise file buf answer after → (drop (room (length buf)) after ≡ drop (room (length buf)) buf) × (length after ≡ length buf)
+    (file buf : List ℕ) (answer : Answer Told) (after : List ℕ)
+    → Promise file buf answer after
+    → (drop (room (length buf)) after ≡ drop (room (length buf)) buf) × (length after ≡ length buf)
 
 -- ---- small files
 

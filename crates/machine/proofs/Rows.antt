@@ -1912,9 +1912,9 @@ asked-f =
     -- fcvt.d.w f5, x12
     ∷ (0xd20602d3, 3, λ Q. w64 (Q .of-w 0 7012))
     -- fmin.d f5, f12, f13
-    ∷ (0x2ad602d3, 3, λ Q. w64 (Q .min 9012 9013))
+    ∷ (0x2ad602d3, 3, λ Q. w64 (Q .min 3 9012 9013))
     -- fmax.d f5, f12, f13
-    ∷ (0x2ad612d3, 3, λ Q. w64 (Q .max 9012 9013))
+    ∷ (0x2ad612d3, 3, λ Q. w64 (Q .max 3 9012 9013))
     ∷ []
 
 -- A word, the state's mode, and what x5 is then for any `Floats`: by the Manual, not by the outside machine.
@@ -1943,9 +1943,9 @@ asked-x =
     -- fcvt.l.d x5, f12
     ∷ (0xc22672d3, 4, λ Q. w64 (Q .to-l 4 9012))
     -- fle.d x5, f12, f13
-    ∷ (0xa2d602d3, 3, λ Q. bit (Q .le 9012 9013))
+    ∷ (0xa2d602d3, 3, λ Q. bit (Q .le 3 9012 9013))
     -- flt.d x5, f12, f13
-    ∷ (0xa2d612d3, 3, λ Q. bit (Q .lt 9012 9013))
+    ∷ (0xa2d612d3, 3, λ Q. bit (Q .lt 3 9012 9013))
     -- feq.d x5, f12, f13
-    ∷ (0xa2d622d3, 3, λ Q. bit (Q .eq 9012 9013))
+    ∷ (0xa2d622d3, 3, λ Q. bit (Q .eq 3 9012 9013))
     ∷ []

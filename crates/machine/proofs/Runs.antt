@@ -2,7 +2,7 @@
 use mathlib.Core.Path.{_≡_, refl, subst, sym, _∙_}
 use mathlib.Core.Logic.{_≢_}
 use mathlib.Core.Option.{Option, some, none, Option·map}
-use Prim.Native.Nat.{ℕ, zero, suc, _+_, _%_}
+use Prim.Native.Nat.{ℕ, zero, suc, _+_, _%_, _<_}
 use native.Mathlib.Nat.{zero-add, suc-add}
 use native.Mathlib.Omega.{arith}
 use borrow.Author.Tests.{eq-eqb, ne-eqb}
@@ -14,7 +14,7 @@ use Rattle.machine.specs.Word.{load4}
 use Rattle.machine.specs.Floats.{Floats}
 use Rattle.machine.specs.State.{State, Sound}
 use Rattle.machine.specs.Effect.{effect, exec}
-use Rattle.machine.specs.Step.{and-then, fetch, step, Run, stop, go, run}
+use Rattle.machine.specs.Step.{and-then, fetch, step, Run, stop, go, RunIn, run}
 use Rattle.machine.proofs.Effects.{apply-sound, effect-fits}
 
 pub fetch-at : (s : State) → s .pc % 4 ≡ 0 → fetch s ≡ some (load4 (s .mem) (s .pc))
@@ -49,9 +49,29 @@ module _ (Q : Floats) where
       by h (some t) p q = go p (h t q)
       by h none p q = let z : _≡_ {A = ℕ} 0 1 = cc in absurd (omega arith)
 
-  pub joined : {s t u : State} {n k : ℕ} → Run Q s n t → Run Q t k u → Run Q s (n + k) u
-  joined {k = k} stop q = rw (zero-add k) q
-  joined {n = suc n} {k = k} (go e r) q = rw (suc-add n k) (go e (joined r q))
+  -- ---- runs with pc in C
+
+  module _ {C : ℕ → Type 0} where
+    pub no-step : {s : State} → RunIn Q C s 0 s
+    no-step = record { runs = stop; inside = λ k u l r. absurd (omega arith) }
+
+    pub one-more : {s t u : State} {n : ℕ} → C (s .pc) → step Q s ≡ some t → RunIn Q C t n u → RunIn Q C s (suc n) u
+    one-more {s} {t} {u} {n} c e r = record { runs = go e (r .runs); inside = by }
+      where
+        by : (k : ℕ) (v : State) → k < suc n → Run Q s k v → C (v .pc)
+        by zero v l stop = c
+        by (suc k) v l (go {t = w} d q) = r .inside k v (omega arith) (subst (λ (x : State). Run Q x k v) (some-inj w t (sym d ∙ e)) q)
+
+    onto : {s t u : State} {n k : ℕ} → Run Q s n t → ((j : ℕ) (v : State) → j < n → Run Q s j v → C (v .pc)) → RunIn Q C t k u → RunIn Q C s (n + k) u
+    onto {k = k} stop i q = rw (zero-add k) q
+    onto {s = s} {n = suc n} {k = k} (go e r) i q =
+        rw (suc-add n k) (one-more (i 0 s (omega arith) stop) e (onto r (λ j v l w. i (suc j) v (omega arith) (go e w)) q))
+
+    pub joined : {s t u : State} {n k : ℕ} → RunIn Q C s n t → RunIn Q C t k u → RunIn Q C s (n + k) u
+    joined p q = onto (p .runs) (p .inside) q
+
+    pub wider : {C′ : ℕ → Type 0} {s t : State} {n : ℕ} → ((x : ℕ) → C x → C′ x) → RunIn Q C s n t → RunIn Q C′ s n t
+    wider h r = record { runs = r .runs; inside = λ k u l q. h (u .pc) (r .inside k u l q) }
 
   -- Two runs of one length end in the same state.
   pub run-unique : {s t u : State} {n : ℕ} → Run Q s n t → Run Q s n u → t ≡ u

@@ -13,11 +13,11 @@ use Rattle.machine.specs.Word.{dist, store8}
 use Rattle.machine.specs.Floats.{Floats}
 use Rattle.machine.specs.State.{State, next}
 use Rattle.machine.specs.Effect.{Effect, write-x, write-f, store, jump, apply, effect, exec}
-use Rattle.machine.specs.Step.{CodeAt, words, Run, stop, go, execs, Fit}
+use Rattle.machine.specs.Step.{CodeAt, words, Among, RunIn, execs, Fit}
 use Rattle.machine.proofs.Memory.{dist-ahead, inside, store-miss}
 use Rattle.machine.proofs.Effects.{flows, apply-pc}
-use Rattle.machine.proofs.Runs.{step-at}
-use Rattle.machine.proofs.Straight.{aligned, flow}
+use Rattle.machine.proofs.Runs.{step-at, no-step, one-more, wider}
+use Rattle.machine.proofs.Straight.{aligned, at-first, at-next, flow}
 use Rattle.machine.proofs.Placed.{code-kept}
 
 -- P x: the byte at x may be written
@@ -72,9 +72,9 @@ module _ (P : ℕ → Type 0) where
         both false b p q = p
 
     -- The run of code whose stores miss it.
-    pub landing-run : (is : List Instr) (s : State) → Fit Q is s → Landing is s → 4 * length is ≤ 2 ^ 64 → Off (s .pc) (4 * length is) → s .pc % 4 ≡ 0 → CodeAt (s .mem) (s .pc) (words is) → Run Q s (length is) (execs Q is s)
-    landing-run [] s w h n o a c = stop
-    landing-run (i ∷ is) s w h n o a c =
+    pub landing-run : (is : List Instr) (s : State) → Fit Q is s → Landing is s → 4 * length is ≤ 2 ^ 64 → Off (s .pc) (4 * length is) → s .pc < 2 ^ 64 → s .pc % 4 ≡ 0 → CodeAt (s .mem) (s .pc) (words is) → RunIn Q (Among (s .pc) (length is)) s (length is) (execs Q is s)
+    landing-run [] s w h n o b a c = no-step Q
+    landing-run (i ∷ is) s w h n o b a c =
         let e : Effect = effect Q i s in
         let p : (exec Q i s) .pc ≡ next s = apply-pc e s (lands-flows e (h .0)) in
         let k : length (words is) ≡ length is = length-map is encode in
@@ -84,8 +84,9 @@ module _ (P : ℕ → Type 0) where
         (λ x l d. apply-same e s (h .0) x l (f x l (omega arith)))
         (c .1)
         in
-        go (step-at Q i s (w .0) a (c .0))
-        (landing-run is (exec Q i s) (w .1) (h .1) (omega arith) (rw p f) (rw p (aligned s a)) (rw p r))
+        one-more Q (at-first (s .pc) (length is) b) (step-at Q i s (w .0) a (c .0))
+        (wider Q (λ x m. at-next (s .pc) (length is) x (rw p at m))
+        (landing-run is (exec Q i s) (w .1) (h .1) (omega arith) (rw p f) (rw p (omega arith)) (rw p (aligned s a)) (rw p r)))
 
 -- ---- stores to a range that doesn't go round
 

@@ -5,7 +5,7 @@ use Prim.Native.Nat.{ℕ}
 use lib.Dec.{T, eqb}
 use Rattle.machine.specs.Floats.{Floats}
 use Rattle.machine.specs.State.{State}
-use Rattle.machine.specs.Step.{Run}
+use Rattle.machine.specs.Step.{Among, RunIn}
 
 -- t0, t1 and t2
 unfoldable pub temporary : ℕ → Bool
@@ -19,8 +19,8 @@ pub record Does (W : ℕ → Bool) (s t : State) (pc′ : ℕ) (f′ m′ : ℕ 
   pub rm : t .rm ≡ s .rm
   pub x : (r : ℕ) → T (not (W r)) → t .x r ≡ s .x r
 
--- k steps from s come to such a t
-pub record Ends (Q : Floats) (W : ℕ → Bool) (s : State) (k pc′ : ℕ) (f′ m′ : ℕ → ℕ) : Type 0 where
+-- k steps from s come to such a t; before, pc is at one of the n words from where it stood
+pub record Ends (Q : Floats) (W : ℕ → Bool) (s : State) (n k pc′ : ℕ) (f′ m′ : ℕ → ℕ) : Type 0 where
   pub end : State
-  pub runs : Run Q s k end
+  pub runs : RunIn Q (Among (s .pc) n) s k end
   pub does : Does W s end pc′ f′ m′

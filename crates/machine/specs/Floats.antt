@@ -10,8 +10,8 @@ one = 0x3ff0000000000000
 abbrev pub minus-one : ℕ
 minus-one = 0xbff0000000000000
 
--- A first argument m is the rounding mode (0 nearest even, 1 toward zero, 2 down, 3 up, 4 nearest away), the others are operand bits. The machine cuts
--- each result to its width. A comparison's answer is a Bool, so its register gets 0 or 1.
+-- The first argument of each is the rounding mode (0 nearest even, 1 toward zero, 2 down, 3 up, 4 nearest away), the others are operand bits. The machine
+-- cuts each result to its width. A comparison's answer is a Bool, so its register gets 0 or 1. Comparisons, minimum and maximum get the state's mode.
 pub record Floats : Type 0 where
   pub add : ℕ → ℕ → ℕ → ℕ
   pub sub : ℕ → ℕ → ℕ → ℕ
@@ -22,11 +22,11 @@ pub record Floats : Type 0 where
   pub mul-sub : ℕ → ℕ → ℕ → ℕ → ℕ  -- a × b - c
   pub neg-mul-add : ℕ → ℕ → ℕ → ℕ → ℕ  -- -(a × b) + c
   pub neg-mul-sub : ℕ → ℕ → ℕ → ℕ → ℕ  -- -(a × b) - c
-  pub min : ℕ → ℕ → ℕ
-  pub max : ℕ → ℕ → ℕ
-  pub le : ℕ → ℕ → Bool
-  pub lt : ℕ → ℕ → Bool
-  pub eq : ℕ → ℕ → Bool
+  pub min : ℕ → ℕ → ℕ → ℕ
+  pub max : ℕ → ℕ → ℕ → ℕ
+  pub le : ℕ → ℕ → ℕ → Bool
+  pub lt : ℕ → ℕ → ℕ → Bool
+  pub eq : ℕ → ℕ → ℕ → Bool
   pub to-w : ℕ → ℕ → ℕ  -- a float to a signed whole number of 32 bits
   pub to-l : ℕ → ℕ → ℕ  -- a float to one of 64 bits
   pub of-w : ℕ → ℕ → ℕ  -- a signed whole number of 32 bits to a float

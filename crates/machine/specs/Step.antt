@@ -3,7 +3,7 @@ use mathlib.Core.Path.{_≡_}
 use mathlib.Core.Bool.{cond}
 use mathlib.Core.Option.{Option, some, none, Option·map}
 use mathlib.Core.List.{List, [], _∷_, map}
-use Prim.Native.Nat.{ℕ, zero, suc, _+_, _/_, _%_, _^_, _<_}
+use Prim.Native.Nat.{ℕ, zero, suc, _+_, _*_, _/_, _%_, _^_, _<_}
 use lib.Dec.{eqb}
 use lib.ListN.{length, getD}
 use Rattle.isa.specs.Instr.{Instr, Valid}
@@ -34,6 +34,10 @@ CodeAt m a (w ∷ ws) = (load4 m a ≡ w) × CodeAt m (w64 (a + 4)) ws
 abbrev pub words : List Instr → List ℕ
 words is = map encode is
 
+-- x is the address of one of the n words from a on
+abbrev pub Among : (a n : ℕ) → ℕ → Type 0
+Among a n x = (k : ℕ) × (k < n) × (x ≡ w64 (a + 4 * k))
+
 -- the bytes bs stand at a
 abbrev pub Loaded : (ℕ → ℕ) → ℕ → List ℕ → Type 0
 Loaded m a bs = (k : ℕ) → k < length bs → m (w64 (a + k)) ≡ getD bs k 0
@@ -52,6 +56,11 @@ module _ (Q : Floats) where
   pub data Run : State → ℕ → State → Type 0 where
     stop : {s : State} → Run s 0 s
     go : {s t u : State} {n : ℕ} → step s ≡ some t → Run t n u → Run s (suc n) u
+
+  -- the same, and each state before the last has its pc in C
+  pub record RunIn (C : ℕ → Type 0) (s : State) (n : ℕ) (t : State) : Type 0 where
+    pub runs : Run s n t
+    pub inside : (k : ℕ) (u : State) → k < n → Run s k u → C (u .pc)
 
   -- the state after n steps
   unfoldable pub run : ℕ → State → Option State

@@ -92,7 +92,7 @@ module _ (places : ℕ → ℕ) (start here : ℕ) (s : State) (Q : Floats) wher
   unfolding scratched-code scratched effect apply setx upd temporary
   scratched-does Sign d a t hd ha ht =
       let g : ℕ → ℕ = upd (s .f) t 0 in
-      sets (scratched-code Sign d a t) _ (scratched-valid Sign d a t hd ha ht) tt (ap (upd g d) (sign-converted Q (Q .lt (g t) (g a)) (Q .lt (g a) (g t)))) refl
+      sets (scratched-code Sign d a t) _ (scratched-valid Sign d a t hd ha ht) tt (ap (upd g d) (sign-converted Q (Q .lt (s .rm) (g t) (g a)) (Q .lt (s .rm) (g a) (g t)))) refl
   scratched-does Frac d a t hd ha ht = sets (scratched-code Frac d a t) _ (scratched-valid Frac d a t hd ha ht) tt refl refl
 
   pub binary-does : (k : Bin.Binary) (d a b : ℕ) → d < 32 → a < 32 → b < 32 → Sets (binary-code k d a b) (upd (s .f) d (binary Q (s .rm) k (s .f a) (s .f b)))
@@ -101,9 +101,9 @@ module _ (places : ℕ → ℕ) (start here : ℕ) (s : State) (Q : Floats) wher
   binary-does Times d a b hd ha hb = sets (binary-code Times d a b) _ (binary-valid Times d a b hd ha hb) tt refl refl
   binary-does Divide d a b hd ha hb = sets (binary-code Divide d a b) _ (binary-valid Divide d a b hd ha hb) tt refl refl
   binary-does Gt d a b hd ha hb =
-      sets (binary-code Gt d a b) _ (binary-valid Gt d a b hd ha hb) tt (ap (upd (s .f) d) (negated (Q .lt (s .f b) (s .f a)))) refl
+      sets (binary-code Gt d a b) _ (binary-valid Gt d a b hd ha hb) tt (ap (upd (s .f) d) (negated (Q .lt (s .rm) (s .f b) (s .f a)))) refl
   binary-does Neq d a b hd ha hb =
-      sets (binary-code Neq d a b) _ (binary-valid Neq d a b hd ha hb) tt (ap (upd (s .f) d) (negated-inverted (Q .eq (s .f a) (s .f b)))) refl
+      sets (binary-code Neq d a b) _ (binary-valid Neq d a b hd ha hb) tt (ap (upd (s .f) d) (negated-inverted (Q .eq (s .rm) (s .f a) (s .f b)))) refl
   binary-does And d a b hd ha hb = sets (binary-code And d a b) _ (binary-valid And d a b hd ha hb) tt refl refl
   binary-does Andnot d a b hd ha hb = sets (binary-code Andnot d a b) _ (binary-valid Andnot d a b hd ha hb) tt refl refl
   binary-does Or d a b hd ha hb = sets (binary-code Or d a b) _ (binary-valid Or d a b hd ha hb) tt refl refl

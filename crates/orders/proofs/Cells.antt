@@ -13,7 +13,6 @@ use Rattle.machine.specs.Word.{w64, upd, store8}
 use Rattle.machine.specs.Floats.{Floats}
 use Rattle.machine.specs.State.{State, setx}
 use Rattle.machine.specs.Effect.{effect, apply}
-use Rattle.machine.specs.Step.{Run}
 use Rattle.machine.specs.Ends.{temporary, Ends}
 use Rattle.machine.proofs.Effects.{setx-other}
 use Rattle.machine.proofs.Memory.{load8-small}
@@ -23,7 +22,7 @@ use Rattle.order.specs.declared.Place.the-variants.{Mem, Stack, Param}
 use Rattle.assembler.specs.Item.{instr}
 use Rattle.accesses.specs.Code.{near-one, load-float-code, save-float-code, load-int-code}
 use Rattle.accesses.specs.Fault.{offset-limit, one-fault}
-use Rattle.accesses.specs.Stands.{Stands, behind, cell-at, with-t0}
+use Rattle.accesses.specs.Stands.{Stands, Goes, behind, cell-at, with-t0}
 use Rattle.accesses.proofs.Then.{fits, stands-first, stands-second}
 use Rattle.accesses.proofs.Runs.{load-float-runs, save-float-runs, load-int-runs}
 use Rattle.reading.specs.Meaning.{on, choose}
@@ -62,7 +61,7 @@ t0-kept near b n s r h = by (ltb n near)
     by false = setx-other (s .x) 5 (cell-at s b n) r (t0-temporary r h)
 
 -- a run to a state whose registers are kept so far
-kept-ends : (Q : Floats) (s : State) (is : List Instr) (x f m : ℕ → ℕ) → ((r : ℕ) → T (not (temporary r)) → x r ≡ s .x r) → Run Q s (length is) (behind is s x f m) → Ends Q temporary s (length is) (w64 (s .pc + 4 * length is)) f m
+kept-ends : (Q : Floats) (s : State) (is : List Instr) (x f m : ℕ → ℕ) → ((r : ℕ) → T (not (temporary r)) → x r ≡ s .x r) → Goes Q is s (behind is s x f m) → Ends Q temporary s (length is) (length is) (w64 (s .pc + 4 * length is)) f m
 kept-ends Q s is x f m h r =
     record { end = behind is s x f m; runs = r; does = record { pc = refl; f = refl; mem = refl; rm = refl; x = h } }
 
@@ -82,12 +81,12 @@ module _ (places : ℕ → ℕ) (start here : ℕ) (s : State) (Q : Floats) wher
       (save-float-runs d (base p) (8 * i) (cell-accepted d p (8 * i) hd hi) Q s (at-stands places start here s is o)))
 
   -- one list behind another, the first to a state that is known
-  both-end : (is js : List Instr) (x f f′ m′ : ℕ → ℕ) → ((r : ℕ) → T (not (temporary r)) → x r ≡ s .x r) → Run Q s (length is) (behind is s x f (s .mem)) → Ends Q temporary (behind is s x f (s .mem)) (length js) (w64 ((behind is s x f (s .mem)) .pc + 4 * length js)) f′ m′ → Ends Q temporary s (length (is ++ js)) (w64 (s .pc + 4 * length (is ++ js))) f′ m′
+  both-end : (is js : List Instr) (x f f′ m′ : ℕ → ℕ) → ((r : ℕ) → T (not (temporary r)) → x r ≡ s .x r) → Goes Q is s (behind is s x f (s .mem)) → Ends Q temporary (behind is s x f (s .mem)) (length js) (length js) (w64 ((behind is s x f (s .mem)) .pc + 4 * length js)) f′ m′ → Ends Q temporary s (length (is ++ js)) (length (is ++ js)) (w64 (s .pc + 4 * length (is ++ js))) f′ m′
   unfolding kept-ends
   both-end is js x f f′ m′ h r e =
       let n = length-append is js in
       let p : w64 (w64 (s .pc + 4 * length is) + 4 * length js) ≡ w64 (s .pc + 4 * (length is + length js)) = omega arith in
-      rw (n, ← p) (ends-join (kept-ends Q s is x f (s .mem) h r) e)
+      rw (n, ← p) (ends-join (kept-ends Q s is x f (s .mem) h r) refl e)
 
   -- the cell into t0, and from there the choice
   pub ifelse-does : (d a b i : ℕ) → d < 32 → a < 32 → b < 32 → 8 * i ≤ offset-limit → At places start here (map instr (load-int-code 5 (base Stack) (8 * i) ++ choose-code d a b)) s → Done places start Q here (map instr (load-int-code 5 (base Stack) (8 * i) ++ choose-code d a b)) s (upd (s .f) d (choose 64 (cell-value s Stack i) (s .f a) (s .f b))) (s .mem) on

@@ -70,7 +70,7 @@ module _ (places : ℕ → ℕ) (start here : ℕ) (s : State) where
         record { sound = o .sound; aligned = at-aligned o; code = rw (resolved-instrs places here is) at (o .code) }
 
     -- instructions that end behind themselves
-    pub goes-on : (Q : Floats) (f m : ℕ → ℕ) → Ends Q temporary s (length is) (w64 (s .pc + 4 * length is)) f m → Done places start Q here (map instr is) s f m on
+    pub goes-on : (Q : Floats) (f m : ℕ → ℕ) → Ends Q temporary s (length is) (length is) (w64 (s .pc + 4 * length is)) f m → Done places start Q here (map instr is) s f m on
     goes-on Q f m e =
         let n = resolved-length places here is in
         record { count = length is; few = rw n (le-refl (length is)); ends = rw n e }

@@ -15,7 +15,7 @@ use Rattle.machine.specs.Floats.{Floats}
 use Rattle.machine.specs.State.{State, setx}
 use Rattle.machine.specs.Effect.{effect, apply, taken}
 use Rattle.machine.specs.Ends.{temporary}
-use Rattle.machine.proofs.Straight.{by-straight, by-path}
+use Rattle.machine.proofs.Straight.{at-first, by-straight, by-path}
 use Rattle.machine.proofs.Placed.{Valids}
 use Rattle.assembler.specs.Item.{Item, instr, jump, label}
 use Rattle.assembler.specs.Resolved.{resolved}
@@ -81,6 +81,12 @@ even a p h k = omega arith
 twelve : (a : ℕ) → w64 (w64 (a + 4) + 12) ≡ w64 (a + 16)
 twelve a = omega arith
 
+eight : (a : ℕ) → w64 (w64 (a + 4) + 4) ≡ w64 (a + 8)
+eight a = omega arith
+
+last : (a : ℕ) → w64 (w64 (w64 (a + 4) + 4) + 4) ≡ w64 (a + 12)
+last a = omega arith
+
 third : (start here : ℕ) → w64 (w64 (w64 (start + here) + 4) + 4) ≡ w64 (start + (here + 4 + 4))
 third start here = omega arith
 
@@ -114,8 +120,8 @@ module _ (places : ℕ → ℕ) (start here : ℕ) (s : State) (Q : Floats) (g :
           count = 2;
           few = omega arith;
           ends =
-              by-path Q temporary is s _ _ _ (fits Q is s (omega arith)) tt
-              (a, o .code .0, (four (s .pc) a, o .code .1 .0, tt))
+              by-path Q temporary is s 4 _ _ _ (fits Q is s (omega arith)) tt
+              (at-first (s .pc) 3 (o .sound .pc), a, o .code .0, ((1, omega arith, refl), four (s .pc) a, o .code .1 .0, tt))
               (rw (t, twelve (s .pc))) refl refl;
         }
 
@@ -132,8 +138,22 @@ module _ (places : ℕ → ℕ) (start here : ℕ) (s : State) (Q : Floats) (g :
           count = 4;
           few = omega arith;
           ends =
-              by-path Q temporary is s _ _ _ (fits Q is s (branch-valid places here c l k hc)) tt
-              (a, o .code .0, (b, o .code .1 .0, (rw t (four _ b), rw t (o .code .1 .1 .0), (rw t (four _ (four _ b)), rw t (o .code .1 .1 .1 .0), tt))))
+              by-path Q temporary is s 4 _ _ _ (fits Q is s (branch-valid places here c l k hc)) tt (
+                at-first (s .pc) 3 (o .sound .pc),
+                a,
+                o .code .0,
+                (
+                  (1, omega arith, refl),
+                  b,
+                  o .code .1 .0,
+                  (
+                    (2, omega arith, rw t (eight (s .pc))),
+                    rw t (four _ b),
+                    rw t (o .code .1 .1 .0),
+                    ((3, omega arith, rw t (last (s .pc))), rw t (four _ (four _ b)), rw t (o .code .1 .1 .1 .0), tt),
+                  ),
+                ),
+              )
               (rw (t, o .pc, third start here, e) (even start (places l) (o .start-aligned) (g .aligned l)))
               refl refl;
         }

@@ -55,12 +55,12 @@ module _ (places : ℕ → ℕ) (start : ℕ) where
   exit-address s n on = w64 (s .pc + 4 * n)
   exit-address s n (to l) = w64 (start + places l)
 
-  -- A run of no more steps than the items have words comes to the exit, with these float registers and this memory;
+  -- A run of no more steps than the items have words, and at those alone, comes to the exit, with these float registers and this memory;
   -- the rounding mode and every register but t0, t1 and t2 are as before.
   pub record Done (Q : Floats) (here : ℕ) (is : List Item) (s : State) (f m : ℕ → ℕ) (exit : Exit) : Type 0 where
     pub count : ℕ
     pub few : count ≤ length (resolved places here is)
-    pub ends : Ends Q temporary s count (exit-address s (length (resolved places here is)) exit) f m
+    pub ends : Ends Q temporary s (length (resolved places here is)) count (exit-address s (length (resolved places here is)) exit) f m
 
   -- the same of what an order means
   abbrev pub Does : Floats → (here : ℕ) → Order → State → Type 0

@@ -77,15 +77,15 @@ module _ (Q : Floats) (rm : ℕ) where
 
   -- t is the scratch register
   unfoldable pub scratched : S.Scratched → (ℕ → ℕ) → (d s t : ℕ) → ℕ → ℕ
-  scratched Sign f d s t = let g = upd f t 0 in upd g d (sign-bits (Q .lt (g t) (g s)) (Q .lt (g s) (g t)))
+  scratched Sign f d s t = let g = upd f t 0 in upd g d (sign-bits (Q .lt rm (g t) (g s)) (Q .lt rm (g s) (g t)))
   scratched Frac f d s t = let g = upd f t (whole 2 (f s)) in upd g d (w64 (Q .sub rm (g s) (g t)))
 
   unfoldable pub binary : B.Binary → (u v : ℕ) → ℕ
   binary Minus u v = w64 (Q .sub rm u v)
   binary Times u v = w64 (Q .mul rm u v)
   binary Divide u v = w64 (Q .div rm u v)
-  binary Gt u v = mask (Q .lt v u)
-  binary Neq u v = mask (not (Q .eq u v))
+  binary Gt u v = mask (Q .lt rm v u)
+  binary Neq u v = mask (not (Q .eq rm u v))
   binary And u v = bitAnd u v
   binary Andnot u v = bitAnd (inverted u) v
   binary Or u v = bitOr u v
