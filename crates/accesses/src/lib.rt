@@ -316,7 +316,11 @@ fn li_refusal(d: u32, z: i32) -> Fault
     }
     let s = encoder::split(z);
     match s {
-        Sign::NonNeg(n) => if n <= LIMIT { Fault::Nothing } else { Fault::Value },
+        Sign::NonNeg(n) => if n <= LIMIT {
+            Fault::Nothing
+        } else {
+            Fault::Value
+        },
         Sign::Neg(_) => Fault::Nothing,
     }
 }
@@ -354,13 +358,21 @@ fn access_refusal(near: u32, base: u32, n: u32) -> Fault
     if n < near {
         return Fault::Nothing;
     }
-    if base == T0 { Fault::Base } else { Fault::Nothing }
+    if base == T0 {
+        Fault::Base
+    } else {
+        Fault::Nothing
+    }
 }
 
 fn stack_refusal(n: u32) -> Fault
     ensures { λ x. ⌜ fault-number x ≡ stack-fault n ⌝ }
 {
-    if n <= LIMIT { Fault::Nothing } else { Fault::Value }
+    if n <= LIMIT {
+        Fault::Nothing
+    } else {
+        Fault::Value
+    }
 }
 
 pub fn li(
