@@ -30,6 +30,7 @@ use Rattle.encoder.specs.declared.Encoded.the-variants.{Word, Refused}
 use Rattle.machine.proofs.Placed.{Valids}
 use Rattle.isa.proofs.Validity.{Valid-valid, Valid-registers}
 use Rattle.assembler.specs.Plan.{no-words, pushed}
+use Rattle.assembler.specs.declared.Fault.the-variants as Fault
 use Rattle.assembler.specs.declared.Plan.{Plan}
 use Rattle.accesses.specs.Plans.{answer-of, pushes-from, pushes, plan-of, Built}
 use Rattle.accesses.specs.Code.{li-code}
@@ -82,7 +83,7 @@ word i v = rw (Valid-registers i v, Valid-valid i v)
 -- a plan that holds the words ws, the first of its twelve
 record Holding (p : Plan) (ws : List ℕ) : Type 0 where
   n : p .n ≡ length ws
-  fault : p .fault ≡ 0
+  fault : p .fault ≡ Fault.Nothing
   size : length (p .w) ≡ 12
   words : take (length ws) (p .w) ≡ ws
 

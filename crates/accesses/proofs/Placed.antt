@@ -5,15 +5,16 @@ use mathlib.Core.List.{List, [], _++_, map, append-nil}
 use Prim.Native.Nat.{ℕ, _≤_, min}
 use native.Mathlib.Nat.{min-eq-left}
 use native.Mathlib.Omega.{arith}
-use borrow.Author.Tests.{le-leb, eqb-true, eqb-false}
+use borrow.Author.Tests.{eqb-true, eqb-false}
 use lib.Dec.{eqb}
 use lib.ListN.{length}
 use Rattle.isa.specs.Instr.{Instr}
 use Rattle.assembler.specs.Item.{instr}
 use Rattle.assembler.specs.State.{State, Outcome}
 use Rattle.assembler.specs.Put.{put}
-use Rattle.assembler.specs.Plan.{tail-items, tail-fault, plan-fault, plan-items}
+use Rattle.assembler.specs.Plan.{fault-number, tail-items, tail-fault, plan-fault, plan-items}
 use Rattle.assembler.proofs.Plans.{put-fault, earlier-none, stands-put}
+use Rattle.assembler.specs.declared.Fault.{Fault}
 use Rattle.assembler.specs.declared.Plan.{Plan}
 use Rattle.assembler.specs.declared.Tail.{Tail}
 use Rattle.assembler.specs.declared.Tail.the-variants.{Nothing}
@@ -24,12 +25,12 @@ use Rattle.accesses.proofs.Stack.{size-fits}
 use Rattle.accesses.proofs.Collect.{AllValid, built}
 
 -- A plan's fault alone is answered.
-pub own-fault : (f : ℕ) → f ≤ 12 → (w : List ℕ) → plan-fault (record { n = 0; fault = f; w = w }) Nothing ≡ f
-own-fault f h w = rw (le-leb f 12 h) (earlier-none f h)
+pub own-fault : (f : Fault) (w : List ℕ) → plan-fault (record { n = 0; fault = f; w = w }) Nothing ≡ fault-number f
+own-fault f w = earlier-none f
 
-pub alone : (f : ℕ) (w : List ℕ) (o : Outcome) (s : State) → f ≤ 12
-    → o ≡ put 0 (plan-fault (record { n = 0; fault = f; w = w }) Nothing) (plan-items (record { n = 0; fault = f; w = w }) Nothing) s → o ≡ put 0 f [] s
-alone f w o s h e = e ∙ ap (λ (k : ℕ). put 0 k [] s) (own-fault f h w)
+pub alone : (f : Fault) (w : List ℕ) (o : Outcome) (s : State)
+    → o ≡ put 0 (plan-fault (record { n = 0; fault = f; w = w }) Nothing) (plan-items (record { n = 0; fault = f; w = w }) Nothing) s → o ≡ put 0 (fault-number f) [] s
+alone f w o s e = e ∙ ap (λ (k : ℕ). put 0 k [] s) (own-fault f w)
 
 -- ---- a plan of valid instructions
 
@@ -37,7 +38,7 @@ module _ (p : Plan) (is : List Instr) (e : p ≡ plan-of is) (few : length is �
   pub plan-tail : (t : Tail) → tail-fault t ≡ 0 → put tag (plan-fault p t) (plan-items p t) s ≡ put tag 0 (map instr is ++ tail-items t) s
   plan-tail t z =
       let b : Built (plan-of is) is = built is few v in
-      stands-put p 0 is t tag s (rw e (b .fault)) (omega arith) (λ q. rw e (b .words)) ∙ rw z
+      stands-put p is t tag s (λ q. rw e (b .words)) ∙ rw (e, b .fault, z)
 
   pub plan-code : put tag (plan-fault p Nothing) (plan-items p Nothing) s ≡ put tag 0 (map instr is) s
   plan-code = plan-tail Nothing refl ∙ rw (append-nil (map instr is))

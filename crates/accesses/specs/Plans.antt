@@ -13,6 +13,7 @@ use Rattle.assembler.specs.State.{State, Outcome}
 use Rattle.assembler.specs.Put.{put}
 use Rattle.assembler.specs.Plan.{no-words, pushed, plan-words, plan-fault, plan-items}
 use Rattle.assembler.specs.declared.Tail.the-variants.{Nothing}
+use Rattle.assembler.specs.declared.Fault.the-variants as Fault
 use Rattle.assembler.specs.declared.Plan.{Plan}
 
 -- the encoder's answer for an instruction
@@ -45,4 +46,4 @@ settled-plan fault p s = cond (eqb fault 0) (put 0 (plan-fault p Nothing) (plan-
 -- the plan holds the words of these instructions, and no fault
 pub record Built (p : Plan) (is : List Instr) : Type 0 where
   pub words : plan-words p ≡ map encode is
-  pub fault : p .fault ≡ 0
+  pub fault : p .fault ≡ Fault.Nothing

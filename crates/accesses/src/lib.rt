@@ -10,12 +10,13 @@ ghost use Rattle.isa.specs.Instr.{I, U, ADDI, LUI};
 ghost use Rattle.assembler.specs.Item.{instr};
 ghost use Rattle.assembler.specs.State.{state, outcome};
 ghost use Rattle.assembler.specs.Put.{put};
-ghost use Rattle.assembler.specs.Plan.{pushed};
+ghost use Rattle.assembler.specs.Plan.{fault-number, pushed};
 ghost use Rattle.accesses.specs.Code.{li-code, point-code, load-float-code, save-float-code, load-int-code, load-complex-code, save-complex-code, sub-stack-code, add-stack-code, allocate-stack-code};
 ghost use Rattle.accesses.specs.Fault.{li-fault, access-fault, one-fault, pair-fault, stack-fault};
 ghost use Rattle.accesses.specs.Plans.{is-word, word-of, pushes, plan-of, settled-plan};
 use assembler::Asm;
 use assembler::Done;
+use assembler::Fault;
 use assembler::Plan;
 use assembler::Tail;
 use encoder::Encoded;
@@ -66,7 +67,7 @@ pub fn two(a: Encoded, b: Encoded) -> Plan
     if is_word(a) && is_word(b) {
         return Plan {
             n: 2,
-            fault: 0,
+            fault: Fault::Nothing,
             w: [word(a), word(b), 0, 0, 0, 0, 0, 0, 0, 0, 0, 0],
         };
     }
@@ -79,7 +80,7 @@ pub fn four(a: Encoded, b: Encoded, c: Encoded, d: Encoded) -> Plan
     if is_word(a) && is_word(b) && is_word(c) && is_word(d) {
         return Plan {
             n: 4,
-            fault: 0,
+            fault: Fault::Nothing,
             w: [word(a), word(b), word(c), word(d), 0, 0, 0, 0, 0, 0, 0, 0],
         };
     }
@@ -93,7 +94,7 @@ pub fn five(a: Encoded, b: Encoded, c: Encoded, d: Encoded, e: Encoded) -> Plan
     if is_word(a) && is_word(b) && is_word(c) && is_word(d) && is_word(e) {
         return Plan {
             n: 5,
-            fault: 0,
+            fault: Fault::Nothing,
             w: [
                 word(a),
                 word(b),
@@ -276,19 +277,19 @@ fn allocate_stack_plan(n: u32) -> Plan
 
 // ---- placed: all words, or a refusal and nothing
 
-// A plan whose operands have the number `fault`, 0 for none.
+// A plan whose operands have a fault, or none.
 fn settle(
-    fault: u8,
+    fault: Fault,
     p: Plan,
     buf: &mut [u8],
     labels: &mut [u64; 2039],
     jumps: &mut [u32; 20480],
     asm: Asm,
 ) -> Done
-    requires { ⌜ fault ≤ 12 ⌝ }
-    ensures { λ x. ⌜ outcome x (now (labels .exit)) (now (jumps .exit)) (now (buf .exit)) ≡ settled-plan fault p (state asm (now (labels .entry)) (now (jumps .entry)) (now (buf .entry))) ⌝ }
+    ensures { λ x. ⌜ outcome x (now (labels .exit)) (now (jumps .exit)) (now (buf .exit)) ≡ settled-plan (fault-number fault) p (state asm (now (labels .entry)) (now (jumps .entry)) (now (buf .entry))) ⌝ }
 {
-    if fault == 0 {
+    let k = assembler::fault_number(fault);
+    if k == 0 {
         return assembler::place(p, Tail::Nothing, 0, buf, labels, jumps, asm);
     }
     let q = Plan {
@@ -306,60 +307,72 @@ fn at_most(limit: u32, n: u32) -> u32
     if n <= limit { n } else { limit }
 }
 
-// document 01's number for `li`, 0 for none.
-fn li_refusal(d: u32, z: i32) -> u8
-    ensures { λ r. ⌜ (r ≡ li-fault d z) × (r ≤ 12) ⌝ }
+// What document 01 refuses of `li`.
+fn li_refusal(d: u32, z: i32) -> Fault
+    ensures { λ r. ⌜ fault-number r ≡ li-fault d z ⌝ }
 {
     if d >= 32 {
-        return 1;
+        return Fault::Register;
     }
     let s = encoder::split(z);
     match s {
-        Sign::NonNeg(n) => if n <= LIMIT { 0 } else { 2 },
-        Sign::Neg(_) => 0,
+        Sign::NonNeg(n) => if n <= LIMIT {
+            Fault::Nothing
+        } else {
+            Fault::Value
+        },
+        Sign::Neg(_) => Fault::Nothing,
     }
 }
 
 // For an access of one cell.
-fn one_refusal(r: u32, base: u32, n: u32) -> u8
-    ensures { λ x. ⌜ (x ≡ one-fault r base n) × (x ≤ 12) ⌝ }
+fn one_refusal(r: u32, base: u32, n: u32) -> Fault
+    ensures { λ x. ⌜ fault-number x ≡ one-fault r base n ⌝ }
 {
     if r >= 32 {
-        return 1;
+        return Fault::Register;
     }
     access_refusal(2048, base, n)
 }
 
 // For an access of two cells.
-fn pair_refusal(r: u32, base: u32, n: u32) -> u8
-    ensures { λ x. ⌜ (x ≡ pair-fault r base n) × (x ≤ 12) ⌝ }
+fn pair_refusal(r: u32, base: u32, n: u32) -> Fault
+    ensures { λ x. ⌜ fault-number x ≡ pair-fault r base n ⌝ }
 {
     if r > LAST_PAIR {
-        return 1;
+        return Fault::Register;
     }
     access_refusal(2040, base, n)
 }
 
 // For the base and the offset of an access that is direct below `near`.
-fn access_refusal(near: u32, base: u32, n: u32) -> u8
-    ensures { λ x. ⌜ (x ≡ access-fault near (ltb base 32) base n) × (x ≤ 12) ⌝ }
+fn access_refusal(near: u32, base: u32, n: u32) -> Fault
+    ensures { λ x. ⌜ fault-number x ≡ access-fault near (ltb base 32) base n ⌝ }
 {
     if base >= 32 {
-        return 1;
+        return Fault::Register;
     }
     if n > LIMIT {
-        return 2;
+        return Fault::Value;
     }
     if n < near {
-        return 0;
+        return Fault::Nothing;
     }
-    if base == T0 { 10 } else { 0 }
+    if base == T0 {
+        Fault::Base
+    } else {
+        Fault::Nothing
+    }
 }
 
-fn stack_refusal(n: u32) -> u8
-    ensures { λ x. ⌜ (x ≡ stack-fault n) × (x ≤ 12) ⌝ }
+fn stack_refusal(n: u32) -> Fault
+    ensures { λ x. ⌜ fault-number x ≡ stack-fault n ⌝ }
 {
-    if n <= LIMIT { 0 } else { 2 }
+    if n <= LIMIT {
+        Fault::Nothing
+    } else {
+        Fault::Value
+    }
 }
 
 pub fn li(

@@ -2,9 +2,9 @@
 use mathlib.Core.Path.{_≡_, refl, sym, ap, _∙_}
 use mathlib.Core.Bool.{Bool, true, false, cond}
 use mathlib.Core.List.{List, [], _∷_, _++_, map}
-use Prim.Native.Nat.{ℕ, zero, suc, _≤_}
+use Prim.Native.Nat.{ℕ, _≤_}
 use native.Mathlib.Omega.{arith}
-use borrow.Author.Tests.{le-leb, le-ltb, ne-eqb, ltb-true, eqb-true, eqb-false}
+use borrow.Author.Tests.{le-ltb, ne-eqb, ltb-true, eqb-true, eqb-false}
 use lib.Dec.{ltb, eqb}
 use lib.ListN.{length}
 use Rattle.isa.specs.Instr.{Instr}
@@ -13,11 +13,13 @@ use Rattle.refusal.specs.Answer.{refused}
 use Rattle.assembler.specs.Item.{Item, instr, raw}
 use Rattle.assembler.specs.State.{State, sound}
 use Rattle.assembler.specs.Put.{words, jumps, labels, place, placed, verdict, put-number, put}
-use Rattle.assembler.specs.Plan.{rank, earlier, tail-items, tail-fault, plan-words, plan-items, plan-fault}
+use Rattle.assembler.specs.Plan.{rank, earlier, fault-number, tail-items, tail-fault, plan-words, plan-items, plan-fault, all-labels, sets-fault}
 use Rattle.assembler.specs.declared.Asm.{Asm}
+use Rattle.assembler.specs.declared.Fault.{Fault}
+use Rattle.assembler.specs.declared.Fault.the-variants as Fault
 use Rattle.assembler.specs.declared.Plan.{Plan}
 use Rattle.assembler.specs.declared.Tail.{Tail}
-use Rattle.assembler.proofs.Steps.{settled-no}
+use Rattle.assembler.proofs.Steps.{settled-no, fault-first}
 
 -- ---- faults
 
@@ -71,38 +73,48 @@ module _ (t : List Item) where
   unfolding put
   put-same tag fault is s = rw (words-same is, jumps-same is, labels-same is, placed-same tag is s)
 
-rank-small : (a : ℕ) → a ≤ 12 → rank a ≤ 12
-rank-small zero h = omega arith
-rank-small (suc zero) h = omega arith
-rank-small (suc (suc zero)) h = omega arith
-rank-small (suc (suc (suc zero))) h = omega arith
-rank-small (suc (suc (suc (suc zero)))) h = omega arith
-rank-small (suc (suc (suc (suc (suc zero))))) h = omega arith
-rank-small (suc (suc (suc (suc (suc (suc zero)))))) h = omega arith
-rank-small (suc (suc (suc (suc (suc (suc (suc zero))))))) h = omega arith
-rank-small (suc (suc (suc (suc (suc (suc (suc (suc zero)))))))) h = omega arith
-rank-small (suc (suc (suc (suc (suc (suc (suc (suc (suc zero))))))))) h = omega arith
-rank-small (suc (suc (suc (suc (suc (suc (suc (suc (suc (suc zero)))))))))) h = omega arith
-rank-small (suc (suc (suc (suc (suc (suc (suc (suc (suc (suc (suc zero))))))))))) h = omega arith
-rank-small (suc (suc (suc (suc (suc (suc (suc (suc (suc (suc (suc (suc zero)))))))))))) h = omega arith
-rank-small (suc (suc (suc (suc (suc (suc (suc (suc (suc (suc (suc (suc (suc a))))))))))))) h = absurd (omega arith)
+rank-small : (f : Fault) → rank (fault-number f) ≤ 12
+rank-small Fault.Nothing = omega arith
+rank-small Fault.Register = omega arith
+rank-small Fault.Value = omega arith
+rank-small Fault.Label = omega arith
+rank-small Fault.Count = omega arith
+rank-small Fault.Base = omega arith
 
 -- a fault and none
-pub earlier-none : (a : ℕ) → a ≤ 12 → earlier a 0 ≡ a
-earlier-none a h = rw (le-ltb 12 (rank a) (rank-small a h))
+pub earlier-none : (f : Fault) → earlier (fault-number f) 0 ≡ fault-number f
+earlier-none f = rw (le-ltb 12 (rank (fault-number f)) (rank-small f))
 
-fault-zero : (a b : ℕ) → a ≤ 12 → earlier a b ≡ 0 → a ≡ 0
-fault-zero a b h e = by (ltb (rank b) (rank a)) refl e
+fault-zero : (f : Fault) (b : ℕ) → earlier (fault-number f) b ≡ 0 → fault-number f ≡ 0
+fault-zero f b e = by (ltb (rank b) (rank (fault-number f))) refl e
   where
-    by : (t : Bool) → ltb (rank b) (rank a) ≡ t → cond t b a ≡ 0 → a ≡ 0
+    by : (t : Bool) → ltb (rank b) (rank (fault-number f)) ≡ t → cond t b (fault-number f) ≡ 0 → fault-number f ≡ 0
     by false q e = e
-    by true q e = absurd (omega (arith, ltb-true (rank b) (rank a) q, ap rank e, rank-small a h))
+    by true q e = absurd (omega (arith, ltb-true (rank b) (rank (fault-number f)) q, ap rank e, rank-small f))
+
+-- a label too high is a fault
+high-fault : (f : Fault) → earlier (fault-number f) 2 ≡ 0 → ⊥
+high-fault Fault.Nothing e = omega arith
+high-fault Fault.Register e = omega arith
+high-fault Fault.Value e = omega arith
+high-fault Fault.Label e = omega arith
+high-fault Fault.Count e = omega arith
+high-fault Fault.Base e = omega arith
+
+-- whether labels are taken matters only where they are labels
+module _ (f : Fault) (ls : List ℕ) (t u : Bool) (w j n : ℕ) (a : Asm) where
+  pub asked : (sets-fault ls ≡ 0 → t ≡ u) → verdict (earlier (fault-number f) (sets-fault ls)) t w j n a ≡ verdict (earlier (fault-number f) (sets-fault ls)) u w j n a
+  asked h = by (all-labels ls) h
+    where
+      by : (b : Bool) → (_≡_ {A = ℕ} (cond b 0 2) 0 → t ≡ u) → verdict (earlier (fault-number f) (cond b 0 2)) t w j n a ≡ verdict (earlier (fault-number f) (cond b 0 2)) u w j n a
+      by true h = rw (h refl)
+      by false h = fault-first (earlier (fault-number f) 2) t u w j n a (high-fault f)
 
 -- A plan that stands for a fault and, where there is none, for instructions.
-module _ (p : Plan) (f : ℕ) (is : List Instr) (t : Tail) (tag : ℕ) (s : State) (e : p .fault ≡ f) (h : f ≤ 12) (w : f ≡ 0 → plan-words p ≡ map encode is) where
-  pub stands-put : put tag (plan-fault p t) (plan-items p t) s ≡ put tag (earlier f (tail-fault t)) (map instr is ++ tail-items t) s
-  stands-put = rw (e, le-leb f 12 h) (by (eqb (earlier f (tail-fault t)) 0) refl)
+module _ (p : Plan) (is : List Instr) (t : Tail) (tag : ℕ) (s : State) (w : fault-number (p .fault) ≡ 0 → plan-words p ≡ map encode is) where
+  pub stands-put : put tag (plan-fault p t) (plan-items p t) s ≡ put tag (plan-fault p t) (map instr is ++ tail-items t) s
+  stands-put = by (eqb (plan-fault p t) 0) refl
     where
-      by : (z : Bool) → eqb (earlier f (tail-fault t)) 0 ≡ z → put tag (earlier f (tail-fault t)) (plan-items p t) s ≡ put tag (earlier f (tail-fault t)) (map instr is ++ tail-items t) s
-      by false q = put-fault tag tag (earlier f (tail-fault t)) (plan-items p t) (map instr is ++ tail-items t) s (eqb-false _ 0 q)
-      by true q = rw (w (fault-zero f (tail-fault t) h (eqb-true _ 0 q))) (put-same (tail-items t) tag (earlier f (tail-fault t)) is s)
+      by : (z : Bool) → eqb (plan-fault p t) 0 ≡ z → put tag (plan-fault p t) (plan-items p t) s ≡ put tag (plan-fault p t) (map instr is ++ tail-items t) s
+      by false q = put-fault tag tag (plan-fault p t) (plan-items p t) (map instr is ++ tail-items t) s (eqb-false _ 0 q)
+      by true q = rw (w (fault-zero (p .fault) (tail-fault t) (eqb-true _ 0 q))) (put-same (tail-items t) tag (plan-fault p t) is s)

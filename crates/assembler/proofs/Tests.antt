@@ -1,14 +1,17 @@
 -- Tests and what they say. Assumes nothing.
-use mathlib.Core.Path.{_≡_, refl, sym, subst}
-use mathlib.Core.Bool.{Bool, true, false, not, cond}
+use mathlib.Core.Path.{_≡_, refl, sym, subst, _∙_}
+use mathlib.Core.Bool.{Bool, true, false, not, _&&_, _||_, cond, or-false}
 use mathlib.Core.List.{List, [], _∷_}
 use Prim.Native.Nat.{ℕ, zero, suc, _<_, _≤_}
 use native.Mathlib.Omega.{arith}
-use lib.Dec.{T, ltb}
+use borrow.Author.Tests.{ltb-true}
+use lib.Dec.{T, ltb, eqb}
 use lib.Ieee.{Float, nan, inf, fin, eq, ne, isNan}
 use lib.Ieee.Compare.{differs-from-itself}
 use lib.ListN.{length, getD}
-use Rattle.assembler.specs.Plan.{rank, earlier}
+use Rattle.assembler.specs.Label.{is-set}
+use Rattle.assembler.specs.Put.{among, twice}
+use Rattle.assembler.specs.Plan.{rank, earlier, all-labels, sets-fault}
 
 pub no : {A : Type 0} → false ≡ true → A
 no e = let z : _≡_ {A = ℕ} 0 1 = cc in absurd (omega arith)
@@ -26,6 +29,24 @@ earlier-small a b n h k = by (ltb (rank b) (rank a))
     by : (t : Bool) → cond t b a ≤ n
     by true = k
     by false = h
+
+-- labels that are all below 2,039
+pub label-below : (l : ℕ) (ls : List ℕ) → sets-fault (l ∷ ls) ≡ 0 → (l < 2039) × (sets-fault ls ≡ 0)
+label-below l ls e = by (ltb l 2039) (all-labels ls) refl e
+  where
+    by : (b c : Bool) → ltb l 2039 ≡ b → _≡_ {A = ℕ} (cond (b && c) 0 2) 0 → (l < 2039) × (_≡_ {A = ℕ} (cond c 0 2) 0)
+    by true true p q = (ltb-true l 2039 p, refl)
+    by true false p q = absurd (omega arith)
+    by false c p q = absurd (omega arith)
+
+-- one label more, of which is known whether it comes again behind
+pub taken-more : (m : List ℕ) (l : ℕ) (ls : List ℕ) (g y r : Bool) → g ≡ among l ls → y ≡ twice m ls → r ≡ is-set (getD m l 0) || (g || y) → r ≡ twice m (l ∷ ls)
+unfolding twice
+taken-more m l ls g y r e f h = h ∙ rw (e, f)
+
+pub among-one : (l k : ℕ) → eqb k l ≡ among l (k ∷ [])
+unfolding among
+among-one l k = rw or-false
 
 -- ---- floats
 

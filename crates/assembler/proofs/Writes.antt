@@ -1,13 +1,16 @@
 -- Words written into a buffer. Assumes nothing.
 use mathlib.Core.Path.{_≡_, refl, sym, ap, _∙_}
+use mathlib.Core.Bool.{cond}
 use mathlib.Core.List.{List, [], _∷_, _++_, append-assoc, flatMap}
 use Prim.Native.Nat.{ℕ, suc, _+_, _*_, _<_, _≤_}
 use native.Mathlib.Nat.{add-zero}
 use native.Mathlib.Numerals.{add-one}
 use native.Mathlib.Omega.{arith}
+use borrow.Author.Tests.{le-leb, lt-leb}
+use lib.Dec.{leb}
 use lib.ListN.{length, set, take, drop, getD}
 use lib.Seq.{sets, sets-eq, length-sets, take-suc, length-take-le}
-use Rattle.assembler.specs.Bytes.{le-bytes, bytes, written}
+use Rattle.assembler.specs.Bytes.{le-bytes, bytes, written, room}
 
 pub length-written : (b : List ℕ) (at : ℕ) (ws : List ℕ) → length (written b at ws) ≡ length b
 unfolding written
@@ -66,3 +69,12 @@ written-is b at ws h =
     let e : length (bytes ws) ≡ 4 * length ws = length-bytes ws in
     sets-eq (bytes ws) b at (omega arith) ∙ ap (λ (k : ℕ). take at b ++ bytes ws ++ drop (at + k) b) e
     ∙ append-assoc (take at b) (bytes ws) (drop (at + 4 * length ws) b)
+
+-- ---- by the test of the room
+
+module _ (b : List ℕ) (at : ℕ) (ws : List ℕ) (m : ℕ) where
+  pub kept : room (length b) < at + m → b ≡ cond (leb (at + m) (room (length b))) (written b at ws) b
+  kept h = rw (lt-leb (at + m) (room (length b)) h)
+
+  pub laid : (e : List ℕ) → at + m ≤ room (length b) → e ≡ written b at ws → e ≡ cond (leb (at + m) (room (length b))) (written b at ws) b
+  laid e h q = rw (le-leb (at + m) (room (length b)) h) q

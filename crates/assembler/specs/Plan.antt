@@ -1,12 +1,13 @@
 -- An order as its words and the jumps behind them, and the refusal of an operand, if one is refused.
-use mathlib.Core.Bool.{cond}
+use mathlib.Core.Bool.{Bool, true, _&&_, cond}
 use mathlib.Core.List.{List, [], _∷_, _++_, map}
 use Prim.Native.Nat.{ℕ, _+_, min}
-use lib.Dec.{ltb, leb}
+use lib.Dec.{ltb}
 use lib.ListN.{getD, take, set, replicate}
 use Rattle.isa.specs.Instr.{Instr, operands, registers-hold, valid}
 use Rattle.refusal.specs.Number.{number-of}
-use Rattle.refusal.specs.declared.Refusal.the-variants.{Register, Value}
+use Rattle.refusal.specs.declared.Refusal.{Refusal}
+use Rattle.refusal.specs.declared.Refusal.the-variants.{Register, Value, Label, Twice, Unset, Far, Full, Closed, Count, Base, Unsaved, Line}
 use Rattle.encoder.specs.declared.Encoded.{Encoded}
 use Rattle.encoder.specs.declared.Encoded.the-variants.{Word, Refused}
 use Rattle.assembler.specs.Item.{Item, raw, jump}
@@ -14,6 +15,10 @@ use Rattle.assembler.specs.declared.Kind.the-variants.{Auipc}
 use Rattle.assembler.specs.declared.Tail.{Tail}
 use Rattle.assembler.specs.declared.Tail.the-variants.{Nothing, One, Pair}
 use Rattle.assembler.specs.declared.Plan.{Plan}
+use Rattle.assembler.specs.declared.Fault.{Fault}
+use Rattle.assembler.specs.declared.Fault.the-variants as Fault
+use Rattle.assembler.specs.declared.Sets.{Sets}
+use Rattle.assembler.specs.declared.Sets.the-variants as Sets
 
 -- ---- faults
 
@@ -27,6 +32,33 @@ rank n = getD ranks n 13
 -- the one of two faults that comes first
 abbrev pub earlier : ℕ → ℕ → ℕ
 earlier a b = cond (ltb (rank b) (rank a)) b a
+
+-- document 01's number of an operand's fault, 0 for none
+abbrev pub fault-number : Fault → ℕ
+fault-number Fault.Nothing = 0
+fault-number Fault.Register = number-of Register
+fault-number Fault.Value = number-of Value
+fault-number Fault.Label = number-of Label
+fault-number Fault.Count = number-of Count
+fault-number Fault.Base = number-of Base
+
+abbrev pub first-of : Fault → Fault → Fault
+first-of a b = cond (ltb (rank (fault-number b)) (rank (fault-number a))) b a
+
+-- A refused instruction's: the encoder refuses registers and values; a number that isn't an operand's counts as a value.
+abbrev pub refusal-fault : Refusal → Fault
+refusal-fault Register = Fault.Register
+refusal-fault Value = Fault.Value
+refusal-fault Label = Fault.Label
+refusal-fault Twice = Fault.Value
+refusal-fault Unset = Fault.Value
+refusal-fault Far = Fault.Value
+refusal-fault Full = Fault.Value
+refusal-fault Closed = Fault.Value
+refusal-fault Count = Fault.Count
+refusal-fault Base = Fault.Base
+refusal-fault Unsaved = Fault.Value
+refusal-fault Line = Fault.Value
 
 -- what the encoder refuses: 1 a register above 31, else 2 a value outside its field
 abbrev pub instr-fault : Instr → ℕ
@@ -66,17 +98,33 @@ plan-words p = take (min (p .n) 12) (p .w)
 abbrev pub plan-items : Plan → Tail → List Item
 plan-items p t = map raw (plan-words p) ++ tail-items t
 
--- a plan's own fault (a number above 12 is none of document 01's, and counts as 2), or its tail's
+-- a plan's own fault, or its tail's
 abbrev pub plan-fault : Plan → Tail → ℕ
-plan-fault p t = earlier (cond (leb (p .fault) 12) (p .fault) (number-of Value)) (tail-fault t)
+plan-fault p t = earlier (fault-number (p .fault)) (tail-fault t)
 
 abbrev pub no-words : Plan
-no-words = record { n = 0; fault = 0; w = replicate 12 0 }
+no-words = record { n = 0; fault = Fault.Nothing; w = replicate 12 0 }
 
 -- One instruction more; a 13th word is a fault.
 unfoldable pub pushed : Plan → Encoded → Plan
 pushed p (Word x) =
     cond (ltb (p .n) 12)
     (record { n = p .n + 1; fault = p .fault; w = set (p .w) (p .n) x })
-    (record { n = p .n; fault = earlier (p .fault) (number-of Value); w = p .w })
-pushed p (Refused r place) = record { n = p .n; fault = earlier (p .fault) (number-of r); w = p .w }
+    (record { n = p .n; fault = first-of (p .fault) Fault.Value; w = p .w })
+pushed p (Refused r place) = record { n = p .n; fault = first-of (p .fault) (refusal-fault r); w = p .w }
+
+-- ---- labels that a whole would set
+
+abbrev pub labels-of : Sets → List ℕ
+labels-of Sets.Nothing = []
+labels-of (Sets.One a) = a ∷ []
+labels-of (Sets.Two a b) = a ∷ b ∷ []
+labels-of (Sets.Three a b c) = a ∷ b ∷ c ∷ []
+
+abbrev pub all-labels : List ℕ → Bool
+all-labels [] = true
+all-labels (l ∷ ls) = ltb l 2039 && all-labels ls
+
+-- their fault: 2 where one is above 2,038
+abbrev pub sets-fault : List ℕ → ℕ
+sets-fault ls = cond (all-labels ls) 0 (number-of Value)

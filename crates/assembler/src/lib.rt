@@ -1,6 +1,6 @@
 // assembler.rs and utils.rs: words, labels and jumps in lent memory.
 ghost use mathlib.Core.Path.{_≡_};
-ghost use mathlib.Core.Bool.{true, false, cond, not};
+ghost use mathlib.Core.Bool.{true, false, _||_, cond, not};
 ghost use mathlib.Core.List.{List, [], _∷_};
 ghost use Prim.Native.Nat.{ℕ, _+_, _*_, _%_, _/_, _^_, _≤_, _<_, min};
 ghost use lib.Dec.{leb, eqb};
@@ -13,8 +13,8 @@ ghost use Rattle.assembler.specs.Jump.{kind-number};
 ghost use Rattle.assembler.specs.Bytes.{written, room};
 ghost use Rattle.assembler.specs.Label.{is-set, place-of, with-place};
 ghost use Rattle.assembler.specs.State.{state, outcome, told, sound, fits};
-ghost use Rattle.assembler.specs.Put.{verdict, with-jump, placed, settled, put};
-ghost use Rattle.assembler.specs.Plan.{rank, earlier, label-fault, jump-fault, tail-items, tail-fault, plan-items, plan-fault, no-words, pushed};
+ghost use Rattle.assembler.specs.Put.{twice, verdict, with-jump, placed, settled, put};
+ghost use Rattle.assembler.specs.Plan.{rank, earlier, fault-number, first-of, refusal-fault, label-fault, jump-fault, tail-items, tail-fault, plan-items, plan-fault, no-words, pushed, labels-of, sets-fault};
 ghost use Rattle.assembler.specs.Constant.{constant-bits, quad, constant-items, constant-fault, told-size, aligned};
 use encoder::Encoded;
 use order::Constant;
@@ -55,11 +55,29 @@ pub enum Tail {
     Pair(Kind, u32, u32),
 }
 
-// An order: the first n of w, then a tail. `fault` is the number of the refusal of an operand, 0 for none.
+// What is wrong with an operand: document 01's numbers 1, 2, 3, 9 and 10, or nothing. The others aren't an operand's.
+pub enum Fault {
+    Nothing,
+    Register,
+    Value,
+    Label,
+    Count,
+    Base,
+}
+
+// An order: the first n of w, then a tail.
 pub struct Plan {
     pub n: usize,
-    pub fault: u8,
+    pub fault: Fault,
     pub w: [u32; 12],
+}
+
+// The labels that a whole would set.
+pub enum Sets {
+    Nothing,
+    One(u32),
+    Two(u32, u32),
+    Three(u32, u32, u32),
 }
 
 // ---- numbers of refusal
@@ -190,10 +208,13 @@ fn put_word(buf: &mut [u8], at: usize, w: u32)
     buf[at + 3] = (w / 16777216 % 256) as u8;
 }
 
-// A word at `at`, if the buffer goes so far.
+// A word at `at`, if what counts of the buffer goes so far.
 pub fn write_word(buf: &mut [u8], at: usize, w: u32)
-    ensures { λ _. ⌜ now (buf .exit) ≡ cond (leb (at + 4) (length (now (buf .entry)))) (written (now (buf .entry)) at (w ∷ [])) (now (buf .entry)) ⌝ }
+    ensures { λ _. ⌜ now (buf .exit) ≡ cond (leb (at + 4) (room (length (now (buf .entry))))) (written (now (buf .entry)) at (w ∷ [])) (now (buf .entry)) ⌝ }
 {
+    if 65532 < at {
+        return;
+    }
     let n = buf.len();
     if n < 4 {
         return;
@@ -214,10 +235,13 @@ fn put_four(buf: &mut [u8], at: usize, a: u32, b: u32, c: u32, d: u32)
     put_word(buf, at + 12, d);
 }
 
-// Four words from `at` on, if the buffer goes so far.
+// Four words from `at` on, if what counts of the buffer goes so far.
 pub fn write_four(buf: &mut [u8], at: usize, a: u32, b: u32, c: u32, d: u32)
-    ensures { λ _. ⌜ now (buf .exit) ≡ cond (leb (at + 16) (length (now (buf .entry)))) (written (now (buf .entry)) at (a ∷ b ∷ c ∷ d ∷ [])) (now (buf .entry)) ⌝ }
+    ensures { λ _. ⌜ now (buf .exit) ≡ cond (leb (at + 16) (room (length (now (buf .entry))))) (written (now (buf .entry)) at (a ∷ b ∷ c ∷ d ∷ [])) (now (buf .entry)) ⌝ }
 {
+    if 65520 < at {
+        return;
+    }
     let n = buf.len();
     if n < 16 {
         return;
@@ -454,11 +478,55 @@ fn rank_of(k: u8) -> u8
     RANKS[i]
 }
 
-// The fault that comes first in document 01's order.
-pub fn first_fault(a: u8, b: u8) -> u8
+// The number that comes first in document 01's order.
+fn first_number(a: u8, b: u8) -> u8
     ensures { λ r. ⌜ r ≡ earlier a b ⌝ }
 {
     if rank_of(b) < rank_of(a) { b } else { a }
+}
+
+// Document 01's number, 0 for nothing.
+pub fn fault_number(f: Fault) -> u8
+    ensures { λ r. ⌜ (r ≡ fault-number f) × (r ≤ 12) ⌝ }
+{
+    match f {
+        Fault::Nothing => 0,
+        Fault::Register => 1,
+        Fault::Value => 2,
+        Fault::Label => 3,
+        Fault::Count => 9,
+        Fault::Base => 10,
+    }
+}
+
+fn first_fault(a: Fault, b: Fault) -> Fault
+    ensures { λ r. ⌜ r ≡ first-of a b ⌝ }
+{
+    if rank_of(fault_number(b)) < rank_of(fault_number(a)) {
+        b
+    } else {
+        a
+    }
+}
+
+// The encoder refuses registers and values; a number that isn't an operand's counts as a value.
+fn fault_for(r: Refusal) -> Fault
+    ensures { λ f. ⌜ f ≡ refusal-fault r ⌝ }
+{
+    match r {
+        Refusal::Register => Fault::Register,
+        Refusal::Value => Fault::Value,
+        Refusal::Label => Fault::Label,
+        Refusal::Twice => Fault::Value,
+        Refusal::Unset => Fault::Value,
+        Refusal::Far => Fault::Value,
+        Refusal::Full => Fault::Value,
+        Refusal::Closed => Fault::Value,
+        Refusal::Count => Fault::Count,
+        Refusal::Base => Fault::Base,
+        Refusal::Unsaved => Fault::Value,
+        Refusal::Line => Fault::Value,
+    }
 }
 
 pub fn no_plan() -> Plan
@@ -466,7 +534,7 @@ pub fn no_plan() -> Plan
 {
     Plan {
         n: 0,
-        fault: 0,
+        fault: Fault::Nothing,
         w: [0u32; 12],
     }
 }
@@ -475,22 +543,30 @@ pub fn no_plan() -> Plan
 pub fn push(p: Plan, e: Encoded) -> Plan
     ensures { λ r. ⌜ r ≡ pushed p e ⌝ }
 {
-    let mut next = p;
+    let n = p.n;
+    let f = p.fault;
+    let mut w = p.w;
     match e {
         Encoded::Word(x) => {
-            let n = p.n;
             if n < 12 {
-                next.w[n] = x;
-                next.n = n + 1;
-                return next;
+                w[n] = x;
+                return Plan {
+                    n: n + 1,
+                    fault: f,
+                    w,
+                };
             }
-            next.fault = first_fault(p.fault, 2);
-            next
+            Plan {
+                n,
+                fault: first_fault(f, Fault::Value),
+                w,
+            }
         }
-        Encoded::Refused(r, place) => {
-            next.fault = first_fault(p.fault, refusal::number(r));
-            next
-        }
+        Encoded::Refused(r, _) => Plan {
+            n,
+            fault: first_fault(f, fault_for(r)),
+            w,
+        },
     }
 }
 
@@ -514,17 +590,95 @@ fn fault_of_tail(t: Tail) -> u8
     }
 }
 
-fn known(k: u8) -> u8
-    ensures { λ r. ⌜ (r ≡ cond (leb k 12) k 2) × (r ≤ 12) ⌝ }
+// ---- a whole asked for
+
+fn fault_of_labels(a: u32, b: u32, c: u32) -> u8
+    ensures { λ r. ⌜ (r ≡ sets-fault (a ∷ b ∷ c ∷ [])) × (r ≤ 2) ⌝ }
 {
-    if k <= 12 { k } else { 2 }
+    if 2039 <= a {
+        return 2;
+    }
+    if 2039 <= b {
+        return 2;
+    }
+    if 2039 <= c {
+        return 2;
+    }
+    0
 }
 
-// Asked before a whole is placed part by part: whether it is refused, with so many words and jumps. Nothing changes.
-pub fn ask(fault: u8, taken: bool, words: usize, jumps: usize, n: usize, asm: Asm) -> Done
-    ensures { λ r. ⌜ ((ls js b : List ℕ) → outcome r ls js b ≡ settled (verdict (cond (leb fault 12) fault 2) taken words jumps n asm) (state asm ls js b) (state asm ls js b)) ⌝ }
+fn fault_of_sets(s: Sets) -> u8
+    ensures { λ r. ⌜ (r ≡ sets-fault (labels-of s)) × (r ≤ 2) ⌝ }
 {
-    let k = number(known(fault), taken, words, jumps, n, asm);
+    match s {
+        Sets::Nothing => 0,
+        Sets::One(a) => fault_of_labels(a, 0, 0),
+        Sets::Two(a, b) => fault_of_labels(a, b, 0),
+        Sets::Three(a, b, c) => fault_of_labels(a, b, c),
+    }
+}
+
+// Label l is set; or it comes again behind; or else what is known of those behind.
+fn taken_or(labels: &[u64; 2039], l: u32, again: bool, rest: bool) -> bool
+    ensures { λ r. ⌜ (l < 2039 → r ≡ is-set (getD (now (labels .entry)) l 0) || (again || rest)) ⌝ }
+{
+    if 2039 <= l {
+        return rest;
+    }
+    let i = l as usize;
+    let t = label_set(labels[i]);
+    if t {
+        return true;
+    }
+    if again {
+        return true;
+    }
+    rest
+}
+
+fn same_one(l: u32, a: u32, b: u32) -> bool
+    ensures { λ r. ⌜ r ≡ eqb a l || (eqb b l || false) ⌝ }
+{
+    if a == l {
+        return true;
+    }
+    b == l
+}
+
+fn taken(s: Sets, labels: &[u64; 2039]) -> bool
+    ensures { λ r. ⌜ (sets-fault (labels-of s) ≡ 0 → r ≡ twice (now (labels .entry)) (labels-of s)) ⌝ }
+{
+    match s {
+        Sets::Nothing => false,
+        Sets::One(a) => taken_or(labels, a, false, false),
+        Sets::Two(a, b) => {
+            let y = taken_or(labels, b, false, false);
+            taken_or(labels, a, b == a, y)
+        }
+        Sets::Three(a, b, c) => {
+            let z = taken_or(labels, c, false, false);
+            let y = taken_or(labels, b, c == b, z);
+            taken_or(labels, a, same_one(a, b, c), y)
+        }
+    }
+}
+
+// Asked before a whole is placed part by part: whether it is refused, over a buffer of n bytes. Nothing changes.
+// The whole is these labels and so many words and jumps: 4 is for the labels, and 7 for those counts exactly.
+pub fn ask(
+    fault: Fault,
+    sets: Sets,
+    words: usize,
+    jumps: usize,
+    n: usize,
+    labels: &[u64; 2039],
+    asm: Asm,
+) -> Done
+    ensures { λ r. ⌜ ((js b : List ℕ) → outcome r (now (labels .entry)) js b ≡ settled (verdict (earlier (fault-number fault) (sets-fault (labels-of sets))) (twice (now (labels .entry)) (labels-of sets)) words jumps n asm) (state asm (now (labels .entry)) js b) (state asm (now (labels .entry)) js b)) ⌝ }
+{
+    let f = first_number(fault_number(fault), fault_of_sets(sets));
+    let t = taken(sets, labels);
+    let k = number(f, t, words, jumps, n, asm);
     if k != 0 {
         return refused_with(k, asm);
     }
@@ -569,7 +723,8 @@ pub fn place(
 {
     let n = at_most(p.n);
     let j = tail_count(t);
-    let f = first_fault(known(p.fault), fault_of_tail(t));
+    let own = p.fault;
+    let f = first_number(fault_number(own), fault_of_tail(t));
     let k = number(f, false, n + j, j, buf.len(), asm);
     if k != 0 {
         return refused_with(k, asm);

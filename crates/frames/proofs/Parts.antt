@@ -76,7 +76,7 @@ module _ (tag l m : ℕ) (e : l ≡ m) (h : l < 2039) (s : State) where
 
 -- an order whose fault f was looked for first
 module _ (tag f want : ℕ) (is : List Item) (s : State) (o : Outcome) (e : f ≡ want) where
-  pub faulted : (f ≡ 0 → ⊥) → o ≡ settled (verdict f false 0 0 (length (s .buf)) (s .asm)) s s → o ≡ put tag want is s
+  pub faulted : (f ≡ 0 → ⊥) → o ≡ settled (verdict f (twice (s .labels) []) 0 0 (length (s .buf)) (s .asm)) s s → o ≡ put tag want is s
   unfolding put words jumps labels twice placed
   faulted h q = q ∙ put-fault 0 tag f [] is s h ∙ ap (λ (k : ℕ). put tag k is s) e
 

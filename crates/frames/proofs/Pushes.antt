@@ -29,6 +29,14 @@ one-more f q r rs = by (is-preserved r)
     by true = refl
     by false = refl
 
+pub none-left : (f : ℕ → Instr) (q : Plan) (rs : List ℕ) → length (chosen is-preserved rs) ≡ 0 → all-pushed f q rs ≡ q
+unfolding all-pushed
+none-left f q rs h = by (chosen is-preserved rs) h
+  where
+    by : (l : List ℕ) → length l ≡ 0 → pushes-from q (map answer-of (map f l)) ≡ q
+    by [] h = refl
+    by (x ∷ l) h = absurd (omega arith)
+
 -- ---- a plan of a mask's saves
 
 few : (p : ℕ → Bool) (rs : List ℕ) → length (chosen p rs) ≤ length rs

@@ -1,19 +1,18 @@
 -- How many words, jumps and labels the pieces have, by the tests of the code. Assumes nothing.
 use mathlib.Core.Path.{_≡_, refl, sym, ap, _∙_}
-use mathlib.Core.Bool.{Bool, true, false, _||_, cond, or-false}
+use mathlib.Core.Bool.{Bool, true, false, cond}
 use mathlib.Core.List.{List, [], _∷_, _++_, map}
 use Prim.Native.Nat.{ℕ, zero, suc, _+_, _*_, _<_, _≤_}
 use native.Mathlib.Omega.{arith}
 use borrow.Author.Tests.{lt-ltb, le-ltb, le-leb, lt-leb, eq-eqb, ne-eqb, ltb-true, ltb-false, eqb-true, eqb-false}
 use lib.Dec.{eqb, ltb}
 use lib.IntN.{pos, negℤ}
-use lib.ListN.{length, length-append, length-map, getD}
+use lib.ListN.{length, length-append, length-map}
 use lib.Signed.{mag}
 use Rattle.isa.specs.Instr.{Instr, R, ADD}
 use Rattle.assembler.specs.Item.{Item, jump, label}
-use Rattle.assembler.specs.Label.{is-set}
 use Rattle.assembler.specs.State.{State}
-use Rattle.assembler.specs.Put.{words, jumps, labels, among, twice, verdict, put-number}
+use Rattle.assembler.specs.Put.{words, jumps, labels, twice, verdict, put-number}
 use Rattle.assembler.specs.declared.Kind.the-variants.{Bne}
 use Rattle.assembler.proofs.Items.{words-append, jumps-append, labels-append}
 use Rattle.accesses.specs.Code.{li-code, sub-stack-code, allocate-stack-code}
@@ -140,28 +139,26 @@ module _ (out : Bool) (m n : ℕ) where
 
   -- ---- the numbers of copies
 
-  pub looped-number : (t : Bool) (w : ℕ) (s : State) → t ≡ is-set (getD (s .labels) (copy-label out) 0) → w ≡ length (copy-first out m) + length (li-code 7 (pos n)) + 8
-      → verdict 0 t w 1 (length (s .buf)) (s .asm) ≡ put-number 0 (looped out m n) s
-  unfolding twice among
-  looped-number t w s e g = rw (looped-words, looped-jumps, looped-labels, or-false, e, g)
+  pub looped-number : (l w : ℕ) (s : State) → l ≡ copy-label out → w ≡ length (copy-first out m) + length (li-code 7 (pos n)) + 8
+      → verdict 0 (twice (s .labels) (l ∷ [])) w 1 (length (s .buf)) (s .asm) ≡ put-number 0 (looped out m n) s
+  looped-number l w s e g = rw (looped-words, looped-jumps, looped-labels, e, g)
 
 -- code alone
-pub code-number : (is : List Instr) (w : ℕ) (s : State) → w ≡ length is → verdict 0 false w 0 (length (s .buf)) (s .asm) ≡ put-number 0 (code is) s
-unfolding twice
+pub code-number : (is : List Instr) (w : ℕ) (s : State) → w ≡ length is → verdict 0 (twice (s .labels) []) w 0 (length (s .buf)) (s .asm) ≡ put-number 0 (code is) s
 code-number is w s e = rw (words-code is, jumps-code is, labels-code is, e)
 
 module _ (out : Bool) (m n : ℕ) where
-  pub row-number : (s : State) → verdict 0 false (6 * n) 0 (length (s .buf)) (s .asm) ≡ put-number 0 (code (times-over n (copy-each out))) s
+  pub row-number : (s : State) → verdict 0 (twice (s .labels) []) (6 * n) 0 (length (s .buf)) (s .asm) ≡ put-number 0 (code (times-over n (copy-each out))) s
   row-number s = code-number (times-over n (copy-each out)) (6 * n) s (sym (row-length out m n))
 
-  pub straight-number : (w : ℕ) (s : State) → w ≡ length (copy-first out m) → verdict 0 false (w + 6 * n) 0 (length (s .buf)) (s .asm) ≡ put-number 0 (code (copy-first out m ++ times-over n (copy-each out))) s
+  pub straight-number : (w : ℕ) (s : State) → w ≡ length (copy-first out m) → verdict 0 (twice (s .labels) []) (w + 6 * n) 0 (length (s .buf)) (s .asm) ≡ put-number 0 (code (copy-first out m ++ times-over n (copy-each out))) s
   straight-number w s e = code-number (copy-first out m ++ times-over n (copy-each out)) (w + 6 * n) s (ap (λ (k : ℕ). k + 6 * n) e ∙ sym (length-append (copy-first out m) (times-over n (copy-each out)) ∙ ap (λ (k : ℕ). length (copy-first out m) + k) (row-length out m n)))
 
 -- labels, a word, and the reloads
-pub reload-number : (mask : ℕ) (t : Bool) (n : ℕ) (s : State) → t ≡ is-set (getD (s .labels) 2037 0) || is-set (getD (s .labels) 2038 0) → n ≡ length (saved mask)
-    → verdict 0 t (1 + n) 0 (length (s .buf)) (s .asm) ≡ put-number 0 (reloads mask) s
-unfolding reloads words jumps labels twice among
-reload-number mask t n s e g =
+pub reload-number : (mask n : ℕ) (s : State) → n ≡ length (saved mask)
+    → verdict 0 (twice (s .labels) (2037 ∷ 2038 ∷ [])) (1 + n) 0 (length (s .buf)) (s .asm) ≡ put-number 0 (reloads mask) s
+unfolding reloads words jumps labels
+reload-number mask n s g =
     let is = map reload (saved mask) in
     let w : 1 + n ≡ suc (length (words (code is))) = omega (arith, words-code is, length-map (saved mask) reload, g) in
-    rw (jumps-code is, labels-code is, or-false, w, e)
+    rw (jumps-code is, labels-code is, w)

@@ -1,20 +1,19 @@
 -- How many words, jumps and labels the whole frames have, and how they are parted. Assumes nothing.
 use mathlib.Core.Path.{_≡_, refl, sym, ap, subst, _∙_}
-use mathlib.Core.Bool.{Bool, true, false, _||_, _&&_, cond, or-false}
+use mathlib.Core.Bool.{true, false, cond}
 use mathlib.Core.List.{List, [], _∷_, _++_, append-assoc}
 use Prim.Native.Nat.{ℕ, _+_, _*_, _≤_}
 use native.Mathlib.Omega.{arith}
 use lib.Dec.{ltb}
 use lib.IntN.{pos}
-use lib.ListN.{length, length-append, getD}
+use lib.ListN.{length, length-append}
 use Rattle.isa.specs.Instr.{Instr, I, Shift, FLD, SLLI}
 use Rattle.order.specs.declared.Frame.{Frame}
 use Rattle.order.specs.declared.Frame.the-variants.{Fast, Indirect}
 use Rattle.order.specs.declared.Head.{Head}
 use Rattle.assembler.specs.Item.{Item, jump, label}
-use Rattle.assembler.specs.Label.{is-set}
 use Rattle.assembler.specs.State.{State}
-use Rattle.assembler.specs.Put.{words, jumps, labels, among, twice, verdict, put-number, put}
+use Rattle.assembler.specs.Put.{words, jumps, labels, twice, verdict, put-number, put}
 use Rattle.assembler.specs.declared.Kind.the-variants.{Beq}
 use Rattle.assembler.proofs.Items.{words-append, jumps-append, labels-append}
 use Rattle.accesses.specs.Code.{sub-stack-code, add-stack-code, allocate-stack-code}
@@ -52,7 +51,7 @@ abbrev start-list : Head → List Instr
 start-list H = opening Fast ++ (sub-stack-code (frame-size H) ++ (mv 9 2 ∷ (sub-stack-code (stack-size H) ++ (mv 21 2 ∷ states-from 0 (H .states)))))
 
 pub fast-number : (H : Head) (x y : ℕ) (s : State) → x ≡ length (sub-stack-code (frame-size H)) → y ≡ length (sub-stack-code (stack-size H))
-    → verdict 0 false (x + y + 8 + H .states) 0 (length (s .buf)) (s .asm) ≡ put-number 0 (prologue-fast H) s
+    → verdict 0 (twice (s .labels) []) (x + y + 8 + H .states) 0 (length (s .buf)) (s .asm) ≡ put-number 0 (prologue-fast H) s
 fast-number H x y s e f =
     code-number (start-list H) (x + y + 8 + H .states) s
     (rw (e, f) (sym (start-length (sub-stack-code (frame-size H)) (sub-stack-code (stack-size H)) (H .states))))
@@ -62,9 +61,9 @@ fast-number H x y s e f =
 abbrev pub arguments : List Instr
 arguments = mv 9 10 ∷ mv 18 11 ∷ mv 19 12 ∷ mv 20 13 ∷ []
 
-pub entry-number : (t : Bool) (s : State) → t ≡ is-set (getD (s .labels) 2032 0) → verdict 0 t 14 1 (length (s .buf)) (s .asm) ≡ put-number 0 entry s
-unfolding entry sub-stack-code words jumps labels twice among
-entry-number t s e = rw (or-false, e)
+pub entry-number : (s : State) → verdict 0 (twice (s .labels) (2032 ∷ [])) 14 1 (length (s .buf)) (s .asm) ≡ put-number 0 entry s
+unfolding entry sub-stack-code words jumps labels
+entry-number s = refl
 
 entry-words : length (words entry) ≡ 14
 unfolding entry sub-stack-code words
@@ -105,29 +104,9 @@ start-parts H = ap (λ (is : List Item). label 2032 ∷ is) (sym (append-assoc (
 pub start-left : (H : Head) (tag : ℕ) (t u : State) → Accepts tag (prologue-indirect H) t u → Accepts tag (entry ++ (code (down H) ++ up H)) t u
 start-left H tag t u a = subst (λ (is : List Item). Accepts tag is t u) (start-parts H) a
 
-module _ (m : List ℕ) (b : Bool) where
-  pub end-twice : twice m (cond b (2035 ∷ []) [] ++ (2036 ∷ [])) ≡ (b && is-set (getD m 2035 0)) || is-set (getD m 2036 0)
-  unfolding twice among
-  end-twice = by b
-    where
-      by : (x : Bool) → twice m (cond x (2035 ∷ []) [] ++ (2036 ∷ [])) ≡ (x && is-set (getD m 2035 0)) || is-set (getD m 2036 0)
-      by true = rw or-false
-      by false = rw or-false
-
-  pub start-twice : twice m (2032 ∷ (cond b (2034 ∷ []) [] ++ (2033 ∷ []))) ≡ is-set (getD m 2032 0) || ((b && is-set (getD m 2034 0)) || is-set (getD m 2033 0))
-  unfolding twice among
-  start-twice = by b
-    where
-      by : (x : Bool) → twice m (2032 ∷ (cond x (2034 ∷ []) [] ++ (2033 ∷ []))) ≡ is-set (getD m 2032 0) || ((x && is-set (getD m 2034 0)) || is-set (getD m 2033 0))
-      by true = rw or-false
-      by false = rw or-false
-
 module _ (H : Head) (s : State) where
   abbrev n : ℕ
   n = H .states
-
-  abbrev ls : List ℕ
-  ls = s .labels
 
   start-words : length (words (prologue-indirect H)) ≡ 16 + length (sub-stack-code (frame-size H)) + length (words (copies false n n)) + length (allocate-stack-code (stack-size H))
   start-words =
@@ -148,10 +127,10 @@ module _ (H : Head) (s : State) where
       ∙ labels-append entry (code (down H) ++ up H)
       ∙ rw (entry-labels, labels-append (code (down H)) (up H), labels-code (down H), then-labels (copies false n n) at-main (allocate-stack-code (stack-size H)), copies-labels false n n)
 
-  pub start-number : (t : Bool) (w j : ℕ) → t ≡ is-set (getD ls 2032 0) || ((ltb 16 n && is-set (getD ls 2034 0)) || is-set (getD ls 2033 0))
+  pub start-number : (ls : List ℕ) (w j : ℕ) → ls ≡ 2032 ∷ (cond (ltb 16 n) (2034 ∷ []) [] ++ (2033 ∷ []))
       → w ≡ 16 + length (sub-stack-code (frame-size H)) + length (words (copies false n n)) + length (allocate-stack-code (stack-size H)) → j ≡ 1 + cond (ltb 16 n) 1 0
-      → verdict 0 t w j (length (s .buf)) (s .asm) ≡ put-number 0 (prologue-indirect H) s
-  start-number t w j e f g = rw (start-words, start-jumps, start-labels, start-twice, e, f, g)
+      → verdict 0 (twice (s .labels) ls) w j (length (s .buf)) (s .asm) ≡ put-number 0 (prologue-indirect H) s
+  start-number ls w j e f g = rw (start-words, start-jumps, start-labels, e, f, g)
 
   abbrev c : List Item
   c = copies true n (H .obs)
@@ -168,9 +147,9 @@ module _ (H : Head) (s : State) where
   unfolding labels
   end-labels = then-labels c at-done (closing Indirect) ∙ rw (copies-labels true n (H .obs))
 
-  pub end-number : (t : Bool) (w j : ℕ) → t ≡ (ltb 16 (H .obs) && is-set (getD ls 2035 0)) || is-set (getD ls 2036 0) → w ≡ 12 + length (words c) → j ≡ 1 + cond (ltb 16 (H .obs)) 1 0
-      → verdict 0 t w j (length (s .buf)) (s .asm) ≡ put-number 0 (epilogue-indirect H) s
-  end-number t w j e f g = rw (end-words, end-jumps, end-labels, end-twice, e, f, g)
+  pub end-number : (ls : List ℕ) (w j : ℕ) → ls ≡ cond (ltb 16 (H .obs)) (2035 ∷ []) [] ++ (2036 ∷ []) → w ≡ 12 + length (words c) → j ≡ 1 + cond (ltb 16 (H .obs)) 1 0
+      → verdict 0 (twice (s .labels) ls) w j (length (s .buf)) (s .asm) ≡ put-number 0 (epilogue-indirect H) s
+  end-number ls w j e f g = rw (end-words, end-jumps, end-labels, e, f, g)
 
 -- ---- by the frame
 

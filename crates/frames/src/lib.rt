@@ -1,17 +1,17 @@
 // mod.rs, frames: prologues, epilogues, saves and reloads. Each is placed whole, or refused and nothing changes.
 ghost use mathlib.Core.Path.{_≡_};
-ghost use mathlib.Core.Bool.{Bool, true, false, _||_, _&&_, cond};
-ghost use mathlib.Core.List.{List, [], _∷_, _++_, map};
+ghost use mathlib.Core.Bool.{true, false, cond};
+ghost use mathlib.Core.List.{[], _∷_, _++_, map};
 ghost use Prim.Native.Nat.{ℕ, _+_, _*_, _≤_, _<_};
-ghost use lib.Dec.{ltb, eqb};
+ghost use lib.Dec.{ltb};
 ghost use lib.IntN.{pos};
 ghost use lib.ListN.{length};
 ghost use Rattle.order.specs.Count.{cells};
 ghost use Rattle.isa.specs.Instr.{I, FLD};
 ghost use Rattle.assembler.specs.Constant.{align16};
-ghost use Rattle.assembler.specs.Label.{is-set};
 ghost use Rattle.assembler.specs.State.{state, outcome, told};
-ghost use Rattle.assembler.specs.Put.{words, jumps, verdict, settled, put};
+ghost use Rattle.assembler.specs.Put.{words, jumps, twice, verdict, settled, put};
+ghost use Rattle.assembler.specs.Plan.{fault-number, labels-of, sets-fault};
 ghost use Rattle.accesses.specs.Code.{li-code, sub-stack-code, allocate-stack-code};
 ghost use Rattle.accesses.specs.Plans.{answer-of, pushes-from, plan-of};
 ghost use Rattle.order.specs.Mask.{is-preserved, save-cell, saved as saved-of};
@@ -22,8 +22,10 @@ ghost use Rattle.frames.specs.Whole.{is-accepted, looped as looped-of, e
 use assembler::Answer;
 use assembler::Asm;
 use assembler::Done;
+use assembler::Fault;
 use assembler::Kind;
 use assembler::Plan;
+use assembler::Sets;
 use assembler::Tail;
 use encoder::Encoded;
 use order::Frame;
@@ -55,10 +57,10 @@ const STACK: u32 = 21;
 
 // ---- all or nothing
 
-// Asked before a part is placed whose items have so many words and jumps; nothing changes.
+// Asked before a part is placed whose items have these labels and so many words and jumps; nothing changes.
 fn begin(
-    fault: u8,
-    taken: bool,
+    fault: Fault,
+    sets: Sets,
     words: usize,
     count: usize,
     buf: &mut [u8],
@@ -66,10 +68,10 @@ fn begin(
     jumps: &mut [u32; 20480],
     asm: Asm,
 ) -> Done
-    requires { ⌜ fault ≤ 12 ⌝ }
-    ensures { λ r. ⌜ outcome r (now (labels .exit)) (now (jumps .exit)) (now (buf .exit)) ≡ settled (verdict fault taken words count (length (now (buf .entry))) asm) (state asm (now (labels .entry)) (now (jumps .entry)) (now (buf .entry))) (state asm (now (labels .entry)) (now (jumps .entry)) (now (buf .entry))) ⌝ }
+    requires { ⌜ sets-fault (labels-of sets) ≡ 0 ⌝ }
+    ensures { λ r. ⌜ outcome r (now (labels .exit)) (now (jumps .exit)) (now (buf .exit)) ≡ settled (verdict (fault-number fault) (twice (now (labels .entry)) (labels-of sets)) words count (length (now (buf .entry))) asm) (state asm (now (labels .entry)) (now (jumps .entry)) (now (buf .entry))) (state asm (now (labels .entry)) (now (jumps .entry)) (now (buf .entry))) ⌝ }
 {
-    assembler::ask(fault, taken, words, count, buf.len(), asm)
+    assembler::ask(fault, sets, words, count, buf.len(), labels, asm)
 }
 
 fn accepted(d: Done) -> bool
@@ -80,23 +82,6 @@ fn accepted(d: Done) -> bool
         Answer::Accepted => true,
         Answer::Refused(_, _) => false,
     }
-}
-
-fn is_taken(e: u64) -> bool
-    ensures { λ b. ⌜ b ≡ is-set e ⌝ }
-{
-    e % 4294967296 != 0
-}
-
-// One of two labels is set, by their entries.
-fn one_taken(a: u64, b: u64) -> bool
-    ensures { λ r. ⌜ r ≡ is-set a || is-set b ⌝ }
-{
-    let x = is_taken(a);
-    if x {
-        return true;
-    }
-    is_taken(b)
 }
 
 // ---- preserved float registers of a mask
@@ -141,34 +126,39 @@ fn used_word(r: u32, back: bool) -> u32
     accesses::word(encoder::fsd(r, STACK, n as i32))
 }
 
-// The saves of a mask or its reloads, upward from its lowest set bit.
+// How many registers a mask saves: f8, f9 and f18..f27 are its bits.
+fn used_count(mask: u32) -> usize
+    ensures { λ n. ⌜ (n ≡ length (saved-of mask)) × (n ≤ 12) ⌝ }
+{
+    (u32::count_ones(mask / 256 % 4) + u32::count_ones(mask / 262144 % 1024)) as usize
+}
+
+// The saves of a mask or its reloads, upward from its lowest set bit: trailing zeros give the next register, ones count the saves.
 fn used_plan(mask: u32, back: bool) -> Plan
     ensures { λ q. ⌜ q ≡ plan-of (map (cond back reload save) (saved-of mask)) ⌝ }
 {
+    let n = used_count(mask);
     let mut w = [0u32; 12];
-    let mut n: usize = 0;
+    let mut i: usize = 0;
     let mut p: u32 = 0;
     let mut r = mask;
-    while r != 0 {
+    while i < n {
         let t = u32::trailing_zeros(r);
         let k = p + t;
         let b = is_preserved(k);
         if b {
-            w[n] = used_word(k, back);
-            n += 1;
+            w[i] = used_word(k, back);
+            i += 1;
         }
         let h = r >> t;
         r = h / 2;
         p = k + 1;
     }
-    Plan { n, fault: 0, w }
-}
-
-// How many registers a mask saves: f8, f9 and f18..f27 are its bits.
-fn used_count(mask: u32) -> u32
-    ensures { λ n. ⌜ (n ≡ length (saved-of mask)) × (n ≤ 12) ⌝ }
-{
-    u32::count_ones(mask / 256 % 4) + u32::count_ones(mask / 262144 % 1024)
+    Plan {
+        n,
+        fault: Fault::Nothing,
+        w,
+    }
 }
 
 pub fn save_used_registers(
@@ -201,8 +191,16 @@ pub fn load_used_registers(
     ensures { λ r. ⌜ outcome r (now (labels .exit)) (now (jumps .exit)) (now (buf .exit)) ≡ put 0 0 (reloads mask) (state asm (now (labels .entry)) (now (jumps .entry)) (now (buf .entry))) ⌝ }
 {
     let n = used_count(mask);
-    let taken = one_taken(labels[2037], labels[2038]);
-    let d = begin(0, taken, 1 + n as usize, 0, buf, labels, jumps, asm);
+    let d = begin(
+        Fault::Nothing,
+        Sets::Two(2037, 2038),
+        1 + n,
+        0,
+        buf,
+        labels,
+        jumps,
+        asm,
+    );
     let ok = accepted(d);
     if ok {
         let a = assembler::set_label(2037, buf, labels, jumps, d.asm);
@@ -401,16 +399,6 @@ fn copy_jumps(n: u32) -> usize
     if 16 < n { 1 } else { 0 }
 }
 
-// The loop's label, by its entry.
-fn copy_taken(e: u64, n: u32) -> bool
-    ensures { λ b. ⌜ b ≡ ltb 16 n && is-set e ⌝ }
-{
-    if 16 < n {
-        return is_taken(e);
-    }
-    false
-}
-
 // A size in bytes for n cells: the next multiple of 16 above them.
 fn size_of(n: u32) -> u32
     requires { ⌜ n ≤ 4096 ⌝ }
@@ -434,7 +422,8 @@ fn copy_row(
     ensures { λ r. ⌜ outcome r (now (labels .exit)) (now (jumps .exit)) (now (buf .exit)) ≡ put 0 0 (code (times-over n (copy-each out))) (state asm (now (labels .entry)) (now (jumps .entry)) (now (buf .entry))) ⌝ }
 {
     let p = copy_plan(out);
-    let d = begin(0, false, 6 * n as usize, 0, buf, labels, jumps, asm);
+    let m = 6 * n as usize;
+    let d = begin(Fault::Nothing, Sets::Nothing, m, 0, buf, labels, jumps, asm);
     let ok = accepted(d);
     if ok {
         let mut a = d.asm;
@@ -465,7 +454,7 @@ fn straight(
     ensures { λ r. ⌜ outcome r (now (labels .exit)) (now (jumps .exit)) (now (buf .exit)) ≡ put 0 0 (code (copy-first out states ++ times-over n (copy-each out))) (state asm (now (labels .entry)) (now (jumps .entry)) (now (buf .entry))) ⌝ }
 {
     let w = first_words(out, states) + 6 * n as usize;
-    let d = begin(0, false, w, 0, buf, labels, jumps, asm);
+    let d = begin(Fault::Nothing, Sets::Nothing, w, 0, buf, labels, jumps, asm);
     let ok = accepted(d);
     if ok {
         let p = first_plan(out, states);
@@ -496,9 +485,8 @@ fn looped(
     ensures { λ r. ⌜ outcome r (now (labels .exit)) (now (jumps .exit)) (now (buf .exit)) ≡ put tag 0 (looped-of out states n) (state asm (now (labels .entry)) (now (jumps .entry)) (now (buf .entry))) ⌝ }
 {
     let l = label_of(out);
-    let i = l as usize;
     let w = first_words(out, states) + li_words(n) + 8;
-    let d = begin(0, is_taken(labels[i]), w, 1, buf, labels, jumps, asm);
+    let d = begin(Fault::Nothing, Sets::One(l), w, 1, buf, labels, jumps, asm);
     let ok = accepted(d);
     if ok {
         let p = first_plan(out, states);
@@ -546,45 +534,58 @@ fn copies(
 
 // ---- counts
 
-fn count_fault(h: Head) -> u8
-    ensures { λ r. ⌜ (r ≡ prologue-fault h) × (r ≤ 12) ⌝ }
+fn count_fault(h: Head) -> Fault
+    ensures { λ r. ⌜ fault-number r ≡ prologue-fault h ⌝ }
 {
     if 4096 < h.cap {
-        return 9;
+        return Fault::Count;
     }
     if 4096 < h.states {
-        return 9;
+        return Fault::Count;
     }
     if 4096 < h.obs {
-        return 9;
+        return Fault::Count;
     }
     if 4096 < h.states + h.obs {
-        return 9;
+        return Fault::Count;
     }
     let f = h.frame;
     match f {
-        Frame::Fast => if 8 < h.states { 9 } else { 0 },
-        Frame::Indirect => if 4096 < h.last { 9 } else { 0 },
+        Frame::Fast => if 8 < h.states {
+            Fault::Count
+        } else {
+            Fault::Nothing
+        },
+        Frame::Indirect => if 4096 < h.last {
+            Fault::Count
+        } else {
+            Fault::Nothing
+        },
     }
 }
 
 // A fast result cell is at most 255, and one of the cells.
-fn result_fault(h: Head) -> u8
-    ensures { λ r. ⌜ (r ≡ epilogue-fault h) × (r ≤ 12) ⌝ }
+fn result_fault(h: Head) -> Fault
+    ensures { λ r. ⌜ fault-number r ≡ epilogue-fault h ⌝ }
 {
-    let k = count_fault(h);
+    let c = count_fault(h);
+    let k = assembler::fault_number(c);
     if k != 0 {
-        return k;
+        return c;
     }
     let f = h.frame;
     match f {
         Frame::Fast => {
             if 255 < h.last {
-                return 9;
+                return Fault::Count;
             }
-            if h.last < h.states + h.obs { 0 } else { 9 }
+            if h.last < h.states + h.obs {
+                Fault::Nothing
+            } else {
+                Fault::Count
+            }
         }
-        Frame::Indirect => 0,
+        Frame::Indirect => Fault::Nothing,
     }
 }
 
@@ -606,7 +607,7 @@ fn fast_start(
     let mem = size_of(states + obs);
     let stack = size_of(cap);
     let w = sub_words(mem) + sub_words(stack) + 8 + states as usize;
-    let d = begin(0, false, w, 0, buf, labels, jumps, asm);
+    let d = begin(Fault::Nothing, Sets::Nothing, w, 0, buf, labels, jumps, asm);
     let ok = accepted(d);
     if ok {
         let p = opening_fast();
@@ -642,8 +643,9 @@ pub fn prologue_fast(
         mask: 0,
     };
     let f = count_fault(h);
-    if f != 0 {
-        return begin(f, false, 0, 0, buf, labels, jumps, asm);
+    let k = assembler::fault_number(f);
+    if k != 0 {
+        return begin(f, Sets::Nothing, 0, 0, buf, labels, jumps, asm);
     }
     fast_start(cap, states, obs, last, buf, labels, jumps, asm)
 }
@@ -669,8 +671,9 @@ pub fn epilogue_fast(
         mask: 0,
     };
     let f = result_fault(h);
-    if f != 0 {
-        return begin(f, false, 0, 0, buf, labels, jumps, asm);
+    let k = assembler::fault_number(f);
+    if k != 0 {
+        return begin(f, Sets::Nothing, 0, 0, buf, labels, jumps, asm);
     }
     assembler::place(fast_end(last), Tail::Nothing, 0, buf, labels, jumps, asm)
 }
@@ -687,7 +690,16 @@ fn enter(
 ) -> Done
     ensures { λ r. ⌜ outcome r (now (labels .exit)) (now (jumps .exit)) (now (buf .exit)) ≡ put tag 0 entry (state asm (now (labels .entry)) (now (jumps .entry)) (now (buf .entry))) ⌝ }
 {
-    let d = begin(0, is_taken(labels[2032]), 14, 1, buf, labels, jumps, asm);
+    let d = begin(
+        Fault::Nothing,
+        Sets::One(2032),
+        14,
+        1,
+        buf,
+        labels,
+        jumps,
+        asm,
+    );
     let ok = accepted(d);
     if ok {
         let a = assembler::set_label(2032, buf, labels, jumps, d.asm);
@@ -705,25 +717,24 @@ fn enter(
     d
 }
 
-// The loop's label, or the one behind it, by their entries.
-fn end_taken(e: u64, n: u32, b: u64) -> bool
-    ensures { λ r. ⌜ r ≡ (ltb 16 n && is-set e) || is-set b ⌝ }
+// The labels of an indirect prologue: the loop's comes with more than 16 states.
+fn start_sets(states: u32) -> Sets
+    ensures { λ s. ⌜ (labels-of s ≡ 2032 ∷ (cond (ltb 16 states) (2034 ∷ []) [] ++ (2033 ∷ []))) × (sets-fault (labels-of s) ≡ 0) ⌝ }
 {
-    let x = copy_taken(e, n);
-    if x {
-        return true;
+    if 16 < states {
+        return Sets::Three(2032, 2034, 2033);
     }
-    is_taken(b)
+    Sets::Two(2032, 2033)
 }
 
-fn start_taken(a: u64, e: u64, n: u32, b: u64) -> bool
-    ensures { λ r. ⌜ r ≡ is-set a || ((ltb 16 n && is-set e) || is-set b) ⌝ }
+// Of its epilogue: the loop's comes with more than 16 observations.
+fn end_sets(obs: u32) -> Sets
+    ensures { λ s. ⌜ (labels-of s ≡ cond (ltb 16 obs) (2035 ∷ []) [] ++ (2036 ∷ [])) × (sets-fault (labels-of s) ≡ 0) ⌝ }
 {
-    let x = is_taken(a);
-    if x {
-        return true;
+    if 16 < obs {
+        return Sets::Two(2035, 2036);
     }
-    end_taken(e, n, b)
+    Sets::One(2036)
 }
 
 fn indirect_start(
@@ -742,9 +753,10 @@ fn indirect_start(
 {
     let mem = size_of(states + obs);
     let stack = size_of(cap);
-    let taken = start_taken(labels[2032], labels[2034], states, labels[2033]);
+    let sets = start_sets(states);
     let w = 16 + sub_words(mem) + copy_words(false, states, states) + allocate_words(stack);
-    let d = begin(0, taken, w, 1 + copy_jumps(states), buf, labels, jumps, asm);
+    let j = 1 + copy_jumps(states);
+    let d = begin(Fault::Nothing, sets, w, j, buf, labels, jumps, asm);
     let ok = accepted(d);
     if ok {
         let a = enter(tag, buf, labels, jumps, d.asm);
@@ -780,8 +792,9 @@ pub fn prologue_indirect(
         mask: 0,
     };
     let f = count_fault(h);
-    if f != 0 {
-        return begin(f, false, 0, 0, buf, labels, jumps, asm);
+    let k = assembler::fault_number(f);
+    if k != 0 {
+        return begin(f, Sets::Nothing, 0, 0, buf, labels, jumps, asm);
     }
     indirect_start(cap, states, obs, last, tag, buf, labels, jumps, asm)
 }
@@ -800,9 +813,10 @@ fn indirect_end(
     requires { ⌜ states + obs ≤ 4096 ⌝ }
     ensures { λ r. ⌜ outcome r (now (labels .exit)) (now (jumps .exit)) (now (buf .exit)) ≡ put tag 0 (epilogue-indirect (record { frame = Frame.Indirect; cap = cap; states = states; obs = obs; last = last; mask = 0 })) (state asm (now (labels .entry)) (now (jumps .entry)) (now (buf .entry))) ⌝ }
 {
-    let taken = end_taken(labels[2035], obs, labels[2036]);
+    let sets = end_sets(obs);
     let w = 12 + copy_words(true, states, obs);
-    let d = begin(0, taken, w, 1 + copy_jumps(obs), buf, labels, jumps, asm);
+    let j = 1 + copy_jumps(obs);
+    let d = begin(Fault::Nothing, sets, w, j, buf, labels, jumps, asm);
     let ok = accepted(d);
     if ok {
         let a = assembler::jump(Kind::Beq, 2036, 0, tag, buf, labels, jumps, d.asm);
@@ -836,8 +850,9 @@ pub fn epilogue_indirect(
         mask: 0,
     };
     let f = result_fault(h);
-    if f != 0 {
-        return begin(f, false, 0, 0, buf, labels, jumps, asm);
+    let k = assembler::fault_number(f);
+    if k != 0 {
+        return begin(f, Sets::Nothing, 0, 0, buf, labels, jumps, asm);
     }
     indirect_end(cap, states, obs, last, tag, buf, labels, jumps, asm)
 }

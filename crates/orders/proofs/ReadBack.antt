@@ -9,7 +9,7 @@ use lib.Dec.{leb}
 use lib.ListN.{length, take, drop, getD, length-drop}
 use lib.Seq.{length-take-le, take-suc, drop-length, drop-drop, take-length}
 use Rattle.machine.proofs.Placed.{Small}
-use Rattle.assembler.specs.Bytes.{bytes, written}
+use Rattle.assembler.specs.Bytes.{bytes, written, room}
 use Rattle.assembler.proofs.Writes.{written-is}
 use Rattle.orders.specs.Wrote.{word-in, words-in}
 
@@ -20,14 +20,14 @@ start-written b ws h =
     written-is b 0 ws (omega arith) ∙ ap (λ (k : ℕ). bytes ws ++ drop k b) z
 
 -- words written over a part of the buffer, all of it
-pub part-written : (b : List ℕ) (len : ℕ) (ws : List ℕ) (k : ℕ) {p : List ℕ} → k ≡ 4 * length ws → len + 4 * length ws ≤ length b
-    → p ≡ cond (leb (4 * length ws) (length (take k (drop len b)))) (written (take k (drop len b)) 0 ws) (take k (drop len b))
+pub part-written : (b : List ℕ) (len : ℕ) (ws : List ℕ) (k : ℕ) {p : List ℕ} → k ≡ 4 * length ws → k ≤ 65536 → len + 4 * length ws ≤ length b
+    → p ≡ cond (leb (4 * length ws) (room (length (take k (drop len b))))) (written (take k (drop len b)) 0 ws) (take k (drop len b))
     → take len b ++ (p ++ drop k (drop len b)) ≡ written b len ws
-part-written b len ws k {p} i h e =
+part-written b len ws k {p} i s h e =
     let m : List ℕ = take k (drop len b) in
     let n : length m ≡ 4 * length ws = length-take-le k (drop len b) (rw (length-drop len b) (omega (arith, i))) ∙ i in
     let q : p ≡ bytes ws =
-    rw (le-leb (4 * length ws) (length m) (omega (arith, n))) at e
+    rw (le-leb (4 * length ws) (room (length m)) (omega (arith, n))) at e
     ∙ start-written m ws (omega (arith, n))
     ∙ ap (λ (l : List ℕ). bytes ws ++ l) (ap (λ (j : ℕ). drop j m) (sym n) ∙ drop-length m)
     ∙ append-nil (bytes ws) in

@@ -1,6 +1,6 @@
 -- An order placed whole: its plan's words are those of its items, and a refusal asks nothing of them. Assumes nothing.
 use mathlib.Core.Path.{_≡_, refl, sym, ap, ap₂, _∙_}
-use mathlib.Core.Bool.{Bool, true, false, cond}
+use mathlib.Core.Bool.{Bool, true, false}
 use mathlib.Core.List.{List, [], _∷_, _++_, map, append-nil}
 use Prim.Native.Nat.{ℕ, _+_, _*_, _≤_, _<_}
 use native.Mathlib.Omega.{arith}
@@ -28,31 +28,12 @@ use Rattle.order.specs.declared.Order.{Order}
 use Rattle.order.specs.declared.Order.the-variants.{Unary, Scratched, Binary, Fused, Ifelse, LoadConst, Load, Save, BranchIf, SetLabel}
 use Rattle.reading.specs.Line.{order-weight}
 use Rattle.orders.specs.Code.{base, unary-code, scratched-code, binary-code, fused-op, choose-code, skip, code, resolve}
-use Rattle.orders.specs.Fault.{fault, registers-fit, last-constant, last-user-label}
+use Rattle.orders.specs.Fault.{fault, last-constant, last-user-label}
 use Rattle.orders.specs.Parts.{instrs-of}
 use Rattle.orders.proofs.Items.{checked-below}
 use Rattle.orders.proofs.Laws.{code-valid, code-length}
 
 -- ---- a refusal
-
--- an order's fault is one of 1, 2, 3, 9
-small : (b c : Bool) (k : ℕ) → k ≤ 12 → cond b (cond c 0 k) 1 ≤ 12
-small true true k h = omega arith
-small true false k h = h
-small false c k h = omega arith
-
-pub fault-small : (o : Order) → fault o ≤ 12
-unfolding fault
-fault-small (Unary k d s) = small (registers-fit (d ∷ s ∷ [])) true 0 (omega arith)
-fault-small (Scratched k d s t) = small (registers-fit (d ∷ s ∷ t ∷ [])) true 0 (omega arith)
-fault-small (Binary k d a b) = small (registers-fit (d ∷ a ∷ b ∷ [])) true 0 (omega arith)
-fault-small (Fused k d a b c) = small (registers-fit (d ∷ a ∷ b ∷ c ∷ [])) true 0 (omega arith)
-fault-small (Ifelse d a b i) = small (registers-fit (d ∷ a ∷ b ∷ [])) (leb (8 * i) offset-limit) 2 (omega arith)
-fault-small (LoadConst d k) = small (registers-fit (d ∷ [])) (leb k last-constant) 9 (omega arith)
-fault-small (Load d p i) = small (registers-fit (d ∷ [])) (leb (8 * i) offset-limit) 2 (omega arith)
-fault-small (Save s p i) = small (registers-fit (s ∷ [])) (leb (8 * i) offset-limit) 2 (omega arith)
-fault-small (BranchIf c l e) = small (registers-fit (c ∷ [])) (leb l last-user-label) 3 (omega arith)
-fault-small (SetLabel l) = small true (leb l last-user-label) 3 (omega arith)
 
 -- eight times an index
 pub cell-limit : (i : ℕ) → leb i 0xFFFFEFF ≡ leb (8 * i) offset-limit

@@ -30,6 +30,7 @@ use Rattle.assembler.specs.Bytes.{written}
 use Rattle.assembler.specs.State.{State, state, sound}
 use Rattle.assembler.specs.Put.{put}
 use Rattle.assembler.specs.Plan.{plan-words}
+use Rattle.assembler.specs.declared.Fault.the-variants as Fault
 use Rattle.assembler.specs.declared.Plan.{Plan}
 use Rattle.assembler.proofs.Writes.{written-then}
 use Rattle.assembler.proofs.Steps.{put-raw}
@@ -202,7 +203,7 @@ module _ (o : Order) (b d : List ℕ) (r : ℕ) (w : Wrote (instrs-of (code o)) 
   pub few-words : r / 4 ≤ 12
   few-words = omega (arith, w .1, order-short o)
 
-  pub read-built : (p : Plan) → fault o ≡ 0 → 44 ≤ length b → (plan-words p ≡ words-in d (r / 4)) × (p .fault ≡ 0) → Built p (instrs-of (code o))
+  pub read-built : (p : Plan) → fault o ≡ 0 → 44 ≤ length b → (plan-words p ≡ words-in d (r / 4)) × (p .fault ≡ Fault.Nothing) → Built p (instrs-of (code o))
   read-built p z h q =
       let is : List Instr = instrs-of (code o) in
       let v : map word is ≡ map encode is = words-valid is (order-valid o z) in

@@ -12,7 +12,7 @@ ghost use Rattle.refusal.specs.Answer.{accepted};
 ghost use Rattle.packed.specs.Packed.{order-at, unpacked};
 ghost use Rattle.assembler.specs.Bytes.{written};
 ghost use Rattle.assembler.specs.State.{state, outcome, sound};
-ghost use Rattle.assembler.specs.Plan.{plan-words, plan-fault};
+ghost use Rattle.assembler.specs.Plan.{fault-number, plan-words, plan-fault};
 ghost use Rattle.accesses.specs.Code.{load-float-code, save-float-code, load-int-code};
 ghost use Rattle.accesses.specs.Plans.{answer-of, Built};
 ghost use Rattle.orders.specs.Code.{code, base, unary-code, scratched-code, binary-code, fused-op, choose-code, skip};
@@ -22,6 +22,7 @@ ghost use Rattle.orders.specs.Parts.{instrs-of, joined, rest-fault};
 ghost use Rattle.orders.specs.Wrote.{word, Wrote, Wrote-order, word-in, words-in};
 use assembler::Asm;
 use assembler::Done;
+use assembler::Fault;
 use assembler::Kind;
 use assembler::Plan;
 use assembler::Tail;
@@ -89,47 +90,46 @@ fn fit(a: u32, b: u32, c: u32, d: u32) -> bool
 }
 
 // Registers, and then a number that has a last.
-fn checked(fits: bool, n: u32, last: u32, number: u8) -> u8
-    ensures { λ r. ⌜ r ≡ cond fits (cond (leb n last) 0 number) 1 ⌝ }
+fn checked(fits: bool, n: u32, last: u32, above: Fault) -> Fault
+    ensures { λ r. ⌜ fault-number r ≡ cond fits (cond (leb n last) 0 (fault-number above)) 1 ⌝ }
 {
     if fits {
         if n <= last {
-            return 0;
+            return Fault::Nothing;
         }
-        return number;
+        return above;
     }
-    1
+    Fault::Register
 }
 
 // The last index of a cell: 8 times the next is above 0x7FFFF7FF.
 const LAST_CELL: u32 = 0xFFFFEFF;
 
-// Document 01's number, 0 for none.
-pub fn fault(o: Order) -> u8
-    ensures { λ r. ⌜ r ≡ fault-of o ⌝ }
+// What document 01 refuses of an order's operands.
+pub fn fault(o: Order) -> Fault
+    ensures { λ r. ⌜ fault-number r ≡ fault-of o ⌝ }
 {
     match o {
-        Order::Unary(_, d, s) => checked(fit(d, s, 0, 0), 0, 0, 0),
-        Order::Scratched(_, d, s, t) => checked(fit(d, s, t, 0), 0, 0, 0),
-        Order::Binary(_, d, a, b) => checked(fit(d, a, b, 0), 0, 0, 0),
-        Order::Fused(_, d, a, b, c) => checked(fit(d, a, b, c), 0, 0, 0),
-        Order::Ifelse(d, a, b, i) => checked(fit(d, a, b, 0), i, LAST_CELL, 2),
-        Order::LoadConst(d, k) => checked(fit(d, 0, 0, 0), k, 1007, 9),
-        Order::Load(d, _, i) => checked(fit(d, 0, 0, 0), i, LAST_CELL, 2),
-        Order::Save(s, _, i) => checked(fit(s, 0, 0, 0), i, LAST_CELL, 2),
-        Order::BranchIf(c, l, _) => checked(fit(c, 0, 0, 0), l, 1023, 3),
-        Order::SetLabel(l) => checked(true, l, 1023, 3),
+        Order::Unary(_, d, s) => checked(fit(d, s, 0, 0), 0, 0, Fault::Nothing),
+        Order::Scratched(_, d, s, t) => checked(fit(d, s, t, 0), 0, 0, Fault::Nothing),
+        Order::Binary(_, d, a, b) => checked(fit(d, a, b, 0), 0, 0, Fault::Nothing),
+        Order::Fused(_, d, a, b, c) => checked(fit(d, a, b, c), 0, 0, Fault::Nothing),
+        Order::Ifelse(d, a, b, i) => checked(fit(d, a, b, 0), i, LAST_CELL, Fault::Value),
+        Order::LoadConst(d, k) => checked(fit(d, 0, 0, 0), k, 1007, Fault::Count),
+        Order::Load(d, _, i) => checked(fit(d, 0, 0, 0), i, LAST_CELL, Fault::Value),
+        Order::Save(s, _, i) => checked(fit(s, 0, 0, 0), i, LAST_CELL, Fault::Value),
+        Order::BranchIf(c, l, _) => checked(fit(c, 0, 0, 0), l, 1023, Fault::Label),
+        Order::SetLabel(l) => checked(true, l, 1023, Fault::Label),
     }
 }
 
-// A plan that is refused with k.
-fn refused_plan(k: u8) -> Plan
-    requires { ⌜ k ≤ 12 ⌝ }
-    ensures { λ r. ⌜ plan-fault r Tail.Nothing ≡ k ⌝ }
+// A plan that has this fault, and no words.
+fn refused_plan(f: Fault) -> Plan
+    ensures { λ r. ⌜ plan-fault r Tail.Nothing ≡ fault-number f ⌝ }
 {
     Plan {
         n: 0,
-        fault: k,
+        fault: f,
         w: [0u32; 12],
     }
 }
@@ -163,9 +163,10 @@ pub fn emit(
 ) -> Done
     ensures { λ x. ⌜ outcome x (now (labels .exit)) (now (jumps .exit)) (now (buf .exit)) ≡ emitted tag o (state asm (now (labels .entry)) (now (jumps .entry)) (now (buf .entry))) ⌝ }
 {
-    let k = fault(o);
+    let f = fault(o);
+    let k = assembler::fault_number(f);
     if k != 0 {
-        return assembler::place(refused_plan(k), Tail::Nothing, tag, buf, labels, jumps, asm);
+        return assembler::place(refused_plan(f), Tail::Nothing, tag, buf, labels, jumps, asm);
     }
     let p = plan(o);
     let r = behind(o);
@@ -523,7 +524,7 @@ fn word_at(bytes: &[u8; 48], i: usize) -> u32
 // A plan of the first n words.
 fn words_plan(bytes: &[u8; 48], n: usize) -> Plan
     requires { ⌜ n ≤ 12 ⌝ }
-    ensures { λ r. ⌜ (plan-words r ≡ words-in (now (bytes .entry)) n) × (r .fault ≡ 0) ⌝ }
+    ensures { λ r. ⌜ (plan-words r ≡ words-in (now (bytes .entry)) n) × (r .fault ≡ Fault.Nothing) ⌝ }
 {
     let mut w = [0u32; 12];
     let mut i = 0;
@@ -531,7 +532,11 @@ fn words_plan(bytes: &[u8; 48], n: usize) -> Plan
         w[i] = word_at(bytes, 4 * i);
         i += 1;
     }
-    Plan { n, fault: 0, w }
+    Plan {
+        n,
+        fault: Fault::Nothing,
+        w,
+    }
 }
 
 // The plan of an order that is not refused.

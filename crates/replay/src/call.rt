@@ -5,6 +5,7 @@ use assembler::Aligned;
 use assembler::Answer;
 use assembler::Asm;
 use assembler::Done;
+use assembler::Fault;
 use assembler::Kind;
 use assembler::Plan;
 use assembler::Tail;
@@ -59,7 +60,7 @@ fn plan(r: Row) -> Plan {
     match k {
         0x17 => Plan {
             n: 1,
-            fault: 0,
+            fault: Fault::Nothing,
             w: [0u32; 12],
         },
         _ => assembler::no_plan(),

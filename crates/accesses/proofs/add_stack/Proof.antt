@@ -12,7 +12,7 @@ returns c =
     let p = c .before .before .before .before .before .before in
     let f = p .before .before in
     let n = f .before .before .args .n in
-    stack-as _ _ _ _ (c .before .before .settle .ensures) add-stack-code n (f .stack-refusal .ensures .0) (add-stack-valid n) (omega (arith, add-stack-length n)) (p .before .at-most .ensures) (p .add-stack-plan .ensures)
+    stack-as _ _ _ _ (c .before .before .settle .ensures) add-stack-code n (f .stack-refusal .ensures) (add-stack-valid n) (omega (arith, add-stack-length n)) (p .before .at-most .ensures) (p .add-stack-plan .ensures)
 
 pub add-stack-spec : {M : Type 1} → statement M
 add-stack-spec =

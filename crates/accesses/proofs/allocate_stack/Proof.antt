@@ -12,7 +12,7 @@ returns c =
     let p = c .before .before .before .before .before .before in
     let f = p .before .before in
     let n = f .before .before .args .n in
-    stack-as _ _ _ _ (c .before .before .settle .ensures) allocate-stack-code n (f .stack-refusal .ensures .0) (allocate-stack-valid n) (omega (arith, allocate-stack-length n)) (p .before .at-most .ensures) (p .allocate-stack-plan .ensures)
+    stack-as _ _ _ _ (c .before .before .settle .ensures) allocate-stack-code n (f .stack-refusal .ensures) (allocate-stack-valid n) (omega (arith, allocate-stack-length n)) (p .before .at-most .ensures) (p .allocate-stack-plan .ensures)
 
 pub allocate-stack-spec : {M : Type 1} → statement M
 allocate-stack-spec =

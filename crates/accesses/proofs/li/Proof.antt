@@ -17,7 +17,7 @@ returns c =
     let a = b .before .before .before .args in
     let h = b .before .before .before .fits .z in
     settled-as _ _ _ _ (c .before .before .settle .ensures) (li-code (a .d) (a .z)) _
-    (handed (λ (z : ℤ). li-fault (a .d) z) (a .z) h (b .before .li-refusal .ensures .0))
+    (handed (λ (z : ℤ). li-fault (a .d) z) (a .z) h (b .before .li-refusal .ensures))
     (λ e. (
       handed (λ (z : ℤ). plan-of (li-code (a .d) z)) (a .z) h (b .li-plan .ensures),
       li-valid (a .d) (a .z) (li-accepted (a .d) (a .z) e .0),

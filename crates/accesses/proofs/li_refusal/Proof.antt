@@ -1,7 +1,6 @@
 use borrow.Author.Needs.{needs}
 use borrow.Author.Tests.{lt-ltb, le-ltb, le-leb, lt-leb}
 use mathlib.Core.Path.{sym, _∙_}
-use lib.Dec.{lit≤}
 use Rattle.encoder.specs.Field.{sign-of}
 use Rattle.encoder.proofs.Signs.{handed}
 use Rattle.accesses.proofs.Collect.{takes-pos, takes-neg}
@@ -9,7 +8,7 @@ use Rattle.accesses.proofs.li_refusal.Statement.{statement}
 use Rattle.accesses.proofs.li_refusal.Tie as tie
 
 returns : tie.Need-returns
-returns c = (rw (le-ltb _ 32 (c .if1 .taken)), lit≤ tt)
+returns c = rw (le-ltb _ 32 (c .if1 .taken))
 
 split-requires : tie.Need-split-requires
 split-requires c κs = search needs
@@ -21,13 +20,13 @@ enum-told : tie.Need-enum-told
 enum-told c = search needs
 
 returns-2 : tie.Need-returns-2
-returns-2 c = (rw (lt-ltb _ 32 (c .before .before .before .before .before .if1 .left), takes-pos (c .before .before .before .before .before .before .args .z) _ (sym (handed sign-of (c .before .before .before .before .before .before .args .z) (c .before .before .before .before .before .before .fits .z) (c .before .before .before .before .split .ensures)) ∙ c .before .before .s .given .1), le-leb _ 0x7FFFF7FF (c .if2 .taken)), lit≤ tt)
+returns-2 c = rw (lt-ltb _ 32 (c .before .before .before .before .before .if1 .left), takes-pos (c .before .before .before .before .before .before .args .z) _ (sym (handed sign-of (c .before .before .before .before .before .before .args .z) (c .before .before .before .before .before .before .fits .z) (c .before .before .before .before .split .ensures)) ∙ c .before .before .s .given .1), le-leb _ 0x7FFFF7FF (c .if2 .taken))
 
 returns-3 : tie.Need-returns-3
-returns-3 c = (rw (lt-ltb _ 32 (c .before .before .before .before .before .if1 .left), takes-pos (c .before .before .before .before .before .before .args .z) _ (sym (handed sign-of (c .before .before .before .before .before .before .args .z) (c .before .before .before .before .before .before .fits .z) (c .before .before .before .before .split .ensures)) ∙ c .before .before .s .given .1), lt-leb _ 0x7FFFF7FF (c .if2 .left)), lit≤ tt)
+returns-3 c = rw (lt-ltb _ 32 (c .before .before .before .before .before .if1 .left), takes-pos (c .before .before .before .before .before .before .args .z) _ (sym (handed sign-of (c .before .before .before .before .before .before .args .z) (c .before .before .before .before .before .before .fits .z) (c .before .before .before .before .split .ensures)) ∙ c .before .before .s .given .1), lt-leb _ 0x7FFFF7FF (c .if2 .left))
 
 returns-4 : tie.Need-returns-4
-returns-4 c = (rw (lt-ltb _ 32 (c .before .before .before .if1 .left), takes-neg (c .before .before .before .before .args .z) (_, sym (handed sign-of (c .before .before .before .before .args .z) (c .before .before .before .before .fits .z) (c .before .before .split .ensures)) ∙ c .enum-told .given .1) (c .before .before .before .before .fits .z)), lit≤ tt)
+returns-4 c = rw (lt-ltb _ 32 (c .before .before .before .if1 .left), takes-neg (c .before .before .before .before .args .z) (_, sym (handed sign-of (c .before .before .before .before .args .z) (c .before .before .before .before .fits .z) (c .before .before .split .ensures)) ∙ c .enum-told .given .1) (c .before .before .before .before .fits .z))
 
 pub li-refusal-spec : {M : Type 1} → statement M
 li-refusal-spec =

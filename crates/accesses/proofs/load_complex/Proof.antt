@@ -11,7 +11,7 @@ returns c =
     let p = c .before .before .before .before .before .before in
     let f = p .before .before .before in
     let a = f .before .before .args in
-    pair-as _ _ _ _ (c .before .before .settle .ensures) load-complex-code (a .r) (a .base) (a .n) (f .pair-refusal .ensures .0) (load-complex-valid (a .r) (a .base) (a .n)) (load-complex-length (a .r) (a .base) (a .n)) (p .before .before .at-most .ensures) (p .before .at-most2 .ensures) (p .load-complex-plan .ensures)
+    pair-as _ _ _ _ (c .before .before .settle .ensures) load-complex-code (a .r) (a .base) (a .n) (f .pair-refusal .ensures) (load-complex-valid (a .r) (a .base) (a .n)) (load-complex-length (a .r) (a .base) (a .n)) (p .before .before .at-most .ensures) (p .before .at-most2 .ensures) (p .load-complex-plan .ensures)
 
 pub load-complex-spec : {M : Type 1} → statement M
 load-complex-spec =

@@ -10,7 +10,7 @@ returns : tie.Need-returns
 returns c =
     let p = c .before .before .before .before .before .before in
     let a = p .before .before .before .args in
-    one-as _ _ _ _ (c .before .before .settle .ensures) load-float-code (a .d) (a .base) (a .n) (p .before .one-refusal .ensures .0) (load-float-valid (a .d) (a .base) (a .n)) (load-float-length (a .d) (a .base) (a .n)) (p .load-float-plan .ensures)
+    one-as _ _ _ _ (c .before .before .settle .ensures) load-float-code (a .d) (a .base) (a .n) (p .before .one-refusal .ensures) (load-float-valid (a .d) (a .base) (a .n)) (load-float-length (a .d) (a .base) (a .n)) (p .load-float-plan .ensures)
 
 pub load-float-spec : {M : Type 1} → statement M
 load-float-spec =

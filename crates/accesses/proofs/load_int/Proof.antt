@@ -10,7 +10,7 @@ returns : tie.Need-returns
 returns c =
     let p = c .before .before .before .before .before .before in
     let a = p .before .before .before .args in
-    one-as _ _ _ _ (c .before .before .settle .ensures) load-int-code (a .d) (a .base) (a .n) (p .before .one-refusal .ensures .0) (load-int-valid (a .d) (a .base) (a .n)) (load-int-length (a .d) (a .base) (a .n)) (p .load-int-plan .ensures)
+    one-as _ _ _ _ (c .before .before .settle .ensures) load-int-code (a .d) (a .base) (a .n) (p .before .one-refusal .ensures) (load-int-valid (a .d) (a .base) (a .n)) (load-int-length (a .d) (a .base) (a .n)) (p .load-int-plan .ensures)
 
 pub load-int-spec : {M : Type 1} → statement M
 load-int-spec =

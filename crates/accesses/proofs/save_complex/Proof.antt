@@ -11,7 +11,7 @@ returns c =
     let p = c .before .before .before .before .before .before in
     let f = p .before .before .before in
     let a = f .before .before .args in
-    pair-as _ _ _ _ (c .before .before .settle .ensures) save-complex-code (a .r) (a .base) (a .n) (f .pair-refusal .ensures .0) (save-complex-valid (a .r) (a .base) (a .n)) (save-complex-length (a .r) (a .base) (a .n)) (p .before .before .at-most .ensures) (p .before .at-most2 .ensures) (p .save-complex-plan .ensures)
+    pair-as _ _ _ _ (c .before .before .settle .ensures) save-complex-code (a .r) (a .base) (a .n) (f .pair-refusal .ensures) (save-complex-valid (a .r) (a .base) (a .n)) (save-complex-length (a .r) (a .base) (a .n)) (p .before .before .at-most .ensures) (p .before .at-most2 .ensures) (p .save-complex-plan .ensures)
 
 pub save-complex-spec : {M : Type 1} → statement M
 save-complex-spec =

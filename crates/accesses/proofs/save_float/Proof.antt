@@ -10,7 +10,7 @@ returns : tie.Need-returns
 returns c =
     let p = c .before .before .before .before .before .before in
     let a = p .before .before .before .args in
-    one-as _ _ _ _ (c .before .before .settle .ensures) save-float-code (a .s) (a .base) (a .n) (p .before .one-refusal .ensures .0) (save-float-valid (a .s) (a .base) (a .n)) (save-float-length (a .s) (a .base) (a .n)) (p .save-float-plan .ensures)
+    one-as _ _ _ _ (c .before .before .settle .ensures) save-float-code (a .s) (a .base) (a .n) (p .before .one-refusal .ensures) (save-float-valid (a .s) (a .base) (a .n)) (save-float-length (a .s) (a .base) (a .n)) (p .save-float-plan .ensures)
 
 pub save-float-spec : {M : Type 1} → statement M
 save-float-spec =

@@ -12,7 +12,7 @@ returns c =
     let p = c .before .before .before .before .before .before in
     let f = p .before .before in
     let n = f .before .before .args .n in
-    stack-as _ _ _ _ (c .before .before .settle .ensures) sub-stack-code n (f .stack-refusal .ensures .0) (sub-stack-valid n) (omega (arith, sub-stack-length n)) (p .before .at-most .ensures) (p .sub-stack-plan .ensures)
+    stack-as _ _ _ _ (c .before .before .settle .ensures) sub-stack-code n (f .stack-refusal .ensures) (sub-stack-valid n) (omega (arith, sub-stack-length n)) (p .before .at-most .ensures) (p .sub-stack-plan .ensures)
 
 pub sub-stack-spec : {M : Type 1} → statement M
 sub-stack-spec =

@@ -1,31 +1,57 @@
-use mathlib.Core.Path.{_≡_, sym, ap, _∙_}
-use mathlib.Core.Bool.{cond}
-use Prim.Native.Nat.{ℕ}
-use lib.Dec.{leb}
+use mathlib.Core.Path.{_≡_, sym, ap, ap₂, _∙_}
+use Prim.Native.Nat.{ℕ, _≤_}
+use native.Mathlib.Omega.{arith}
+use denote.Ref.{now}
 use borrow.Author.Needs.{needs}
 use Rattle.assembler.specs.State.{state}
-use Rattle.assembler.specs.Put.{verdict, settled}
+use Rattle.assembler.specs.Put.{twice, verdict, settled}
+use Rattle.assembler.specs.Plan.{earlier, fault-number, labels-of, sets-fault}
+use Rattle.assembler.proofs.Tests.{earlier-small}
+use Rattle.assembler.proofs.Plans.{asked}
 use Rattle.assembler.proofs.Steps.{settled-yes, settled-refused}
 use Rattle.assembler.proofs.ask.Statement.{statement}
 use Rattle.assembler.proofs.ask.Tie as tie
 
+number-requires : tie.Need-number-requires
+number-requires c κs =
+    let s = c .before .before in
+    let t : s .fault-of-sets .result ≤ 12 = omega (arith, s .fault-of-sets .ensures .1) in
+    rw (c .before .first-number .ensures) (earlier-small _ _ 12 (s .before .fault-number .ensures .1) t)
+
 -- the number is the whole's
-told : (c : tie.After-number) → let a = c .before .before .args in c .number .result ≡ verdict (cond (leb (a .fault) 12) (a .fault) 2) (a .taken) (a .words) (a .jumps) (a .n) (a .asm)
+told : (c : tie.After-number) → let a = c .before .before .before .before .before .args in
+    c .number .result ≡ verdict (earlier (fault-number (a .fault)) (sets-fault (labels-of (a .sets)))) (twice (now (a .labels)) (labels-of (a .sets))) (a .words) (a .jumps) (a .n) (a .asm)
 told c =
-    let a = c .before .before .args in
-    c .number .ensures .0 ∙ ap (λ (f : ℕ). verdict f (a .taken) (a .words) (a .jumps) (a .n) (a .asm)) (c .before .known .ensures .0)
+    let s = c .before .before .before in
+    let a = s .before .before .args in
+    let f = c .before .before .first-number .ensures ∙ ap₂ earlier (s .before .fault-number .ensures .0) (s .fault-of-sets .ensures .0) in
+    c .number .ensures .0
+    ∙ ap (λ (k : ℕ). verdict k (c .before .taken .result) (a .words) (a .jumps) (a .n) (a .asm)) f
+    ∙ asked (a .fault) (labels-of (a .sets)) _ _ (a .words) (a .jumps) (a .n) (a .asm) (c .before .taken .ensures)
 
 returns : tie.Need-returns
-returns c ls js b =
+returns c js b =
     let n = c .before .before in
-    let s = state (n .before .before .args .asm) ls js b in
+    let a = n .before .before .before .before .before .args in
+    let s = state (a .asm) (now (a .labels)) js b in
     settled-refused s s (c .refused-with .result) (n .number .result) _ (told n) (c .before .if1 .taken) (c .refused-with .ensures)
 
 returns-2 : tie.Need-returns-2
-returns-2 c ls js b =
+returns-2 c js b =
     let n = c .before in
-    let s = state (n .before .before .args .asm) ls js b in
+    let a = n .before .before .before .before .before .args in
+    let s = state (a .asm) (now (a .labels)) js b in
     sym (ap (λ (k : ℕ). settled k s s) (sym (told n) ∙ c .if1 .left) ∙ settled-yes s s)
 
 pub ask-spec : {M : Type 1} → statement M
-ask-spec = tie.close (tie.spec (λ c κs. search needs) (λ c κs. search needs) (λ c κs. search needs) returns returns-2)
+ask-spec =
+    tie.close
+    (tie.spec
+    (λ c κs. search needs)
+    (λ c κs. search needs)
+    (λ c κs. search needs)
+    (λ c κs. search needs)
+    number-requires
+    (λ c κs. search needs)
+    returns
+    returns-2)

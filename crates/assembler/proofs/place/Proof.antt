@@ -16,14 +16,14 @@ twelve s = search needs
 
 number-requires : tie.Need-number-requires
 number-requires c κs =
-    let e = c .first-fault .ensures in
+    let e = c .first-number .ensures in
     let t : c .before .fault-of-tail .result ≤ 12 = omega (arith, c .before .fault-of-tail .ensures .1) in
-    rw e (earlier-small _ _ 12 (c .before .before .known .ensures .1) t)
+    rw e (earlier-small _ _ 12 (c .before .before .fault-number .ensures .1) t)
 
 returns : tie.Need-returns
 returns c =
     let a = c .before .before .before .before .before .before .before .before .before .args in
-    let e : c .before .before .before .first-fault .result ≡ plan-fault (a .p) (a .t) = c .before .before .before .first-fault .ensures ∙ rw (c .before .before .before .before .before .known .ensures .0, c .before .before .before .before .fault-of-tail .ensures .0) in
+    let e : c .before .before .before .first-number .result ≡ plan-fault (a .p) (a .t) = c .before .before .before .first-number .ensures ∙ rw (c .before .before .before .before .before .fault-number .ensures .0, c .before .before .before .before .fault-of-tail .ensures .0) in
     let n = c .before .before .before .before .before .before .before .at-most .ensures .0 in
     let j = c .before .before .before .before .before .before .tail-count .ensures .0 in
     put-refused _ _ _ _ (c .refused-with .result) _ (rw (plan-number _ (a .p) (a .t) _ (twelve (c .before .before .before .before .before .before .before .before .before)), ← e, ← n, ← j) (c .before .before .number .ensures .0)) (c .before .if1 .taken) (c .refused-with .ensures)
@@ -32,8 +32,8 @@ put-words-requires : tie.Need-put-words-requires
 put-words-requires c κs =
     omega (arith, c .before .before .before .number .ensures .2 (c .before .before .if1 .left))
 
-add-t19 : tie.Need-add-t19
-add-t19 c = omega (arith, c .before .before .before .before .before .before .number .ensures .2 (c .before .before .before .before .before .if1 .left))
+add-t20 : tie.Need-add-t20
+add-t20 c = omega (arith, c .before .before .before .before .before .before .number .ensures .2 (c .before .before .before .before .before .if1 .left))
 
 reserve-tail-requires : tie.Need-reserve-tail-requires
 reserve-tail-requires c κs =
@@ -44,7 +44,7 @@ reserve-tail-requires c κs =
 returns-2 : tie.Need-returns-2
 returns-2 c =
     let a = c .before .before .before .before .before .before .before .before .before .before .before .before .before .before .before .before .before .before .args in
-    let e : c .before .before .before .before .before .before .before .before .before .before .before .before .first-fault .result ≡ plan-fault (a .p) (a .t) = c .before .before .before .before .before .before .before .before .before .before .before .before .first-fault .ensures ∙ rw (c .before .before .before .before .before .before .before .before .before .before .before .before .before .before .known .ensures .0, c .before .before .before .before .before .before .before .before .before .before .before .before .before .fault-of-tail .ensures .0) in
+    let e : c .before .before .before .before .before .before .before .before .before .before .before .before .first-number .result ≡ plan-fault (a .p) (a .t) = c .before .before .before .before .before .before .before .before .before .before .before .before .first-number .ensures ∙ rw (c .before .before .before .before .before .before .before .before .before .before .before .before .before .before .fault-number .ensures .0, c .before .before .before .before .before .before .before .before .before .before .before .before .before .fault-of-tail .ensures .0) in
     let n = c .before .before .before .before .before .before .before .before .before .before .before .before .before .before .before .before .at-most .ensures .0 in
     let j = c .before .before .before .before .before .before .before .before .before .before .before .before .before .before .before .tail-count .ensures .0 in
     put-done _ _ _ _ _ (rw (plan-number _ (a .p) (a .t) _ (twelve (c .before .before .before .before .before .before .before .before .before .before .before .before .before .before .before .before .before .before)), ← e, ← n, ← j) (sym (c .before .before .before .before .before .before .before .before .before .before .before .number .ensures .0) ∙ c .before .before .before .before .before .before .before .before .before .before .if1 .left))
@@ -65,7 +65,7 @@ place-spec =
     returns
     put-words-requires
     (λ c. search needs)
-    add-t19
+    add-t20
     reserve-tail-requires
     (λ c. search needs)
     returns-2)

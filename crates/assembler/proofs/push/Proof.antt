@@ -14,7 +14,7 @@ returns-2 c = rw (c .before .before .before .e .given .1) (simp (le-ltb _ _ (c .
 
 returns-3 : tie.Need-returns-3
 unfolding pushed
-returns-3 c = rw (c .before .before .before .e2 .given .1) (rw (c .first-fault2 .ensures, c .before .number .ensures))
+returns-3 c = rw (c .before .before .before .e2 .given .1) (rw (c .first-fault2 .ensures, c .before .fault-for .ensures))
 
 pub push-spec : {M : Type 1} → statement M
 push-spec =

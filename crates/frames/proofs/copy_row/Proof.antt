@@ -16,12 +16,12 @@ use Rattle.frames.proofs.copy_row.Statement.{statement}
 use Rattle.frames.proofs.copy_row.Tie as tie
 
 abbrev Inv-loop : tie.InvT-loop
-Inv-loop out n buf₀ labels₀ jumps₀ p ok a₀ i₀ buf labels jumps a i =
+Inv-loop out n buf₀ labels₀ jumps₀ p m ok a₀ i₀ buf labels jumps a i =
     (i ≤ n) × (length buf ≡ length buf₀)
     × ((u : State) → Accepts 0 (code (times-over n (copy-each out))) (state a₀ labels₀ jumps₀ buf₀) u → Accepts 0 (code (times-over (n - i) (copy-each out))) (state a labels jumps buf) u)
 
 abbrev μ-loop : tie.MeasureT-loop
-μ-loop out n buf₀ labels₀ jumps₀ p ok a₀ i₀ buf labels jumps a i = n - i
+μ-loop out n buf₀ labels₀ jumps₀ p m ok a₀ i₀ buf labels jumps a i = n - i
 
 loop-holds : tie.Need-loop-holds Inv-loop μ-loop
 loop-holds c =

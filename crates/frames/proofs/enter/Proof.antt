@@ -24,10 +24,10 @@ same-length c = omega (arith, c .before .buf4 .given, c .before .before .before 
 returns : tie.Need-returns
 unfolding entry
 returns c =
-    let a = c .before .before .before .before .before .before .before .before .before .before .before .before .before .before .before .before .before .before .before .before .before .before .before .before .before .before .before .before .before .before .before .before .before .before .before .args in
+    let a = c .before .before .before .before .before .before .before .before .before .before .before .before .before .before .before .before .before .before .before .before .before .before .before .before .before .before .before .before .before .before .before .before .before .args in
     let s = state (a .asm) (now (a .labels)) (now (a .jumps)) (now (a .buf)) in
     let past = jump Beq at-main 0 ∷ [] in
-    let o = opens (a .tag) entry s _ _ (entry-number _ s (c .before .before .before .before .before .before .before .before .before .before .before .before .before .before .before .before .before .before .before .before .before .before .before .before .before .before .before .before .before .before .before .before .is-taken .ensures)) (c .before .before .before .before .before .before .before .before .before .before .before .before .before .before .before .before .before .before .before .before .before .before .before .before .before .before .before .before .begin .ensures) (sym (c .before .before .before .before .before .before .before .before .before .before .before .before .before .before .before .before .before .before .before .before .before .before .before .before .before .accepted .ensures) ∙ c .before .before .before .before .before .before .before .before .before .before .before .before .before .before .before .before .before .before .before .before .before .before .before .before .if1 .taken) in
+    let o = opens (a .tag) entry s _ _ (entry-number s) (c .before .before .before .before .before .before .before .before .before .before .before .before .before .before .before .before .before .before .before .before .before .before .before .before .before .before .before .before .begin .ensures) (sym (c .before .before .before .before .before .before .before .before .before .before .before .before .before .before .before .before .before .before .before .before .before .before .before .before .before .accepted .ensures) ∙ c .before .before .before .before .before .before .before .before .before .before .before .before .before .before .before .before .before .before .before .before .before .before .before .before .if1 .taken) in
     let e1 = c .before .before .before .before .before .before .before .before .before .before .before .before .before .before .before .before .before .before .before .before .set-label .ensures ∙ label-set (a .tag) 2032 2032 refl (omega arith) _ in
     let e2 = c .before .before .before .before .before .before .before .before .before .before .before .before .before .place .ensures ∙ plan-code _ (opening Indirect) (c .before .before .before .before .before .before .before .before .before .before .before .before .before .before .before .before .before .opening-indirect .ensures) (opening-few Indirect) (opening-valid Indirect) (a .tag) _ in
     let e3 = c .before .before .place2 .ensures ∙ plan-jump (a .tag) 2033 2033 refl (omega arith) _ Beq _ arguments (c .before .before .before .before .before .before .four .ensures ∙ collected (c .before .before .before .before .before .before .before .before .before .before .mv .result ∷ c .before .before .before .before .before .before .before .before .before .mv2 .result ∷ c .before .before .before .before .before .before .before .before .mv3 .result ∷ c .before .before .before .before .before .before .before .mv4 .result ∷ []) arguments (answered _ _ (c .before .before .before .before .before .before .before .before .before .before .mv .ensures), (answered _ _ (c .before .before .before .before .before .before .before .before .before .mv2 .ensures), (answered _ _ (c .before .before .before .before .before .before .before .before .mv3 .ensures), (answered _ _ (c .before .before .before .before .before .before .before .mv4 .ensures), tt))))) (omega arith) (omega arith) in
@@ -37,16 +37,14 @@ returns c =
 
 returns-2 : tie.Need-returns-2
 returns-2 c =
-    let a = c .before .before .before .before .before .before .before .before .before .before .before .args in
+    let a = c .before .before .before .before .before .before .before .before .before .args in
     let s = state (a .asm) (now (a .labels)) (now (a .jumps)) (now (a .buf)) in
-    refuses (a .tag) entry s _ 0 _ (entry-number _ s (c .before .before .before .before .before .before .before .before .is-taken .ensures)) (c .before .before .before .before .begin .ensures) (sym (c .before .accepted .ensures) ∙ c .if1 .left)
+    refuses (a .tag) entry s _ 0 _ (entry-number s) (c .before .before .before .before .begin .ensures) (sym (c .before .accepted .ensures) ∙ c .if1 .left)
 
 pub enter-spec : {M : Type 1} → statement M
 enter-spec =
     tie.close
     (tie.spec
-    (λ c. search needs)
-    (λ c κs. search needs)
     (λ c κs. search needs)
     (λ c κs. search needs)
     (λ c κs. search needs)

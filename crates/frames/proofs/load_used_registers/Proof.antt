@@ -27,11 +27,11 @@ same-length c = omega (arith, c .before .buf5 .given, c .before .before .before 
 returns : tie.Need-returns
 unfolding reloads
 returns c =
-    let a = c .before .before .before .before .before .before .before .before .before .before .before .before .before .before .before .before .before .before .before .before .before .before .before .before .before .before .before .before .before .before .before .before .before .before .before .before .before .before .before .before .args in
+    let a = c .before .before .before .before .before .before .before .before .before .before .before .before .before .before .before .before .before .before .before .before .before .before .before .before .before .before .before .before .before .before .before .before .before .before .before .before .before .args in
     let s = state (a .asm) (now (a .labels)) (now (a .jumps)) (now (a .buf)) in
     let is = map reload (saved (a .mask)) in
     let zero = I ADDI 10 0 (pos 0) ∷ [] in
-    let o = opens 0 (reloads (a .mask)) s _ _ (reload-number (a .mask) _ _ s (c .before .before .before .before .before .before .before .before .before .before .before .before .before .before .before .before .before .before .before .before .before .before .before .before .before .before .before .before .before .before .before .before .before .before .before .one-taken .ensures) (c .before .before .before .before .before .before .before .before .before .before .before .before .before .before .before .before .before .before .before .before .before .before .before .before .before .before .before .before .before .before .before .before .before .before .before .before .before .before .used-count .ensures .0)) (c .before .before .before .before .before .before .before .before .before .before .before .before .before .before .before .before .before .before .before .before .before .before .before .before .before .before .before .before .before .before .before .begin .ensures) (sym (c .before .before .before .before .before .before .before .before .before .before .before .before .before .before .before .before .before .before .before .before .before .before .before .before .before .before .before .before .accepted .ensures) ∙ c .before .before .before .before .before .before .before .before .before .before .before .before .before .before .before .before .before .before .before .before .before .before .before .before .before .before .before .if1 .taken) in
+    let o = opens 0 (reloads (a .mask)) s _ _ (reload-number (a .mask) _ s (c .before .before .before .before .before .before .before .before .before .before .before .before .before .before .before .before .before .before .before .before .before .before .before .before .before .before .before .before .before .before .before .before .before .before .before .used-count .ensures .0)) (c .before .before .before .before .before .before .before .before .before .before .before .before .before .before .before .before .before .before .before .before .before .before .before .before .before .before .before .before .before .before .before .begin .ensures) (sym (c .before .before .before .before .before .before .before .before .before .before .before .before .before .before .before .before .before .before .before .before .before .before .before .before .before .before .before .before .accepted .ensures) ∙ c .before .before .before .before .before .before .before .before .before .before .before .before .before .before .before .before .before .before .before .before .before .before .before .before .before .before .before .if1 .taken) in
     let e2 = c .before .before .before .before .before .before .before .before .before .before .before .before .before .before .before .place .ensures ∙ plan-code _ zero (c .before .before .before .before .before .before .before .before .before .before .before .before .before .before .before .before .before .before .before .one .ensures ∙ collected (c .before .before .before .before .before .before .before .before .before .before .before .before .before .before .before .before .before .before .before .before .addi .result ∷ []) zero (answered-at _ (λ (z : ℤ). I ADDI 10 0 z) (c .before .before .before .before .before .before .before .before .before .before .before .before .before .before .before .before .before .before .before .before .addi .ensures) refl, tt)) (omega arith) (omega arith) 0 _ in
     let e4 = c .before .before .place2 .ensures ∙ plan-code _ is (c .before .before .before .before .before .before .used-plan .ensures) (omega (arith, saved-few (a .mask), length-map (saved (a .mask)) reload)) (reload-list-valid (a .mask)) 0 _ in
     let f1 = piece 0 (label 2037 ∷ []) (code zero ++ (label 2038 ∷ code is)) _ _ _ (o .left) (c .before .before .before .before .before .before .before .before .before .before .before .before .before .before .before .before .before .before .before .before .before .before .before .set-label .ensures) in
@@ -41,19 +41,15 @@ returns c =
 
 returns-2 : tie.Need-returns-2
 returns-2 c =
-    let a = c .before .before .before .before .before .before .before .before .before .before .before .before .before .args in
+    let a = c .before .before .before .before .before .before .before .before .before .before .args in
     let s = state (a .asm) (now (a .labels)) (now (a .jumps)) (now (a .buf)) in
-    refuses 0 (reloads (a .mask)) s _ 0 _ (reload-number (a .mask) _ _ s (c .before .before .before .before .before .before .before .before .one-taken .ensures) (c .before .before .before .before .before .before .before .before .before .before .before .used-count .ensures .0)) (c .before .before .before .before .begin .ensures) (sym (c .before .accepted .ensures) ∙ c .if1 .left)
+    refuses 0 (reloads (a .mask)) s _ 0 _ (reload-number (a .mask) _ s (c .before .before .before .before .before .before .before .before .used-count .ensures .0)) (c .before .before .before .before .begin .ensures) (sym (c .before .accepted .ensures) ∙ c .if1 .left)
 
 pub load-used-registers-spec : {M : Type 1} → statement M
 load-used-registers-spec =
     tie.close
     (tie.spec
     (λ c κs. search needs)
-    (λ c. search needs)
-    (λ c. search needs)
-    (λ c κs. search needs)
-    (λ c. search needs)
     (λ c. search needs)
     (λ c κs. search needs)
     (λ c κs. search needs)

@@ -3,11 +3,11 @@ use mathlib.Core.Path.{refl, sym, ap, _∙_}
 use mathlib.Core.List.{[], _∷_, _++_}
 use Prim.Native.Nat.{ℕ, _+_}
 use lib.IntN.{ℤ, pos}
-use lib.ListN.{length, length-append, getD}
+use lib.ListN.{length, length-append}
 use denote.Ref.{now}
+use borrow.Author.Tests.{lt-ltb}
 use Rattle.isa.specs.Instr.{I, ADDI}
 use Rattle.assembler.specs.Item.{jump, label}
-use Rattle.assembler.specs.Label.{is-set}
 use Rattle.assembler.specs.Put.{jumps}
 use Rattle.assembler.specs.State.{state}
 use Rattle.assembler.specs.declared.Kind.the-variants.{Bne}
@@ -31,8 +31,11 @@ use borrow.Author.Needs.{needs}
 use Rattle.frames.proofs.looped.Statement.{statement}
 use Rattle.frames.proofs.looped.Tie as tie
 
+begin-requires : tie.Need-begin-requires
+begin-requires c κs = rw (lt-ltb _ 2039 (c .before .before .before .before .before .label-of .ensures .1))
+
 cast-li-plan : tie.Need-cast-li-plan
-cast-li-plan c = omega (arith, c .before .before .before .before .before .before .before .before .before .before .before .before .before .before .before .before .before .before .before .before .before .pre)
+cast-li-plan c = omega (arith, c .before .before .before .before .before .before .before .before .before .before .before .before .before .before .before .before .before .before .before .pre)
 
 same-length : tie.Need-same-length
 same-length c = omega (arith, c .before .buf5 .given, c .before .before .before .before .before .before .before .before .before .before .buf4 .given, c .before .before .before .before .before .before .before .before .before .before .before .before .before .before .before .before .buf3 .given, c .before .before .before .before .before .before .before .before .before .before .before .before .before .before .before .before .before .before .before .before .before .before .before .buf2 .given, c .before .before .before .before .before .before .before .before .before .before .before .before .before .before .before .before .before .before .before .before .before .before .before .before .before .before .before .before .before .before .before .before .buf .given)
@@ -40,17 +43,17 @@ same-length c = omega (arith, c .before .buf5 .given, c .before .before .before 
 returns : tie.Need-returns
 unfolding looped
 returns c =
-    let a = c .before .before .before .before .before .before .before .before .before .before .before .before .before .before .before .before .before .before .before .before .before .before .before .before .before .before .before .before .before .before .before .before .before .before .before .before .before .before .before .before .before .before .before .args in
+    let a = c .before .before .before .before .before .before .before .before .before .before .before .before .before .before .before .before .before .before .before .before .before .before .before .before .before .before .before .before .before .before .before .before .before .before .before .before .before .before .before .before .before .args in
     let s = state (a .asm) (now (a .labels)) (now (a .jumps)) (now (a .buf)) in
     let first = copy-first (a .out) (a .states) in
     let l = copy-label (a .out) in
     let li = li-code 7 (pos (a .n)) in
     let each = copy-each (a .out) ++ (count-down ∷ []) in
     let inner = code each ++ (jump Bne l 0 ∷ []) in
-    let h = c .before .before .before .before .before .before .before .before .before .before .before .before .before .before .before .before .before .before .before .before .before .before .before .before .before .before .before .before .before .before .before .before .before .before .before .before .before .before .before .before .before .label-of .ensures in
-    let o = opens (a .tag) (looped (a .out) (a .states) (a .n)) s _ _ (looped-number (a .out) (a .states) (a .n) _ _ s (c .before .before .before .before .before .before .before .before .before .before .before .before .before .before .before .before .before .before .before .before .before .before .before .before .before .before .before .before .before .before .before .before .before .before .before .before .before .is-taken .ensures ∙ ap (λ (k : ℕ). is-set (getD (now (a .labels)) k 0)) (c .before .before .before .before .before .before .before .before .before .before .before .before .before .before .before .before .before .before .before .before .before .before .before .before .before .before .before .before .before .before .before .before .before .before .before .before .before .before .before .before .before .label-of .ensures .0)) (ap (λ (k : ℕ). k + c .before .before .before .before .before .before .before .before .before .before .before .before .before .before .before .before .before .before .before .before .before .before .before .before .before .before .before .before .before .before .before .before .before .before .before .before .before .before .before .li-words .result + 8) (c .before .before .before .before .before .before .before .before .before .before .before .before .before .before .before .before .before .before .before .before .before .before .before .before .before .before .before .before .before .before .before .before .before .before .before .before .before .before .before .before .first-words .ensures .0) ∙ ap (λ (k : ℕ). length (copy-first (a .out) (a .states)) + k + 8) (c .before .before .before .before .before .before .before .before .before .before .before .before .before .before .before .before .before .before .before .before .before .before .before .before .before .before .before .before .before .before .before .before .before .before .before .before .before .before .before .li-words .ensures .0 7))) (c .before .before .before .before .before .before .before .before .before .before .before .before .before .before .before .before .before .before .before .before .before .before .before .before .before .before .before .before .before .before .before .before .before .begin .ensures) (sym (c .before .before .before .before .before .before .before .before .before .before .before .before .before .before .before .before .before .before .before .before .before .before .before .before .before .before .before .before .before .before .accepted .ensures) ∙ c .before .before .before .before .before .before .before .before .before .before .before .before .before .before .before .before .before .before .before .before .before .before .before .before .before .before .before .before .before .if1 .taken) in
-    let e1 = c .before .before .before .before .before .before .before .before .before .before .before .before .before .before .before .before .before .before .before .before .before .before .before .before .place .ensures ∙ plan-code _ first (c .before .before .before .before .before .before .before .before .before .before .before .before .before .before .before .before .before .before .before .before .before .before .before .before .before .before .before .before .first-plan .ensures) (omega (arith, c .before .before .before .before .before .before .before .before .before .before .before .before .before .before .before .before .before .before .before .before .before .before .before .before .before .before .before .before .before .before .before .before .before .before .before .before .before .before .before .before .first-words .ensures .0, c .before .before .before .before .before .before .before .before .before .before .before .before .before .before .before .before .before .before .before .before .before .before .before .before .before .before .before .before .before .before .before .before .before .before .before .before .before .before .before .before .first-words .ensures .1)) (first-valid (a .out) (a .states)) (a .tag) _ in
-    let e2 = c .before .before .before .before .before .before .before .before .before .before .before .before .before .before .before .before .before .place2 .ensures ∙ plan-code _ li (c .before .before .before .before .before .before .before .before .before .before .before .before .before .before .before .before .before .before .before .before .before .li-plan .ensures ∙ ap (λ (z : ℤ). plan-of (li-code 7 z)) (back-small (a .n) (omega (arith, c .before .before .before .before .before .before .before .before .before .before .before .before .before .before .before .before .before .before .before .before .before .before .before .before .before .before .before .before .before .before .before .before .before .before .before .before .before .before .before .before .before .before .before .pre)))) (omega (arith, li-length 7 (pos (a .n)))) (li-valid 7 (pos (a .n)) (omega arith)) (a .tag) _ in
+    let h = c .before .before .before .before .before .before .before .before .before .before .before .before .before .before .before .before .before .before .before .before .before .before .before .before .before .before .before .before .before .before .before .before .before .before .before .before .before .before .before .label-of .ensures in
+    let o = opens (a .tag) (looped (a .out) (a .states) (a .n)) s _ _ (looped-number (a .out) (a .states) (a .n) _ _ s (c .before .before .before .before .before .before .before .before .before .before .before .before .before .before .before .before .before .before .before .before .before .before .before .before .before .before .before .before .before .before .before .before .before .before .before .before .before .before .before .label-of .ensures .0) (ap (λ (k : ℕ). k + c .before .before .before .before .before .before .before .before .before .before .before .before .before .before .before .before .before .before .before .before .before .before .before .before .before .before .before .before .before .before .before .before .before .before .before .before .before .li-words .result + 8) (c .before .before .before .before .before .before .before .before .before .before .before .before .before .before .before .before .before .before .before .before .before .before .before .before .before .before .before .before .before .before .before .before .before .before .before .before .before .before .first-words .ensures .0) ∙ ap (λ (k : ℕ). length (copy-first (a .out) (a .states)) + k + 8) (c .before .before .before .before .before .before .before .before .before .before .before .before .before .before .before .before .before .before .before .before .before .before .before .before .before .before .before .before .before .before .before .before .before .before .before .before .before .li-words .ensures .0 7))) (c .before .before .before .before .before .before .before .before .before .before .before .before .before .before .before .before .before .before .before .before .before .before .before .before .before .before .before .before .before .before .before .before .before .begin .ensures) (sym (c .before .before .before .before .before .before .before .before .before .before .before .before .before .before .before .before .before .before .before .before .before .before .before .before .before .before .before .before .before .before .accepted .ensures) ∙ c .before .before .before .before .before .before .before .before .before .before .before .before .before .before .before .before .before .before .before .before .before .before .before .before .before .before .before .before .before .if1 .taken) in
+    let e1 = c .before .before .before .before .before .before .before .before .before .before .before .before .before .before .before .before .before .before .before .before .before .before .before .before .place .ensures ∙ plan-code _ first (c .before .before .before .before .before .before .before .before .before .before .before .before .before .before .before .before .before .before .before .before .before .before .before .before .before .before .before .before .first-plan .ensures) (omega (arith, c .before .before .before .before .before .before .before .before .before .before .before .before .before .before .before .before .before .before .before .before .before .before .before .before .before .before .before .before .before .before .before .before .before .before .before .before .before .before .first-words .ensures .0, c .before .before .before .before .before .before .before .before .before .before .before .before .before .before .before .before .before .before .before .before .before .before .before .before .before .before .before .before .before .before .before .before .before .before .before .before .before .before .first-words .ensures .1)) (first-valid (a .out) (a .states)) (a .tag) _ in
+    let e2 = c .before .before .before .before .before .before .before .before .before .before .before .before .before .before .before .before .before .place2 .ensures ∙ plan-code _ li (c .before .before .before .before .before .before .before .before .before .before .before .before .before .before .before .before .before .before .before .before .before .li-plan .ensures ∙ ap (λ (z : ℤ). plan-of (li-code 7 z)) (back-small (a .n) (omega (arith, c .before .before .before .before .before .before .before .before .before .before .before .before .before .before .before .before .before .before .before .before .before .before .before .before .before .before .before .before .before .before .before .before .before .before .before .before .before .before .before .before .before .pre)))) (omega (arith, li-length 7 (pos (a .n)))) (li-valid 7 (pos (a .n)) (omega arith)) (a .tag) _ in
     let e3 = c .before .before .before .before .before .before .before .before .before .before .before .set-label .ensures ∙ label-set (a .tag) _ l (h .0) (h .1) _ in
     let q = c .before .before .before .before .before .before .push .ensures ∙ ap (λ (p : Plan). pushed p (c .before .before .before .before .before .before .before .addi .result)) (c .before .before .before .before .before .before .before .before .copy-plan .ensures) ∙ pushed-last (copy-each (a .out)) count-down (answered-at _ (λ (z : ℤ). I ADDI 7 7 z) (c .before .before .before .before .before .before .before .addi .ensures) refl) in
     let e4 = c .before .before .place3 .ensures ∙ plan-jump (a .tag) _ l (h .0) (h .1) _ Bne _ each q (omega (arith, length-append (copy-each (a .out)) (count-down ∷ []), six (a .out))) (valids-join (copy-each (a .out)) (count-down ∷ []) (each-valid (a .out)) (omega arith)) in
@@ -61,24 +64,20 @@ returns c =
 
 returns-2 : tie.Need-returns-2
 returns-2 c =
-    let a = c .before .before .before .before .before .before .before .before .before .before .before .before .before .before .args in
+    let a = c .before .before .before .before .before .before .before .before .before .before .before .before .args in
     let s = state (a .asm) (now (a .labels)) (now (a .jumps)) (now (a .buf)) in
-    refuses (a .tag) (looped (a .out) (a .states) (a .n)) s _ 0 _ (looped-number (a .out) (a .states) (a .n) _ _ s (c .before .before .before .before .before .before .before .before .is-taken .ensures ∙ ap (λ (k : ℕ). is-set (getD (now (a .labels)) k 0)) (c .before .before .before .before .before .before .before .before .before .before .before .before .label-of .ensures .0)) (ap (λ (k : ℕ). k + c .before .before .before .before .before .before .before .before .before .before .li-words .result + 8) (c .before .before .before .before .before .before .before .before .before .before .before .first-words .ensures .0) ∙ ap (λ (k : ℕ). length (copy-first (a .out) (a .states)) + k + 8) (c .before .before .before .before .before .before .before .before .before .before .li-words .ensures .0 7))) (c .before .before .before .before .begin .ensures) (sym (c .before .accepted .ensures) ∙ c .if1 .left)
+    refuses (a .tag) (looped (a .out) (a .states) (a .n)) s _ 0 _ (looped-number (a .out) (a .states) (a .n) _ _ s (c .before .before .before .before .before .before .before .before .before .before .label-of .ensures .0) (ap (λ (k : ℕ). k + c .before .before .before .before .before .before .before .before .li-words .result + 8) (c .before .before .before .before .before .before .before .before .before .first-words .ensures .0) ∙ ap (λ (k : ℕ). length (copy-first (a .out) (a .states)) + k + 8) (c .before .before .before .before .before .before .before .before .li-words .ensures .0 7))) (c .before .before .before .before .begin .ensures) (sym (c .before .accepted .ensures) ∙ c .if1 .left)
 
 pub looped-spec : {M : Type 1} → statement M
 looped-spec =
     tie.close
     (tie.spec
     (λ c κs. search needs)
-    (λ c. search needs)
     (λ c κs. search needs)
     (λ c κs. search needs)
     (λ c. search needs)
     (λ c. search needs)
-    (λ c. search needs)
-    (λ c. search needs)
-    (λ c κs. search needs)
-    (λ c κs. search needs)
+    begin-requires
     (λ c κs. search needs)
     (λ c κs. search needs)
     (λ c κs. search needs)

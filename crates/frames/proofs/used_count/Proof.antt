@@ -11,4 +11,9 @@ returns : tie.Need-returns
 returns c = (ones-saved (c .args .mask), omega (arith, ones-saved (c .args .mask), saved-few (c .args .mask)))
 
 pub used-count-spec : {M : Type 1} → statement M
-used-count-spec = tie.close (tie.spec add-result returns)
+used-count-spec =
+    tie.close
+    (tie.spec
+    add-result
+    (λ c. omega (arith, ones-saved (c .args .mask), saved-few (c .args .mask)))
+    returns)

@@ -11,7 +11,7 @@ use Rattle.orders.proofs.put_four.Tie as tie
 returns : tie.Need-returns
 returns c =
     let a = c .before .before .before .before .before .args in
-    (part-written (now (a .buf)) (a .len) (a .a ∷ a .b ∷ a .c ∷ a .d ∷ []) (a .len + 16 - a .len) (omega arith) (c .before .before .before .before .before .pre) (c .before .before .write-four .ensures), refl)
+    (part-written (now (a .buf)) (a .len) (a .a ∷ a .b ∷ a .c ∷ a .d ∷ []) (a .len + 16 - a .len) (omega arith) (omega arith) (c .before .before .before .before .before .pre) (c .before .before .write-four .ensures), refl)
 
 pub put-four-spec : {M : Type 1} → statement M
 put-four-spec =

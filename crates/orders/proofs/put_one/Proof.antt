@@ -11,7 +11,7 @@ use Rattle.orders.proofs.put_one.Tie as tie
 returns : tie.Need-returns
 returns c =
     let a = c .before .before .before .before .before .args in
-    (part-written (now (a .buf)) (a .len) (a .a ∷ []) (a .len + 4 - a .len) (omega arith) (c .before .before .before .before .before .pre) (c .before .before .write-word .ensures), refl)
+    (part-written (now (a .buf)) (a .len) (a .a ∷ []) (a .len + 4 - a .len) (omega arith) (omega arith) (c .before .before .before .before .before .pre) (c .before .before .write-word .ensures), refl)
 
 pub put-one-spec : {M : Type 1} → statement M
 put-one-spec =
