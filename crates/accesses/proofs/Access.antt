@@ -7,7 +7,6 @@ use native.Mathlib.Omega.{arith}
 use borrow.Author.Tests.{ltb-true, ltb-false}
 use lib.Dec.{T, eqb, ltb, leb, leb→le, le→leb}
 use lib.IntN.{pos}
-use lib.ListN.{length}
 use Rattle.isa.specs.Instr.{Instr, R, I, S, ADD, LD, FLD, FSD}
 use Rattle.machine.specs.Word.{w64, upd, load8, store8}
 use Rattle.machine.specs.Floats.{Floats}

@@ -7,7 +7,6 @@ use native.Mathlib.Omega.{arith}
 use borrow.Author.Tests.{ltb-true, eqb-false}
 use lib.Dec.{T, eqb, ltb, ltb→lt}
 use lib.IntN.{ℤ, pos}
-use lib.ListN.{length}
 use lib.Signed.{mag}
 use Rattle.isa.specs.Immediate.{twos, hi, lo}
 use Rattle.isa.specs.Instr.{Instr, I, U, ADDI, LUI}

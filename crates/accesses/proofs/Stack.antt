@@ -7,7 +7,6 @@ use native.Mathlib.Omega.{arith}
 use borrow.Author.Tests.{ltb-true}
 use lib.Dec.{T, ltb, leb, leb→le, le→leb, lt→ltb}
 use lib.IntN.{ℤ, pos, negℤ}
-use lib.ListN.{length}
 use Rattle.isa.specs.Immediate.{twos}
 use Rattle.isa.specs.Instr.{Instr, Valid, R, I, ADD, SUB, ADDI}
 use Rattle.machine.specs.Word.{w64, upd}

@@ -240,11 +240,11 @@ module _ (Q : Floats) (p : Program) (g : Good p) (s : State) (o : Sound s) (c : 
   Same y = v .x y ≡ s .x y
 
   registers : (F : Frame) → ((i : ℕ) → i < length (kept F) → v .x (getD (kept F) i 0) ≡ s .x (getD (kept F) i 0)) → ((y : ℕ) → T (not (end-sets F y)) → v .x y ≡ u .x y) → ((y : ℕ) → T (not (sets F y)) → first .x y ≡ s .x y) → All Same callers
-  registers Fast a b d = (a 0 (lit< tt), (w .sp, (on 3 tt tt tt, (on 4 tt tt tt, (a 1 (lit< tt), (a 2 (lit< tt), (on 18 tt tt tt, (on 19 tt tt tt, (on 20 tt tt tt, (a 3 (lit< tt), (on 22 tt tt tt, (on 23 tt tt tt, (on 24 tt tt tt, (on 25 tt tt tt, (on 26 tt tt tt, (on 27 tt tt tt, tt))))))))))))))))
+  registers Fast a b d = (a 0 (lit< tt), (w .sp, (on _ tt tt tt, (on _ tt tt tt, (a 1 (lit< tt), (a 2 (lit< tt), (on _ tt tt tt, (on _ tt tt tt, (on _ tt tt tt, (a 3 (lit< tt), (on _ tt tt tt, (on _ tt tt tt, (on _ tt tt tt, (on _ tt tt tt, (on _ tt tt tt, (on _ tt tt tt, tt))))))))))))))))
     where
       on : (y : ℕ) → T (not (end-sets Fast y)) → T (lasting y) → T (not (sets Fast y)) → Same y
       on y e f k = b y e ∙ h .regs y f ∙ d y k
-  registers Indirect a b d = (a 0 (lit< tt), (w .sp, (on 3 tt tt tt, (on 4 tt tt tt, (a 1 (lit< tt), (a 2 (lit< tt), (a 3 (lit< tt), (a 4 (lit< tt), (a 5 (lit< tt), (a 6 (lit< tt), (on 22 tt tt tt, (on 23 tt tt tt, (on 24 tt tt tt, (on 25 tt tt tt, (on 26 tt tt tt, (on 27 tt tt tt, tt))))))))))))))))
+  registers Indirect a b d = (a 0 (lit< tt), (w .sp, (on _ tt tt tt, (on _ tt tt tt, (a 1 (lit< tt), (a 2 (lit< tt), (a 3 (lit< tt), (a 4 (lit< tt), (a 5 (lit< tt), (a 6 (lit< tt), (on _ tt tt tt, (on _ tt tt tt, (on _ tt tt tt, (on _ tt tt tt, (on _ tt tt tt, (on _ tt tt tt, tt))))))))))))))))
     where
       on : (y : ℕ) → T (not (end-sets Indirect y)) → T (lasting y) → T (not (sets Indirect y)) → Same y
       on y e f k = b y e ∙ h .regs y f ∙ d y k

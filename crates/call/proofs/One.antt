@@ -1,14 +1,14 @@
 -- The plain reading is one. Assumes nothing.
 use mathlib.Core.Path.{_≡_, refl, ap, sym, subst, _∙_}
 use mathlib.Core.List.{List, [], _∷_}
-use mathlib.Core.Option.{Option, some, none}
+use mathlib.Core.Option.{Option, some}
 use Prim.Native.Nat.{ℕ, zero, suc, _+_, _≤_}
 use native.Mathlib.Omega.{arith}
 use lib.ListN.{length, getElem?}
 use Rattle.machine.specs.Floats.{Floats}
-use Rattle.reading.specs.Line.{Line, order, constant, weight}
+use Rattle.reading.specs.Line.{Line, weight}
 use Rattle.call.specs.Program.{Program}
-use Rattle.call.specs.Plain.{Reading, means, with-meaning, passed, Step, does, passes, Reads, none-read, line-read, Ended, OneReading}
+use Rattle.call.specs.Plain.{Reading, means, with-meaning, Step, does, passes, Reads, none-read, line-read, Ended, OneReading}
 
 beyond : (ls : List Line) (i : ℕ) (l : Line) → length ls ≤ i → getElem? ls i ≡ some l → ⊥
 beyond [] i l h e = let z : _≡_ {A = ℕ} 0 1 = cc in omega arith

@@ -1,6 +1,6 @@
 -- What an accepted file has (document 01, "Numbers of refusal" and "Count"), as far as a call rests on it.
 use mathlib.Core.Path.{_≡_}
-use mathlib.Core.Bool.{Bool, true, false, not, _&&_, _||_, cond}
+use mathlib.Core.Bool.{Bool, true, not, _&&_, _||_, cond}
 use mathlib.Core.List.{List, [], _∷_, map}
 use mathlib.Core.Option.{some, IsSome}
 use Prim.Native.Nat.{ℕ, _^_, _≤_, _<_}
