@@ -1,5 +1,5 @@
 // The record lent by `&mut`, as the Rust's `&mut self`: each function takes it apart, calls the covered function, and stores what came back.
-// `emit` serves every order and `lay_access` every access; `tag` is the caller's own number, kept with each jump.
+// `emit` serves every order and `lay_access` every access; `tag` is the caller's own number, kept with each jump. `through` lends to `emit`.
 ghost use mathlib.Core.Path.{_≡_};
 ghost use mathlib.Core.List.{[], _∷_};
 ghost use Rattle.assembler.specs.Item.{raw, label, jump as jump-item};

@@ -31,7 +31,7 @@ fn order(r: Row) -> Order {
 
 fn single(
     r: Row,
-    buf: &mut [u8; 65536],
+    buf: &mut [u8],
     labels: &mut [u64; 2039],
     jumps: &mut [u32; 20480],
     asm: Asm,
@@ -50,7 +50,7 @@ fn single(
 
 fn binary(
     r: Row,
-    buf: &mut [u8; 65536],
+    buf: &mut [u8],
     labels: &mut [u64; 2039],
     jumps: &mut [u32; 20480],
     asm: Asm,
@@ -71,7 +71,7 @@ fn binary(
 
 fn fused(
     r: Row,
-    buf: &mut [u8; 65536],
+    buf: &mut [u8],
     labels: &mut [u64; 2039],
     jumps: &mut [u32; 20480],
     asm: Asm,
@@ -87,7 +87,7 @@ fn fused(
 
 fn located(
     r: Row,
-    buf: &mut [u8; 65536],
+    buf: &mut [u8],
     labels: &mut [u64; 2039],
     jumps: &mut [u32; 20480],
     asm: Asm,
@@ -101,7 +101,7 @@ fn located(
 
 fn cell(
     r: Row,
-    buf: &mut [u8; 65536],
+    buf: &mut [u8],
     labels: &mut [u64; 2039],
     jumps: &mut [u32; 20480],
     asm: Asm,
@@ -120,7 +120,7 @@ fn cell(
 // Cells of an odd index by location, which is how parameters are stored.
 fn loaded_or_saved(
     r: Row,
-    buf: &mut [u8; 65536],
+    buf: &mut [u8],
     labels: &mut [u64; 2039],
     jumps: &mut [u32; 20480],
     asm: Asm,
@@ -133,7 +133,7 @@ fn loaded_or_saved(
 
 fn by_name(
     r: Row,
-    buf: &mut [u8; 65536],
+    buf: &mut [u8],
     labels: &mut [u64; 2039],
     jumps: &mut [u32; 20480],
     asm: Asm,
@@ -154,7 +154,7 @@ fn by_name(
 // By name where the first operand is even, else over the lent record.
 pub(crate) fn ordered(
     r: Row,
-    buf: &mut [u8; 65536],
+    buf: &mut [u8],
     labels: &mut [u64; 2039],
     jumps: &mut [u32; 20480],
     asm: Asm,

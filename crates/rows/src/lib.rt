@@ -170,7 +170,7 @@ fn count(t: Tally, o: Outcome) -> Tally
     u
 }
 
-// Prints a number, and what is counted by it.
+// Prints a number, and what is counted by it. It promises nothing: no contract can say what is written.
 pub fn say(n: u64, what: &[u8]) {
     io::print_decimal(STDOUT, n);
     io::write_all(STDOUT, what);

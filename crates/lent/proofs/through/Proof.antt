@@ -236,8 +236,13 @@ module _ {M : Type 1} (𝓤 : URA M) (H : Heap 𝓤) (A : Atoms 𝓤) (W : Given
 
   meets : (𝓣 : Tables 𝓤 H) → Triple 𝓤 (𝓣 .C callee-def.name) (Callee 𝓤 H A at-mem run) → Meets 𝓤 H A own.signature (WpFn 𝓤 H (𝓣 .C) (𝓣 .Λ) code.function) (own.spec 𝓤 H A at-mem run)
   meets 𝓣 known =
-      walk-meets 𝓤 H A own.ended stayed W
-      (goes-dropped 𝓤 H A W 3 (plain (λ _. TO.the-row)) yes (λ κs x w. ordered .silent x w), (goes-dropped 𝓤 H A W 3 (plain (λ _. u32)) yes (λ κs x w. refl), (goes-gave-slice 𝓤 H A W 3 0 tt (plain (λ _. u8)), (goes-gave-ref 𝓤 H A W 3 1 tt labels-slot, (goes-gave-ref 𝓤 H A W 3 2 tt jumps-slot, (goes-dropped 𝓤 H A W 3 (plain (λ _. TA.the-row)) yes (λ κs x w. recorded .silent x w), tt)))))) (own.clauses 𝓤 H A at-mem run)
+      walk-meets 𝓤 H A own.ended stayed W (
+        goes-dropped 𝓤 H A W 3 (plain (λ _. TO.the-row)) yes (λ κs x w. ordered .silent x w),
+        (
+          goes-dropped 𝓤 H A W 3 (plain (λ _. u32)) yes (λ κs x w. refl),
+          (goes-gave-slice 𝓤 H A W 3 0 tt (plain (λ _. u8)), (goes-gave-ref 𝓤 H A W 3 1 tt labels-slot, (goes-gave-ref 𝓤 H A W 3 2 tt jumps-slot, (goes-dropped 𝓤 H A W 3 (plain (λ _. TA.the-row)) yes (λ κs x w. recorded .silent x w), tt)))),
+        ),
+      ) (own.clauses 𝓤 H A at-mem run)
       (WpFn 𝓤 H (𝓣 .C) (𝓣 .Λ) code.function) (WpFn-mono 𝓤 H (W .laws) 𝓣 code.function) (walks (𝓣 .C) (𝓣 .Λ) (fmOf 𝓤 H (W .laws) 𝓣) known)
 
 pub through-spec : {M : Type 1} → stated.statement M
