@@ -1,4 +1,4 @@
--- DEMAND 3, proved: prologue and saves, the body, reloads and epilogue, one behind another. Assumes nothing.
+-- A call of a program's words: prologue and saves, the body, reloads and epilogue, one behind another. Assumes nothing.
 use mathlib.Core.Path.{_≡_, refl, ap, sym, subst, _∙_}
 use mathlib.Core.Logic.{_⊎_, inl, inr}
 use mathlib.Core.Bool.{Bool, true, false, not, _||_, cond}

@@ -34,9 +34,16 @@ Byte-of a x = (k : ℕ) × (k < 8) × (x ≡ w64 (a + k))
 abbrev pub Observation : Head → State → ℕ → Type 0
 Observation H s x = T (table-used H s) × (i : ℕ) × (i < H .obs) × Byte-of (table-cell H s (H .states + i)) x
 
--- The call from s comes back: n orders were read, and the reading ended at r. The code has so many bytes.
--- The twin of document 01 is s with pc at ra. It has skipped the call; so what the twin has is what s has, and each equation of `end` with s says that
--- the two share it.
+-- each cell that has the byte x holds at the reading's end r what it held at the call
+abbrev pub Unchanged : Head → State → Reading → ℕ → Type 0
+Unchanged H s r x =
+    (q : Place) (i : ℕ)
+    → i < cell-count H q
+    → Byte-of (cell-address H s q i) x
+    → r .cells q i ≡ as-called H s q i
+
+-- The call from s, whose code has so many bytes, comes back: n orders were read, and the reading ended at r.
+-- The twin of document 01 is s with pc at ra: it has skipped the call. Each equation of `end` with s below says that the two share it.
 pub record Returned (Q : Floats) (p : Program) (code-bytes : ℕ) (s : State) (n : ℕ) (r : Reading) : Type 0 where
   -- a run to the end, which is a machine's state
   pub count : ℕ
@@ -58,9 +65,12 @@ pub record Returned (Q : Floats) (p : Program) (code-bytes : ℕ) (s : State) (n
       → x < 2 ^ 64
       → (Within (frame (p .head) s) x → ⊥)
       → (Observation (p .head) s x → ⊥)
-      → ((q : Place) (i : ℕ) → i < cell-count (p .head) q → Byte-of (cell-address (p .head) s q i) x → r .cells q i ≡ as-called (p .head) s q i)
+      → Unchanged (p .head) s r x
       → end .mem x ≡ s .mem x
   -- the plain reading's at its end: cells, fa0 in a fast frame, observation cells
-  pub cells : (q : Place) (i : ℕ) → i < cell-count (p .head) q → load8 (end .mem) (cell-address (p .head) s q i) ≡ r .cells q i
+  pub cells :
+      (q : Place) (i : ℕ)
+      → i < cell-count (p .head) q
+      → load8 (end .mem) (cell-address (p .head) s q i) ≡ r .cells q i
   pub fa0 : p .head .frame ≡ Fast → end .f 10 ≡ r .cells Mem (p .head .last)
   pub obs : (x : ℕ) → Observation (p .head) s x → end .mem x ≡ end-obs (p .head) s r x
