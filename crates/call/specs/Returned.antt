@@ -43,7 +43,7 @@ Unchanged H s r x =
     → r .cells q i ≡ as-called H s q i
 
 -- The call from s, whose code has so many bytes, comes back: n orders were read, and the reading ended at r.
--- The twin of document 01 is s with pc at ra: it has skipped the call. Each equation of `end` with s below says that the two share it.
+-- Its twin is the machine that has skipped the call: s with pc at ra. Each equation of `end` with s below says that the two share it.
 pub record Returned (Q : Floats) (p : Program) (code-bytes : ℕ) (s : State) (n : ℕ) (r : Reading) : Type 0 where
   -- a run to the end, which is a machine's state
   pub count : ℕ
