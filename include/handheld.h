@@ -74,8 +74,7 @@ size_t deck_text(const uint8_t *file, size_t file_length, uint8_t *out, size_t o
    memory may hold anything.
 
    An entry of label memory: its low half is 0 while the label has no place, else the place + 1; its high
-   half is 0. order_finish refuses with DECK_VALUE where any entry has another high half, or a place
-   beyond the length or at no multiple of 4.
+   half is 0. What order_finish refuses of it stands there.
 
    A record is DECK_VALUE too where its length exceeds the buffer or DECK_ROOM, or is no multiple of 4, or
    where there are more than 4,096 jumps. */
@@ -104,9 +103,12 @@ uint32_t order_emit(const uint8_t *line, size_t line_length, uint32_t tag, uint8
 uint32_t order_constant(const uint8_t *line, size_t line_length, uint32_t k, uint8_t *buf, size_t buf_length,
                         uint64_t labels[DECK_LABELS], uint32_t jumps[DECK_JUMPS], uint64_t record[ORDER_RECORD]);
 
-/* Every jump's word, and the record closed; a refusal changes neither. told: the place of the refusal
-   in bytes, and the tag of the jump that it is about; both 0 where it is about none. Answers the
-   number. */
+/* Every jump's word, and the record closed. Refused with the first of these that holds, which changes
+   nothing: DECK_CLOSED; DECK_VALUE (the record; a label entry whose high half is not 0, or whose place is
+   beyond the length or at no multiple of 4; a jump whose word is not in the code or at no multiple of 4,
+   whose register is above 31, whose label is above 2,038 or whose kind is none); DECK_UNSET for the first
+   jump whose label has no place; DECK_FAR. told: for DECK_UNSET and DECK_FAR the byte offset of the
+   jump's word and its tag, else 0 and 0. Answers the number. */
 uint32_t order_finish(uint8_t *buf, size_t buf_length, const uint64_t labels[DECK_LABELS],
                       const uint32_t jumps[DECK_JUMPS], uint64_t record[ORDER_RECORD], uint32_t told[2]);
 

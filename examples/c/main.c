@@ -32,7 +32,7 @@ static void words(const uint8_t *at, size_t length) {
         printf("%zu,%02x%02x%02x%02x\n", i, at[i + 3], at[i + 2], at[i + 1], at[i]);
 }
 
-/* Lays a line's order, with its own number among the lines as the tag. */
+/* Lays a line's order, with a tag for its jumps. */
 static void lay(const char *line, uint32_t tag, uint64_t record[ORDER_RECORD]) {
     uint32_t number = order_emit((const uint8_t *)line, strlen(line), tag, code, sizeof code, labels, jumps, record);
     printf("%" PRIu32 " %s", number, line);

@@ -277,7 +277,7 @@ fn allocate_stack_plan(n: u32) -> Plan
 
 // ---- placed: all words, or a refusal and nothing
 
-// A plan whose operands have a fault, or none.
+// The plan placed; or, where there is a fault, refused for that.
 fn settle(
     fault: Fault,
     p: Plan,

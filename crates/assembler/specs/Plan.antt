@@ -105,13 +105,15 @@ plan-fault p t = earlier (fault-number (p .fault)) (tail-fault t)
 abbrev pub no-words : Plan
 no-words = record { n = 0; fault = Fault.Nothing; w = replicate 12 0 }
 
+-- with a fault more
+abbrev pub faulty : Plan → Fault → Plan
+faulty p f = record { n = p .n; fault = first-of (p .fault) f; w = p .w }
+
 -- One instruction more; a 13th word is a fault.
 unfoldable pub pushed : Plan → Encoded → Plan
 pushed p (Word x) =
-    cond (ltb (p .n) 12)
-    (record { n = p .n + 1; fault = p .fault; w = set (p .w) (p .n) x })
-    (record { n = p .n; fault = first-of (p .fault) Fault.Value; w = p .w })
-pushed p (Refused r place) = record { n = p .n; fault = first-of (p .fault) (refusal-fault r); w = p .w }
+    cond (ltb (p .n) 12) (record { n = p .n + 1; fault = p .fault; w = set (p .w) (p .n) x }) (faulty p Fault.Value)
+pushed p (Refused r place) = faulty p (refusal-fault r)
 
 -- ---- labels that a whole would set
 

@@ -14,7 +14,7 @@ ghost use Rattle.assembler.specs.Bytes.{written, room};
 ghost use Rattle.assembler.specs.Label.{is-set, place-of, with-place};
 ghost use Rattle.assembler.specs.State.{state, outcome, told, sound, fits};
 ghost use Rattle.assembler.specs.Put.{twice, verdict, with-jump, placed, settled, put};
-ghost use Rattle.assembler.specs.Plan.{rank, earlier, fault-number, first-of, refusal-fault, label-fault, jump-fault, tail-items, tail-fault, plan-items, plan-fault, no-words, pushed, labels-of, sets-fault};
+ghost use Rattle.assembler.specs.Plan.{rank, earlier, fault-number, first-of, refusal-fault, label-fault, jump-fault, tail-items, tail-fault, plan-items, plan-fault, no-words, faulty, pushed, labels-of, sets-fault};
 ghost use Rattle.assembler.specs.Constant.{constant-bits, quad, constant-items, constant-fault, told-size, aligned};
 use encoder::Encoded;
 use order::Constant;
@@ -539,34 +539,35 @@ pub fn no_plan() -> Plan
     }
 }
 
+// A plan with one fault more.
+fn with_fault(p: Plan, f: Fault) -> Plan
+    ensures { λ r. ⌜ r ≡ faulty p f ⌝ }
+{
+    let own = p.fault;
+    let w = p.w;
+    Plan {
+        n: p.n,
+        fault: first_fault(own, f),
+        w,
+    }
+}
+
 // One instruction more.
 pub fn push(p: Plan, e: Encoded) -> Plan
     ensures { λ r. ⌜ r ≡ pushed p e ⌝ }
 {
-    let n = p.n;
-    let f = p.fault;
-    let mut w = p.w;
     match e {
         Encoded::Word(x) => {
+            let n = p.n;
             if n < 12 {
-                w[n] = x;
-                return Plan {
-                    n: n + 1,
-                    fault: f,
-                    w,
-                };
+                let mut next = p;
+                next.w[n] = x;
+                next.n = n + 1;
+                return next;
             }
-            Plan {
-                n,
-                fault: first_fault(f, Fault::Value),
-                w,
-            }
+            with_fault(p, Fault::Value)
         }
-        Encoded::Refused(r, _) => Plan {
-            n,
-            fault: first_fault(f, fault_for(r)),
-            w,
-        },
+        Encoded::Refused(r, _) => with_fault(p, fault_for(r)),
     }
 }
 
@@ -663,22 +664,22 @@ fn taken(s: Sets, labels: &[u64; 2039]) -> bool
     }
 }
 
-// Asked before a whole is placed part by part: whether it is refused, over a buffer of n bytes. Nothing changes.
+// Asked before a whole is placed part by part: whether it is refused. Nothing changes.
 // The whole is these labels and so many words and jumps: 4 is for the labels, and 7 for those counts exactly.
 pub fn ask(
     fault: Fault,
     sets: Sets,
     words: usize,
     jumps: usize,
-    n: usize,
+    buf: &[u8],
     labels: &[u64; 2039],
     asm: Asm,
 ) -> Done
-    ensures { λ r. ⌜ ((js b : List ℕ) → outcome r (now (labels .entry)) js b ≡ settled (verdict (earlier (fault-number fault) (sets-fault (labels-of sets))) (twice (now (labels .entry)) (labels-of sets)) words jumps n asm) (state asm (now (labels .entry)) js b) (state asm (now (labels .entry)) js b)) ⌝ }
+    ensures { λ r. ⌜ ((js : List ℕ) → outcome r (now (labels .entry)) js (now (buf .entry)) ≡ settled (verdict (earlier (fault-number fault) (sets-fault (labels-of sets))) (twice (now (labels .entry)) (labels-of sets)) words jumps (length (now (buf .entry))) asm) (state asm (now (labels .entry)) js (now (buf .entry))) (state asm (now (labels .entry)) js (now (buf .entry)))) ⌝ }
 {
     let f = first_number(fault_number(fault), fault_of_sets(sets));
     let t = taken(sets, labels);
-    let k = number(f, t, words, jumps, n, asm);
+    let k = number(f, t, words, jumps, buf.len(), asm);
     if k != 0 {
         return refused_with(k, asm);
     }

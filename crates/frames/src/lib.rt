@@ -71,7 +71,7 @@ fn begin(
     requires { ⌜ sets-fault (labels-of sets) ≡ 0 ⌝ }
     ensures { λ r. ⌜ outcome r (now (labels .exit)) (now (jumps .exit)) (now (buf .exit)) ≡ settled (verdict (fault-number fault) (twice (now (labels .entry)) (labels-of sets)) words count (length (now (buf .entry))) asm) (state asm (now (labels .entry)) (now (jumps .entry)) (now (buf .entry))) (state asm (now (labels .entry)) (now (jumps .entry)) (now (buf .entry))) ⌝ }
 {
-    assembler::ask(fault, sets, words, count, buf.len(), labels, asm)
+    assembler::ask(fault, sets, words, count, buf, labels, asm)
 }
 
 fn accepted(d: Done) -> bool
@@ -126,7 +126,7 @@ fn used_word(r: u32, back: bool) -> u32
     accesses::word(encoder::fsd(r, STACK, n as i32))
 }
 
-// How many registers a mask saves: f8, f9 and f18..f27 are its bits.
+// How many registers a mask saves: its ones among the bits of f8, f9 and f18..f27.
 fn used_count(mask: u32) -> usize
     ensures { λ n. ⌜ (n ≡ length (saved-of mask)) × (n ≤ 12) ⌝ }
 {

@@ -26,8 +26,8 @@ use Rattle.handheld.specs.declared.Said.the-variants as Said
 
 -- ---- what a line says
 
--- "A well-formed number too big for its field has that field's refusal": a number in 32 bits; their largest for any larger one,
--- since that is too big for a register, a label, and the index of a constant or a cell
+-- A number in 32 bits; their largest for any larger one, which is too big for a register, a label, and the index of a constant or a cell.
+-- So the order's own refusal is "that field's refusal"; for a cell, which has no count here, that is 2, as for any offset.
 abbrev pub field : Number → ℕ
 field (Value n) = cond (leb n 4294967295) n 4294967295
 field TooBig = 4294967295

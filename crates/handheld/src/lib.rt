@@ -110,7 +110,7 @@ pub enum Said {
     Other,
 }
 
-// A number in 32 bits; their largest for any larger one, since no field takes that.
+// A number in 32 bits; their largest for any larger one, since no field of an order takes that.
 fn field(n: Number) -> u32
     ensures { λ r. ⌜ r ≡ field-of n ⌝ }
 {

@@ -1,4 +1,4 @@
-// The record lent by `&mut`, as the Rust's `&mut self`: each function takes it apart, calls the covered function, and stores what came back.
+// The record lent by `&mut`, as the Rust's `&mut self`: each function over it takes it apart, calls the covered function, and stores what came back.
 // `emit` serves every order and `lay_access` every access; `tag` is the caller's own number, kept with each jump. `through` lends to `emit`.
 ghost use mathlib.Core.Path.{_≡_};
 ghost use mathlib.Core.List.{[], _∷_};

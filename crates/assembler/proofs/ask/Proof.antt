@@ -2,6 +2,7 @@ use mathlib.Core.Path.{_≡_, sym, ap, ap₂, _∙_}
 use Prim.Native.Nat.{ℕ, _≤_}
 use native.Mathlib.Omega.{arith}
 use denote.Ref.{now}
+use lib.ListN.{length}
 use borrow.Author.Needs.{needs}
 use Rattle.assembler.specs.State.{state}
 use Rattle.assembler.specs.Put.{twice, verdict, settled}
@@ -19,28 +20,28 @@ number-requires c κs =
     rw (c .before .first-number .ensures) (earlier-small _ _ 12 (s .before .fault-number .ensures .1) t)
 
 -- the number is the whole's
-told : (c : tie.After-number) → let a = c .before .before .before .before .before .args in
-    c .number .result ≡ verdict (earlier (fault-number (a .fault)) (sets-fault (labels-of (a .sets)))) (twice (now (a .labels)) (labels-of (a .sets))) (a .words) (a .jumps) (a .n) (a .asm)
+told : (c : tie.After-number) → let a = c .before .before .before .before .before .before .args in
+    c .number .result ≡ verdict (earlier (fault-number (a .fault)) (sets-fault (labels-of (a .sets)))) (twice (now (a .labels)) (labels-of (a .sets))) (a .words) (a .jumps) (length (now (a .buf))) (a .asm)
 told c =
     let s = c .before .before .before in
-    let a = s .before .before .args in
+    let a = s .before .before .before .args in
     let f = c .before .before .first-number .ensures ∙ ap₂ earlier (s .before .fault-number .ensures .0) (s .fault-of-sets .ensures .0) in
     c .number .ensures .0
-    ∙ ap (λ (k : ℕ). verdict k (c .before .taken .result) (a .words) (a .jumps) (a .n) (a .asm)) f
-    ∙ asked (a .fault) (labels-of (a .sets)) _ _ (a .words) (a .jumps) (a .n) (a .asm) (c .before .taken .ensures)
+    ∙ ap (λ (k : ℕ). verdict k (c .before .taken .result) (a .words) (a .jumps) (length (now (a .buf))) (a .asm)) f
+    ∙ asked (a .fault) (labels-of (a .sets)) _ _ (a .words) (a .jumps) (length (now (a .buf))) (a .asm) (c .before .taken .ensures)
 
 returns : tie.Need-returns
-returns c js b =
+returns c js =
     let n = c .before .before in
-    let a = n .before .before .before .before .before .args in
-    let s = state (a .asm) (now (a .labels)) js b in
+    let a = n .before .before .before .before .before .before .args in
+    let s = state (a .asm) (now (a .labels)) js (now (a .buf)) in
     settled-refused s s (c .refused-with .result) (n .number .result) _ (told n) (c .before .if1 .taken) (c .refused-with .ensures)
 
 returns-2 : tie.Need-returns-2
-returns-2 c js b =
+returns-2 c js =
     let n = c .before in
-    let a = n .before .before .before .before .before .args in
-    let s = state (a .asm) (now (a .labels)) js b in
+    let a = n .before .before .before .before .before .before .args in
+    let s = state (a .asm) (now (a .labels)) js (now (a .buf)) in
     sym (ap (λ (k : ℕ). settled k s s) (sym (told n) ∙ c .if1 .left) ∙ settled-yes s s)
 
 pub ask-spec : {M : Type 1} → statement M

@@ -12,10 +12,10 @@ use Rattle.frames.proofs.begin.Tie as tie
 
 returns : tie.Need-returns
 returns c =
-    let a = c .before .before .before .args in
+    let a = c .before .before .before .before .args in
     let s = state (a .asm) (now (a .labels)) (now (a .jumps)) (now (a .buf)) in
-    let f : earlier (fault-number (a .fault)) (sets-fault (labels-of (a .sets))) ≡ fault-number (a .fault) = rw (c .before .before .before .pre) (earlier-none (a .fault)) in
-    c .ask .ensures (now (a .jumps)) (now (a .buf)) ∙ ap (λ (k : ℕ). settled (verdict k (twice (now (a .labels)) (labels-of (a .sets))) (a .words) (a .count) (length (now (a .buf))) (a .asm)) s s) f
+    let f : earlier (fault-number (a .fault)) (sets-fault (labels-of (a .sets))) ≡ fault-number (a .fault) = rw (c .before .before .before .before .pre) (earlier-none (a .fault)) in
+    c .ask .ensures (now (a .jumps)) ∙ ap (λ (k : ℕ). settled (verdict k (twice (now (a .labels)) (labels-of (a .sets))) (a .words) (a .count) (length (now (a .buf))) (a .asm)) s s) f
 
 pub begin-spec : {M : Type 1} → statement M
-begin-spec = tie.close (tie.spec (λ c κs. search needs) returns)
+begin-spec = tie.close (tie.spec (λ c κs. search needs) (λ c. search needs) returns)
