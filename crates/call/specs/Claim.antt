@@ -1,4 +1,5 @@
--- What a call of a program's words does: the theorem over programs, on which that over files (crate handover) rests. Proved in `proofs`, module Call.
+-- What a call of a program's words does: the theorem over programs, on which that over files (crate handover) rests.
+-- Proved in `proofs`, module Call.
 use Prim.Native.Nat.{ℕ}
 use Rattle.machine.specs.Floats.{Floats}
 use Rattle.machine.specs.State.{State, Sound}

@@ -16,8 +16,8 @@ use Rattle.reading.specs.Meaning.{Exit, on, to, Written, Meaning, meaning}
 use Rattle.reading.specs.Line.{Line, order, constant, weight}
 use Rattle.call.specs.Program.{Program, constants, label-line}
 
--- "It keeps a line, the float registers, the rounding mode, the cells of `mem`, `stack` and `param`, and the bytes of the observation cells."
--- Those bytes stand at their addresses.
+-- "It keeps a line, the float registers, the rounding mode, the cells of `mem`, `stack` and `param`, and the bytes of the observation
+-- cells." Those bytes stand at their addresses.
 pub record Reading : Type 0 where
   pub line : ℕ
   pub f : ℕ → ℕ
