@@ -9,7 +9,7 @@ use borrow.Author.Tests.{ltb-true, le-leb}
 use lib.ListN.{replicate}
 use Rattle.refusal.specs.Answer.{Answer, accepted, refused}
 use Rattle.refusal.specs.declared.Refusal.{Refusal}
-use Rattle.refusal.specs.declared.Refusal.the-variants.{Value as Valued, Count}
+use Rattle.refusal.specs.declared.Refusal.the-variants.{Register, Value as Valued, Count}
 use Rattle.order.specs.declared.Head.{Head}
 use Rattle.order.specs.declared.Order.{Order}
 use Rattle.order.specs.declared.Constant.{Constant}
@@ -93,6 +93,13 @@ four a b c d e =
     let r = and-true (below 32 c) (below 32 d) (q .1) in
     (field-is 32 a (omega arith) (p .0), field-is 32 b (omega arith) (q .0), field-is 32 c (omega arith) (r .0), field-is 32 d (omega arith) (r .1))
 
+-- a register, and a last field below k
+with-last : (k : ℕ) (d i : Number) (r : Refusal) (a : Answer Content) (o : Order) → k ≤ 4294967296 → demand (below 32 d) Register (demand (below k i) r a) ≡ accepted (order o) → (field d ≡ value d) × (field i ≡ value i) × (a ≡ accepted (order o))
+with-last k d i r a o h e =
+    let p = passed _ _ _ o e in
+    let q = passed _ _ _ o (p .1) in
+    (field-is 32 d (omega arith) (p .0), field-is k i h (q .0), q .1)
+
 pub same-order : (f : Form) (o : Order) → judged f ≡ accepted (order o) → says f ≡ Said.Order o
 unfolding judged says
 same-order (Form.Head f c s n l m) o e =
@@ -119,25 +126,17 @@ same-order (Form.Ifelse d s t i) o e =
     let r = passed _ _ _ o (p .1) in
     rw (q .1, q .2, q .3, field-is 4096 i (omega arith) (r .0)) (ap said (r .1))
 same-order (Form.LoadConst d k) o e =
-    let p = passed _ _ _ o e in
-    let q = four (Value 0) (Value 0) (Value 0) d (p .0) in
-    let r = passed _ _ _ o (p .1) in
-    rw (q .3, field-is 1008 k (omega arith) (r .0)) (ap said (r .1))
+    let q = with-last 1008 d k _ _ o (omega arith) e in
+    rw (q .0, q .1) (ap said (q .2))
 same-order (Form.Load d w i) o e =
-    let p = passed _ _ _ o e in
-    let q = four (Value 0) (Value 0) (Value 0) d (p .0) in
-    let r = passed _ _ _ o (p .1) in
-    rw (q .3, field-is 4096 i (omega arith) (r .0)) (ap said (r .1))
+    let q = with-last 4096 d i _ _ o (omega arith) e in
+    rw (q .0, q .1) (ap said (q .2))
 same-order (Form.Save s w i) o e =
-    let p = passed _ _ _ o e in
-    let q = four (Value 0) (Value 0) (Value 0) s (p .0) in
-    let r = passed _ _ _ o (p .1) in
-    rw (q .3, field-is 4096 i (omega arith) (r .0)) (ap said (r .1))
+    let q = with-last 4096 s i _ _ o (omega arith) e in
+    rw (q .0, q .1) (ap said (q .2))
 same-order (Form.BranchIf c l w) o e =
-    let p = passed _ _ _ o e in
-    let q = four (Value 0) (Value 0) (Value 0) c (p .0) in
-    let r = passed _ _ _ o (p .1) in
-    rw (q .3, field-is 1024 l (omega arith) (r .0)) (ap said (r .1))
+    let q = with-last 1024 c l _ _ o (omega arith) e in
+    rw (q .0, q .1) (ap said (q .2))
 same-order (Form.SetLabel l) o e =
     let p = passed _ _ _ o e in
     rw (field-is 1024 l (omega arith) (p .0)) (ap said (p .1))
