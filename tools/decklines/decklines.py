@@ -1,7 +1,7 @@
 #!/usr/bin/env python3
-"""Makes the list of deck lines that the program `decklines` reads, and what the program must print.
+"""Makes the list of deck lines that the program `test_lines` reads, and what the program must print.
 
-    decklines.py [--out crates/decklines] [--check]
+    decklines.py [--out crates/test_lines] [--check]
 
 What is expected of a line is worked out here from document 01 ("The deck file", "Numbers of refusal"), by regular expressions.
 --check writes nothing, and fails where the files in --out differ from what is made.
@@ -183,7 +183,7 @@ def pairs():
 
 def main():
     p = argparse.ArgumentParser()
-    p.add_argument("--out", default="crates/decklines", type=pathlib.Path)
+    p.add_argument("--out", default="crates/test_lines", type=pathlib.Path)
     p.add_argument("--check", action="store_true")
     a = p.parse_args()
     r = random.Random(SEED)

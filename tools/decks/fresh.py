@@ -1,7 +1,7 @@
 #!/usr/bin/env python3
-"""Rows for the program `replaydecks` (record.py says what they are): fresh decks, good and bad ones, with the reference's answers.
+"""Rows for the program `test_decks` (record.py says what they are): fresh decks, good and bad ones, with the reference's answers.
 
-    fresh.py SEED COUNT | target/bin/replaydecks
+    fresh.py SEED COUNT | target/bin/test_decks
 
 Unlike `deckwords`, the program lends buffers of any size: one in five here isn't 65,536 bytes.
 """

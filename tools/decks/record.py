@@ -1,7 +1,7 @@
 #!/usr/bin/env python3
-"""Makes the list of decks that the program `replaydecks` reads, and what the program must print.
+"""Makes the list of decks that the program `test_decks` reads, and what the program must print.
 
-    record.py RUSTDIR [--out crates/replaydecks] [--check]
+    record.py RUSTDIR [--out crates/test_decks] [--check]
 
 Accepted decks come from accepted.py; their words are the Rust's, built unchanged from RUSTDIR behind tools/oracle's driver. The Rust's `sign`
 has other words than document 01's (docs/DIFFERENCES.md): where a deck has the order, the driver has document 01's words for it, and the deck's
@@ -135,7 +135,7 @@ def made(rust_folder):
 def main():
     parser = argparse.ArgumentParser(description=__doc__, formatter_class=argparse.RawDescriptionHelpFormatter)
     parser.add_argument("rust", metavar="RUSTDIR")
-    parser.add_argument("--out", default="crates/replaydecks", type=pathlib.Path)
+    parser.add_argument("--out", default="crates/test_decks", type=pathlib.Path)
     parser.add_argument("--check", action="store_true")
     given = parser.parse_args()
     rows, printed, set_apart = made(given.rust)

@@ -1,7 +1,7 @@
 #!/usr/bin/env python3
-"""Records the Rust's answers: the list that the program `replay` reads, and what the program must print.
+"""Records the Rust's answers: the list that the program `test_functions` reads, and what the program must print.
 
-    record.py RUSTDIR [--out crates/replay] [--check] [--differences]
+    record.py RUSTDIR [--out crates/test_functions] [--check] [--differences]
 
 RUSTDIR has the Rust's files as they are (riscv64/mod.rs, riscv64/macros.rs, assembler.rs, utils.rs, config.rs, symbol.rs, code.rs). They are
 compiled unchanged with rustc (the list was made with 1.95.0) behind the driver in this folder, twice: with overflow checks and optimized.
@@ -178,7 +178,7 @@ def differences(programs):
 def main():
     parser = argparse.ArgumentParser(description=__doc__, formatter_class=argparse.RawDescriptionHelpFormatter)
     parser.add_argument("rust", metavar="RUSTDIR")
-    parser.add_argument("--out", default="crates/replay")
+    parser.add_argument("--out", default="crates/test_functions")
     parser.add_argument("--check", action="store_true")
     parser.add_argument("--differences", action="store_true")
     given = parser.parse_args()

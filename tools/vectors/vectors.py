@@ -1,7 +1,7 @@
 #!/usr/bin/env python3
-"""Makes the list that the program `vectors` replays, and what the program must print.
+"""Makes the list that the program `test_encoder` replays, and what the program must print.
 
-    vectors.py [--out crates/vectors] [--check] [--rust MACROS_RS]
+    vectors.py [--out crates/test_encoder] [--check] [--rust MACROS_RS]
 
 Words come from GNU as and ld (Debian's binutils-riscv64-linux-gnu); refusals from document 01. Each form of `rvv!` is assembled as the
 base instruction that document 01 means: `mv` as `add rd, rs1, zero`, `fgt.d` as `flt.d` with its operands exchanged, and so on.
@@ -282,7 +282,7 @@ def compare_rust(macros, rows):
 
 def main():
     parser = argparse.ArgumentParser(description=__doc__, formatter_class=argparse.RawDescriptionHelpFormatter)
-    parser.add_argument("--out", default="crates/vectors")
+    parser.add_argument("--out", default="crates/test_encoder")
     parser.add_argument("--check", action="store_true")
     parser.add_argument("--rust", metavar="MACROS_RS")
     given = parser.parse_args()

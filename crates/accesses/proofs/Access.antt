@@ -19,7 +19,8 @@ use Rattle.machine.proofs.Straight.{aligned, at-first, path-run}
 use Rattle.accesses.specs.Code.{li-code, point-code, access-code}
 use Rattle.accesses.specs.Fault.{offset-limit, access-fault, last-pair}
 use Rattle.accesses.specs.Stands.{Stands, Goes, behind, cell-at, with-t0}
-use Rattle.accesses.proofs.Then.{passed, leads, through, behind-both}
+use Rattle.accesses.proofs.Then.{leads, through, behind-both}
+use Rattle.base.proofs.Bools.{passed}
 use Rattle.accesses.proofs.LoadImmediate.{eight, li-runs}
 
 -- ---- what is not refused
@@ -65,7 +66,10 @@ module _ (Q : Floats) (s : State) (b n : ℕ) (hn : n ≤ offset-limit) where
       (leads Q js _ _ (omega arith) tt (rw (point-x (s .x) b n e) (behind-both Q is js s x (s .f) _ (s .f) (s .mem))))
 
   -- An access through t0 does what a direct one does: X on registers, and f and m.
-  pub access-runs : (near : ℕ) (is : ℕ → ℕ → List Instr) (X : (ℕ → ℕ) → ℕ → ℕ) (f m : ℕ → ℕ) → b < 32 → (ltb n near ≡ false → eqb b 5 ≡ false) → (n < near → Stands (is b n) s → Goes Q (is b n) s (behind (is b n) s (X (s .x)) f m)) → (near ≤ n → Stands (is 5 0) pointed → Goes Q (is 5 0) pointed (behind (is 5 0) pointed (X (pointed .x)) f m)) → Stands (access-code near is b n) s → Goes Q (access-code near is b n) s (behind (access-code near is b n) s (X (with-t0 near b n s)) f m)
+  pub access-runs : (near : ℕ) (is : ℕ → ℕ → List Instr) (X : (ℕ → ℕ) → ℕ → ℕ) (f m : ℕ → ℕ) → b < 32 → (ltb n near ≡ false → eqb b 5 ≡ false)
+      → (n < near → Stands (is b n) s → Goes Q (is b n) s (behind (is b n) s (X (s .x)) f m))
+      → (near ≤ n → Stands (is 5 0) pointed → Goes Q (is 5 0) pointed (behind (is 5 0) pointed (X (pointed .x)) f m))
+      → Stands (access-code near is b n) s → Goes Q (access-code near is b n) s (behind (access-code near is b n) s (X (with-t0 near b n s)) f m)
   unfolding access-code
   access-runs near is X f m hb h direct far = by (ltb n near) refl
     where

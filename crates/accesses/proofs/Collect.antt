@@ -21,7 +21,7 @@ use Rattle.refusal.specs.Answer.{accepted, refused}
 use Rattle.refusal.specs.Number.{number-of}
 use Rattle.refusal.specs.declared.Refusal.{Refusal}
 use Rattle.refusal.specs.declared.Refusal.the-variants.{Register, Value, Label, Twice, Unset, Far, Full, Closed, Count, Base, Unsaved, Line}
-use Rattle.encoder.specs.Answer.{told, encoded}
+use Rattle.encoder.specs.Answer.{word-answer, encoded}
 use Rattle.encoder.proofs.Answers.{bad-register, bad-value, good}
 use Rattle.encoder.specs.Field.{sign-of}
 use Rattle.encoder.specs.declared.Sign.the-variants.{NonNeg, Neg}
@@ -52,7 +52,7 @@ refusal-is Unsaved k e h = absurd (omega arith)
 refusal-is Line k e h = absurd (omega arith)
 
 -- the encoder's promise gives its answer
-by-told : (e : Encoded) (w : ℕ) (b c : Bool) → told e ≡ cond b (cond c (accepted w) (refused 2 0)) (refused 1 0)
+by-told : (e : Encoded) (w : ℕ) (b c : Bool) → word-answer e ≡ cond b (cond c (accepted w) (refused 2 0)) (refused 1 0)
     → e ≡ cond b (cond c (Word w) (Refused Value 0)) (Refused Register 0)
 by-told (Word x) w true true t = let z : x ≡ w = cc in ap Word z
 by-told (Word x) w true false t = let z : _≡_ {A = ℕ} 0 1 = cc in absurd (omega arith)
@@ -69,7 +69,7 @@ by-told (Refused r p) w false c t =
     let s : r ≡ Register = refusal-is r 1 z (omega arith) in
     rw (s, q)
 
-pub answered : (e : Encoded) (i : Instr) → told e ≡ encoded i → e ≡ answer-of i
+pub answered : (e : Encoded) (i : Instr) → word-answer e ≡ encoded i → e ≡ answer-of i
 answered e i t = by (registers-hold (operands i)) (valid i) refl refl
   where
     by : (b c : Bool) → registers-hold (operands i) ≡ b → valid i ≡ c → e ≡ cond b (cond c (Word (encode i)) (Refused Value 0)) (Refused Register 0)

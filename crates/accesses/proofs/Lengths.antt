@@ -8,7 +8,9 @@ use lib.IntN.{ℤ, pos, negℤ}
 use lib.ListN.{length, length-append}
 use lib.Signed.{mag}
 use Rattle.isa.specs.Instr.{Instr, I, R, ADDI, ADD, SUB}
-use Rattle.accesses.specs.Code.{li-code, load-float-code, save-float-code, load-int-code, load-complex-code, save-complex-code, sub-stack-code, add-stack-code, allocate-stack-code, near-one, near-pair, near-li, near-size}
+use Rattle.accesses.specs.Code.{li-code, sub-stack-code, add-stack-code, allocate-stack-code, near-one, near-pair, near-li, near-size}
+use Rattle.accesses.specs.Plans.{one-code, pair-code}
+use Rattle.accesses.specs.declared.Cell.{Cell}
 use Rattle.accesses.proofs.Runs.{access-length}
 use Rattle.accesses.proofs.Stack.{sized}
 
@@ -32,20 +34,11 @@ pub add-stack-length : (n : ℕ) → length (add-stack-code n) ≤ 3
 unfolding add-stack-code
 add-stack-length n = size-length n _ _ _
 
-pub load-float-length : (d b n : ℕ) → length (load-float-code d b n) ≤ 4
-load-float-length d b n = access-length near-one _ b n 1 (lit≤ tt) (lit≤ tt)
+pub one-length : (k : Cell) (r b n : ℕ) → length (one-code k r b n) ≤ 4
+one-length k r b n = access-length near-one _ b n 1 (lit≤ tt) (lit≤ tt)
 
-pub save-float-length : (s b n : ℕ) → length (save-float-code s b n) ≤ 4
-save-float-length s b n = access-length near-one _ b n 1 (lit≤ tt) (lit≤ tt)
-
-pub load-int-length : (d b n : ℕ) → length (load-int-code d b n) ≤ 4
-load-int-length d b n = access-length near-one _ b n 1 (lit≤ tt) (lit≤ tt)
-
-pub load-complex-length : (r b n : ℕ) → length (load-complex-code r b n) ≤ 5
-load-complex-length r b n = access-length near-pair _ b n 2 (lit≤ tt) (lit≤ tt)
-
-pub save-complex-length : (r b n : ℕ) → length (save-complex-code r b n) ≤ 5
-save-complex-length r b n = access-length near-pair _ b n 2 (lit≤ tt) (lit≤ tt)
+pub pair-length : (k : Cell) (r b n : ℕ) → length (pair-code k r b n) ≤ 5
+pair-length k r b n = access-length near-pair _ b n 2 (lit≤ tt) (lit≤ tt)
 
 pub allocate-stack-length : (n : ℕ) → length (allocate-stack-code n) ≤ 4
 unfolding allocate-stack-code

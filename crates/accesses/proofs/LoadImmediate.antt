@@ -21,7 +21,8 @@ use Rattle.accesses.specs.Code.{near-li, li-code}
 use Rattle.accesses.specs.Fault.{li-takes, li-fault}
 use Rattle.accesses.specs.Stands.{Stands, Goes, behind}
 use Rattle.accesses.proofs.Parts.{parts}
-use Rattle.accesses.proofs.Then.{passed, leads}
+use Rattle.accesses.proofs.Then.{leads}
+use Rattle.base.proofs.Bools.{passed}
 
 -- a register written twice, the second time with a sum; x0 stays 0
 pub setx-sum : (x : ℕ → ℕ) (d u l v : ℕ) → w64 (u + l) ≡ v → setx (setx x d u) d (w64 (cond (eqb d 0) 0 (setx x d u d) + l)) ≡ setx x d v

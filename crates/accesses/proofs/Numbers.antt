@@ -7,7 +7,7 @@ use lib.Signed.{mag}
 use mir.Syntax.{w32}
 use mir.Val.{SFits, toZ, ofZ}
 use Rattle.isa.specs.Instr.{Instr}
-use Rattle.encoder.specs.Answer.{told, encoded}
+use Rattle.encoder.specs.Answer.{word-answer, encoded}
 use Rattle.encoder.specs.declared.Encoded.{Encoded}
 use Rattle.encoder.proofs.ReadBack.{sfits}
 pub use Rattle.encoder.proofs.ReadBack.{back, back-hi, back-lo, back-small}
@@ -15,7 +15,7 @@ use Rattle.accesses.specs.Plans.{answer-of}
 use Rattle.accesses.proofs.Collect.{answered}
 
 -- the encoder's answer for an instruction with an immediate that is read back
-pub answered-at : (e : Encoded) (f : ℤ → Instr) {z y : ℤ} → told e ≡ encoded (f z) → z ≡ y → e ≡ answer-of (f y)
+pub answered-at : (e : Encoded) (f : ℤ → Instr) {z y : ℤ} → word-answer e ≡ encoded (f z) → z ≡ y → e ≡ answer-of (f y)
 answered-at e f {y = y} t q = answered e (f y) (t ∙ ap (λ (z : ℤ). encoded (f z)) q)
 
 -- ---- 0 - n

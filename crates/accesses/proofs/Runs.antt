@@ -13,11 +13,14 @@ use Rattle.isa.specs.Instr.{Instr, R, I, U, ADD, ADDI, LUI}
 use Rattle.machine.specs.Word.{w64, upd, load8, store8}
 use Rattle.machine.specs.Floats.{Floats}
 use Rattle.machine.specs.State.{State, getx, setx, next}
-use Rattle.machine.proofs.Effects.{and-l, and-r}
+use Rattle.base.proofs.Bools.{and-l, and-r}
 use Rattle.machine.proofs.Memory.{Apart, dist-ahead}
 use Rattle.machine.proofs.Placed.{Valids}
 use Rattle.accesses.specs.Code.{near-li, li-code, point-code, access-code, near-one, near-pair, load-float-code, save-float-code, load-int-code, load-complex-code, save-complex-code}
 use Rattle.accesses.specs.Fault.{offset-limit, one-fault, last-pair, pair-fault}
+use Rattle.accesses.specs.Plans.{one-code, pair-code}
+use Rattle.accesses.specs.declared.Cell.{Cell}
+use Rattle.accesses.specs.declared.Cell.the-variants.{LoadFloat, SaveFloat, LoadInt}
 use Rattle.accesses.specs.Stands.{Stands, Goes, behind, cell-at, with-t0}
 use Rattle.accesses.proofs.Then.{valids-join}
 use Rattle.accesses.proofs.LoadImmediate.{li-valid}
@@ -176,3 +179,17 @@ module _ (d b n : ℕ) (h : pair-fault d b n ≡ 0) where
         access-runs Q s b n (pair-ok .within-limit) near-pair _ (λ x. x) _ _ (p .1) (pair-ok .base-free)
         (λ l. save-pair-direct Q s b n _ _ (p .1) l refl refl d (p .0) (last-near l away))
         (λ l. save-pair-direct Q _ 5 0 _ _ (omega arith) (omega arith) (at-zero (getx s b) n) (at-eight (getx s b) n) d (p .0) (last-far l away))
+
+-- ---- by what the access does
+
+pub one-valid : (k : Cell) (r b n : ℕ) → one-fault r b n ≡ 0 → Valids (one-code k r b n)
+one-valid LoadFloat r b n h = load-float-valid r b n h
+one-valid SaveFloat r b n h = save-float-valid r b n h
+one-valid LoadInt r b n h = load-int-valid r b n h
+
+pub pair-valid : (k : Cell) (r b n : ℕ) → pair-fault r b n ≡ 0 → Valids (pair-code k r b n)
+pair-valid LoadFloat r b n h = load-complex-valid r b n h
+pair-valid SaveFloat r b n h = save-complex-valid r b n h
+pair-valid LoadInt r b n h =
+    let p = pair-fits r b n h in
+    access-valid near-pair _ b n (p .1) (λ l. omega arith) (omega arith)

@@ -17,7 +17,8 @@ use Rattle.machine.proofs.Placed.{Valids}
 use Rattle.accesses.specs.Code.{near-size, li-code, sub-stack-code, add-stack-code, allocate-stack-code}
 use Rattle.accesses.specs.Fault.{offset-limit, li-takes, stack-fault}
 use Rattle.accesses.specs.Stands.{Stands, Goes, behind, with-size}
-use Rattle.accesses.proofs.Then.{passed, leads, valids-join, through, behind-both}
+use Rattle.accesses.proofs.Then.{leads, valids-join, through, behind-both}
+use Rattle.base.proofs.Bools.{passed}
 use Rattle.accesses.proofs.Numbers.{mag-neg}
 use Rattle.accesses.proofs.LoadImmediate.{li-valid, li-runs}
 

@@ -11,7 +11,7 @@ use Rattle.isa.specs.Encode.{encode, join, fields}
 use Rattle.machine.specs.Step.{words}
 use Rattle.refusal.specs.Answer.{Answer, accepted, refused}
 use Rattle.assembler.specs.Jump.{jump-instr}
-use Rattle.assembler.specs.declared.Kind.the-variants.{Auipc, Jalr}
+use Rattle.assembler.specs.declared.JumpKind.the-variants.{Auipc, Jalr}
 use Rattle.accesses.specs.Code.{li-code, point-code, access-code, load-float-code, load-complex-code, save-complex-code, sub-stack-code}
 use Rattle.accesses.specs.Fault.{li-fault, one-fault, pair-fault, stack-fault}
 

@@ -17,11 +17,6 @@ use Rattle.machine.proofs.Straight.{lead, lead-run}
 use Rattle.machine.proofs.Placed.{Valids, code-left, code-right}
 use Rattle.accesses.specs.Stands.{Stands, Goes, behind}
 
--- a test passed in a row of them
-pub passed : (b : Bool) (u k : ℕ) → cond b u (suc k) ≡ 0 → T b × (u ≡ 0)
-passed true u k e = (tt, e)
-passed false u k e = absurd (omega arith)
-
 pub valids-join : (is js : List Instr) → Valids is → Valids js → Valids (is ++ js)
 valids-join [] js v w = w
 valids-join (i ∷ is) js v w = (v .0, valids-join is js (v .1) w)

@@ -1,4 +1,4 @@
--- The instructions of li, of loads and stores, and of stack sizes (document 01, "mod.rs, accesses"). sp is x2, t0 x5, s5 x21.
+-- The instructions of li, of loads and stores, and of stack sizes (document 01, "mod.rs, accesses").
 use mathlib.Core.Bool.{cond}
 use mathlib.Core.List.{List, [], _∷_, _++_}
 use Prim.Native.Nat.{ℕ, _+_}
@@ -6,6 +6,7 @@ use lib.Dec.{ltb}
 use lib.IntN.{ℤ, pos, negℤ}
 use lib.Signed.{mag}
 use Rattle.isa.specs.Immediate.{twos, hi, lo}
+use Rattle.isa.specs.Register.{zero, sp, t0, s5}
 use Rattle.isa.specs.Instr.{Instr, R, I, S, U, ADD, SUB, ADDI, LD, FLD, FSD, LUI}
 
 -- What one `addi` holds is below this. (`mag z` is n both for n and for -1 - n.)
@@ -15,15 +16,15 @@ near-li = 2048
 -- One `addi` for -2048..2047, else `lui`, `addi`.
 unfoldable pub li-code : (d : ℕ) → ℤ → List Instr
 li-code d z =
-    cond (ltb (mag z) near-li) (I ADDI d 0 z ∷ []) (U LUI d (pos (hi (twos 32 z))) ∷ I ADDI d d (lo (twos 32 z)) ∷ [])
+    cond (ltb (mag z) near-li) (I ADDI d zero z ∷ []) (U LUI d (pos (hi (twos 32 z))) ∷ I ADDI d d (lo (twos 32 z)) ∷ [])
 
 -- t0 is base + offset
 unfoldable pub point-code : (base offset : ℕ) → List Instr
-point-code base n = li-code 5 (pos n) ++ (R ADD 5 5 base ∷ [])
+point-code base n = li-code t0 (pos n) ++ (R ADD t0 t0 base ∷ [])
 
 -- Offsets below `near` go into the access itself; others through t0.
 unfoldable pub access-code : (near : ℕ) → (ℕ → ℕ → List Instr) → (base offset : ℕ) → List Instr
-access-code near is base n = cond (ltb n near) (is base n) (point-code base n ++ is 5 0)
+access-code near is base n = cond (ltb n near) (is base n) (point-code base n ++ is t0 0)
 
 -- single accesses are direct below this offset, pairs below the other
 abbrev pub near-one : ℕ
@@ -55,13 +56,13 @@ near-size = 2048
 
 unfoldable pub sub-stack-code : (size : ℕ) → List Instr
 sub-stack-code n =
-    cond (ltb n near-size) (I ADDI 2 2 (negℤ (pos n)) ∷ []) (li-code 5 (negℤ (pos n)) ++ (R ADD 2 2 5 ∷ []))
+    cond (ltb n near-size) (I ADDI sp sp (negℤ (pos n)) ∷ []) (li-code t0 (negℤ (pos n)) ++ (R ADD sp sp t0 ∷ []))
 
 unfoldable pub add-stack-code : (size : ℕ) → List Instr
-add-stack-code n = cond (ltb n near-size) (I ADDI 2 2 (pos n) ∷ []) (li-code 5 (pos n) ++ (R ADD 2 2 5 ∷ []))
+add-stack-code n = cond (ltb n near-size) (I ADDI sp sp (pos n) ∷ []) (li-code t0 (pos n) ++ (R ADD sp sp t0 ∷ []))
 
 -- and s5 is then sp
 unfoldable pub allocate-stack-code : (size : ℕ) → List Instr
 allocate-stack-code n =
-    cond (ltb n near-size) (I ADDI 2 2 (negℤ (pos n)) ∷ []) (li-code 5 (pos n) ++ (R SUB 2 2 5 ∷ []))
-    ++ (R ADD 21 2 0 ∷ [])
+    cond (ltb n near-size) (I ADDI sp sp (negℤ (pos n)) ∷ []) (li-code t0 (pos n) ++ (R SUB sp sp t0 ∷ []))
+    ++ (R ADD s5 sp zero ∷ [])

@@ -3,6 +3,7 @@ use mathlib.Core.Bool.{Bool, not, _&&_, _||_, cond}
 use Prim.Native.Nat.{ℕ, _^_}
 use lib.Dec.{eqb, ltb, leb}
 use lib.IntN.{ℤ, pos, negsuc}
+use Rattle.isa.specs.Register.{t0}
 use Rattle.refusal.specs.Number.{number-of}
 use Rattle.refusal.specs.declared.Refusal.the-variants.{Register, Value, Base}
 use Rattle.accesses.specs.Code.{near-one, near-pair}
@@ -23,7 +24,7 @@ li-fault d z = cond (ltb d 32) (cond (li-takes z) 0 (number-of Value)) (number-o
 abbrev pub access-fault : (near : ℕ) → (registers : Bool) → (base offset : ℕ) → ℕ
 access-fault near registers base n =
     cond registers
-    (cond (leb n offset-limit) (cond (ltb n near || not (eqb base 5)) 0 (number-of Base)) (number-of Value))
+    (cond (leb n offset-limit) (cond (ltb n near || not (eqb base t0)) 0 (number-of Base)) (number-of Value))
     (number-of Register)
 
 -- `load_float`, `save_float`, `load_int`

@@ -2,8 +2,9 @@
 use mathlib.Core.Path.{_≡_}
 use mathlib.Core.Bool.{Bool, true, false, cond}
 use mathlib.Core.List.{List, [], _∷_, map}
-use Prim.Native.Nat.{ℕ}
-use Rattle.isa.specs.Instr.{Instr, operands, registers-hold, valid}
+use Prim.Native.Nat.{ℕ, _+_}
+use lib.IntN.{ℤ, pos}
+use Rattle.isa.specs.Instr.{Instr, I, S, LD, FLD, FSD, operands, registers-hold, valid}
 use Rattle.isa.specs.Encode.{encode}
 use Rattle.refusal.specs.declared.Refusal.the-variants.{Register, Value}
 use Rattle.encoder.specs.declared.Encoded.{Encoded}
@@ -15,6 +16,9 @@ use Rattle.assembler.specs.Plan.{no-words, pushed, plan-words, plan-fault, plan
 use Rattle.assembler.specs.declared.Tail.the-variants.{Nothing}
 use Rattle.assembler.specs.declared.Fault.the-variants as Fault
 use Rattle.assembler.specs.declared.Plan.{Plan}
+use Rattle.accesses.specs.Code.{access-code, near-one, near-pair}
+use Rattle.accesses.specs.declared.Cell.{Cell}
+use Rattle.accesses.specs.declared.Cell.the-variants.{LoadFloat, SaveFloat, LoadInt}
 
 -- the encoder's answer for an instruction
 abbrev pub answer-of : Instr → Encoded
@@ -38,6 +42,21 @@ pushes es = pushes-from no-words es
 -- the plan of a list of instructions
 abbrev pub plan-of : List Instr → Plan
 plan-of is = pushes (map answer-of is)
+
+-- ---- accesses by what they do; with the enum's cases these are the codes of `load_float` and the others
+
+abbrev pub access-instr : Cell → (r base : ℕ) → ℤ → Instr
+access-instr LoadFloat r b z = I FLD r b z
+access-instr SaveFloat r b z = S FSD b r z
+access-instr LoadInt r b z = I LD r b z
+
+abbrev pub one-code : Cell → (r base offset : ℕ) → List Instr
+one-code k r = access-code near-one (λ b n. access-instr k r b (pos n) ∷ [])
+
+abbrev pub pair-code : Cell → (r base offset : ℕ) → List Instr
+pair-code k r = access-code near-pair (λ b n. access-instr k r b (pos n) ∷ access-instr k (r + 1) b (pos (n + 8)) ∷ [])
+
+-- ---- placed
 
 -- a plan placed where its operands have no fault, else the fault
 unfoldable pub settled-plan : (fault : ℕ) → Plan → State → Outcome

@@ -6,6 +6,7 @@ use Prim.Native.Nat.{ℕ, _+_, _*_, _%_}
 use lib.Dec.{ltb}
 use lib.IntN.{ℤ}
 use lib.ListN.{length}
+use Rattle.isa.specs.Register.{t0}
 use Rattle.isa.specs.Immediate.{twos}
 use Rattle.isa.specs.Instr.{Instr}
 use Rattle.machine.specs.Word.{w64}
@@ -34,8 +35,8 @@ cell-at s base n = w64 (getx s base + n)
 
 -- registers as before, but t0 where an access computes it
 abbrev pub with-t0 : (near base offset : ℕ) → State → ℕ → ℕ
-with-t0 near base n s = cond (ltb n near) (s .x) (setx (s .x) 5 (cell-at s base n))
+with-t0 near base n s = cond (ltb n near) (s .x) (setx (s .x) t0 (cell-at s base n))
 
 -- registers as before, but t0 where a stack size is loaded into it
 abbrev pub with-size : (size : ℕ) → ℤ → State → ℕ → ℕ
-with-size n z s = cond (ltb n near-size) (s .x) (setx (s .x) 5 (twos 64 z))
+with-size n z s = cond (ltb n near-size) (s .x) (setx (s .x) t0 (twos 64 z))

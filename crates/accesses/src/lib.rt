@@ -5,28 +5,30 @@ ghost use mathlib.Core.List.{[], _∷_, map};
 ghost use Prim.Native.Nat.{_+_, _≤_, _<_, min};
 ghost use lib.Dec.{ltb};
 ghost use lib.IntN.{pos, negℤ};
+ghost use Rattle.isa.specs.Register.{t0};
 ghost use Rattle.isa.specs.Immediate.{hi, lo};
 ghost use Rattle.isa.specs.Instr.{I, U, ADDI, LUI};
 ghost use Rattle.assembler.specs.Item.{instr};
-ghost use Rattle.assembler.specs.State.{state, outcome};
+ghost use Rattle.assembler.specs.State.{before, after};
 ghost use Rattle.assembler.specs.Put.{put};
 ghost use Rattle.assembler.specs.Plan.{fault-number, pushed};
-ghost use Rattle.accesses.specs.Code.{li-code, point-code, load-float-code, save-float-code, load-int-code, load-complex-code, save-complex-code, sub-stack-code, add-stack-code, allocate-stack-code};
+ghost use Rattle.accesses.specs.Code.{li-code, point-code, load-float-code, save-float-code, load-int-code};
+ghost use Rattle.accesses.specs.Code.{load-complex-code, save-complex-code, sub-stack-code, add-stack-code, allocate-stack-code};
 ghost use Rattle.accesses.specs.Fault.{li-fault, access-fault, one-fault, pair-fault, stack-fault};
-ghost use Rattle.accesses.specs.Plans.{is-word, word-of, pushes, plan-of, settled-plan};
+ghost use Rattle.accesses.specs.Plans.{answer-of, is-word, word-of, pushes, plan-of, settled-plan, access-instr, one-code, pair-code};
 use assembler::Asm;
-use assembler::Done;
+use assembler::EmitResult;
 use assembler::Fault;
+use assembler::Jumps;
+use assembler::Labels;
 use assembler::Plan;
 use assembler::Tail;
 use encoder::Encoded;
+use encoder::S5;
+use encoder::SP;
 use encoder::Sign;
-
-const SP: u32 = 2;
-
-const T0: u32 = 5;
-
-const STACK: u32 = 21;
+use encoder::T0;
+use encoder::ZERO;
 
 // Offsets and stack sizes go to this.
 const LIMIT: u32 = 0x7FFFF7FF;
@@ -133,13 +135,13 @@ pub fn li_plan(d: u32, z: i32) -> Plan
     match s {
         Sign::NonNeg(n) => {
             if n < 2048 {
-                return one(encoder::addi(d, 0, z));
+                return one(encoder::addi(d, ZERO, z));
             }
             wide(d, n)
         }
         Sign::Neg(n) => {
             if n < 2048 {
-                return one(encoder::addi(d, 0, z));
+                return one(encoder::addi(d, ZERO, z));
             }
             wide(d, 4294967295 - n)
         }
@@ -150,10 +152,10 @@ pub fn li_plan(d: u32, z: i32) -> Plan
 
 // t0 = n
 fn li_offset(n: u32) -> Plan
-    ensures { λ r. ⌜ r ≡ plan-of (li-code 5 (pos n)) ⌝ }
+    ensures { λ r. ⌜ r ≡ plan-of (li-code t0 (pos n)) ⌝ }
 {
     if n < 2048 {
-        return one(encoder::addi(T0, 0, n as i32));
+        return one(encoder::addi(T0, ZERO, n as i32));
     }
     wide(T0, n)
 }
@@ -178,60 +180,46 @@ fn far(base: u32, n: u32, last: Encoded) -> Plan
     )
 }
 
-fn load_float_plan(d: u32, base: u32, n: u32) -> Plan
-    ensures { λ r. ⌜ r ≡ plan-of (load-float-code d base n) ⌝ }
-{
-    if n < 2048 {
-        return one(encoder::fld(d, base, n as i32));
-    }
-    far(base, n, encoder::fld(d, T0, 0))
+// What an access does with a cell.
+pub enum Cell {
+    LoadFloat,
+    SaveFloat,
+    LoadInt,
 }
 
-fn save_float_plan(s: u32, base: u32, n: u32) -> Plan
-    ensures { λ r. ⌜ r ≡ plan-of (save-float-code s base n) ⌝ }
+// The access of register r to the cell at base + z.
+pub fn access_at(k: Cell, r: u32, base: u32, z: i32) -> Encoded
+    ensures { λ e. ⌜ e ≡ answer-of (access-instr k r base z) ⌝ }
 {
-    if n < 2048 {
-        return one(encoder::fsd(s, base, n as i32));
+    match k {
+        Cell::LoadFloat => encoder::fld(r, base, z),
+        Cell::SaveFloat => encoder::fsd(r, base, z),
+        Cell::LoadInt => encoder::ld(r, base, z),
     }
-    far(base, n, encoder::fsd(s, T0, 0))
 }
 
-fn load_int_plan(d: u32, base: u32, n: u32) -> Plan
-    ensures { λ r. ⌜ r ≡ plan-of (load-int-code d base n) ⌝ }
+fn one_plan(k: Cell, r: u32, base: u32, n: u32) -> Plan
+    ensures { λ p. ⌜ p ≡ plan-of (one-code k r base n) ⌝ }
 {
     if n < 2048 {
-        return one(encoder::ld(d, base, n as i32));
+        return one(access_at(k, r, base, n as i32));
     }
-    far(base, n, encoder::ld(d, T0, 0))
+    far(base, n, access_at(k, r, T0, 0))
 }
 
 // Pairs are placed only where r is below 31, so the sum fits.
-fn load_complex_plan(r: u32, base: u32, n: u32) -> Plan
+fn pair_plan(k: Cell, r: u32, base: u32, n: u32) -> Plan
     requires { ⌜ (r < 31) × (n ≤ 0x7FFFF7FF) ⌝ }
-    ensures { λ p. ⌜ p ≡ plan-of (load-complex-code r base n) ⌝ }
+    ensures { λ p. ⌜ p ≡ plan-of (pair-code k r base n) ⌝ }
 {
     if n < 2040 {
         return two(
-            encoder::fld(r, base, n as i32),
-            encoder::fld(r + 1, base, (n + 8) as i32),
+            access_at(k, r, base, n as i32),
+            access_at(k, r + 1, base, (n + 8) as i32),
         );
     }
-    let p = assembler::push(point(base, n), encoder::fld(r, T0, 0));
-    assembler::push(p, encoder::fld(r + 1, T0, 8))
-}
-
-fn save_complex_plan(r: u32, base: u32, n: u32) -> Plan
-    requires { ⌜ (r < 31) × (n ≤ 0x7FFFF7FF) ⌝ }
-    ensures { λ p. ⌜ p ≡ plan-of (save-complex-code r base n) ⌝ }
-{
-    if n < 2040 {
-        return two(
-            encoder::fsd(r, base, n as i32),
-            encoder::fsd(r + 1, base, (n + 8) as i32),
-        );
-    }
-    let p = assembler::push(point(base, n), encoder::fsd(r, T0, 0));
-    assembler::push(p, encoder::fsd(r + 1, T0, 8))
+    let p = assembler::push(point(base, n), access_at(k, r, T0, 0));
+    assembler::push(p, access_at(k, r + 1, T0, 8))
 }
 
 // ---- stack sizes
@@ -269,10 +257,10 @@ fn allocate_stack_plan(n: u32) -> Plan
     ensures { λ r. ⌜ r ≡ plan-of (allocate-stack-code n) ⌝ }
 {
     if n < 2048 {
-        return two(encoder::addi(SP, SP, minus(n)), encoder::mv(STACK, SP));
+        return two(encoder::addi(SP, SP, minus(n)), encoder::mv(S5, SP));
     }
     let p = assembler::push(li_offset(n), encoder::sub(SP, SP, T0));
-    assembler::push(p, encoder::mv(STACK, SP))
+    assembler::push(p, encoder::mv(S5, SP))
 }
 
 // ---- placed: all words, or a refusal and nothing
@@ -282,11 +270,11 @@ fn settle(
     fault: Fault,
     p: Plan,
     buf: &mut [u8],
-    labels: &mut [u64; 2039],
-    jumps: &mut [u32; 20480],
+    labels: &mut Labels,
+    jumps: &mut Jumps,
     asm: Asm,
-) -> Done
-    ensures { λ x. ⌜ outcome x (now (labels .exit)) (now (jumps .exit)) (now (buf .exit)) ≡ settled-plan (fault-number fault) p (state asm (now (labels .entry)) (now (jumps .entry)) (now (buf .entry))) ⌝ }
+) -> EmitResult
+    ensures { λ x. ⌜ after x labels jumps buf ≡ settled-plan (fault-number fault) p (before asm labels jumps buf) ⌝ }
 {
     let k = assembler::fault_number(fault);
     if k == 0 {
@@ -379,14 +367,49 @@ pub fn li(
     d: u32,
     z: i32,
     buf: &mut [u8],
-    labels: &mut [u64; 2039],
-    jumps: &mut [u32; 20480],
+    labels: &mut Labels,
+    jumps: &mut Jumps,
     asm: Asm,
-) -> Done
-    ensures { λ x. ⌜ outcome x (now (labels .exit)) (now (jumps .exit)) (now (buf .exit)) ≡ put 0 (li-fault d z) (map instr (li-code d z)) (state asm (now (labels .entry)) (now (jumps .entry)) (now (buf .entry))) ⌝ }
+) -> EmitResult
+    ensures { λ x. ⌜ after x labels jumps buf ≡ put 0 (li-fault d z) (map instr (li-code d z)) (before asm labels jumps buf) ⌝ }
 {
     let f = li_refusal(d, z);
     settle(f, li_plan(d, z), buf, labels, jumps, asm)
+}
+
+// An access of one cell.
+fn place_one(
+    k: Cell,
+    r: u32,
+    base: u32,
+    n: u32,
+    buf: &mut [u8],
+    labels: &mut Labels,
+    jumps: &mut Jumps,
+    asm: Asm,
+) -> EmitResult
+    ensures { λ x. ⌜ after x labels jumps buf ≡ put 0 (one-fault r base n) (map instr (one-code k r base n)) (before asm labels jumps buf) ⌝ }
+{
+    let f = one_refusal(r, base, n);
+    settle(f, one_plan(k, r, base, n), buf, labels, jumps, asm)
+}
+
+// An access of two cells.
+fn place_pair(
+    k: Cell,
+    r: u32,
+    base: u32,
+    n: u32,
+    buf: &mut [u8],
+    labels: &mut Labels,
+    jumps: &mut Jumps,
+    asm: Asm,
+) -> EmitResult
+    ensures { λ x. ⌜ after x labels jumps buf ≡ put 0 (pair-fault r base n) (map instr (pair-code k r base n)) (before asm labels jumps buf) ⌝ }
+{
+    let f = pair_refusal(r, base, n);
+    let p = pair_plan(k, at_most(LAST_PAIR, r), base, at_most(LIMIT, n));
+    settle(f, p, buf, labels, jumps, asm)
 }
 
 pub fn load_float(
@@ -394,14 +417,13 @@ pub fn load_float(
     base: u32,
     n: u32,
     buf: &mut [u8],
-    labels: &mut [u64; 2039],
-    jumps: &mut [u32; 20480],
+    labels: &mut Labels,
+    jumps: &mut Jumps,
     asm: Asm,
-) -> Done
-    ensures { λ x. ⌜ outcome x (now (labels .exit)) (now (jumps .exit)) (now (buf .exit)) ≡ put 0 (one-fault d base n) (map instr (load-float-code d base n)) (state asm (now (labels .entry)) (now (jumps .entry)) (now (buf .entry))) ⌝ }
+) -> EmitResult
+    ensures { λ x. ⌜ after x labels jumps buf ≡ put 0 (one-fault d base n) (map instr (load-float-code d base n)) (before asm labels jumps buf) ⌝ }
 {
-    let f = one_refusal(d, base, n);
-    settle(f, load_float_plan(d, base, n), buf, labels, jumps, asm)
+    place_one(Cell::LoadFloat, d, base, n, buf, labels, jumps, asm)
 }
 
 pub fn save_float(
@@ -409,14 +431,13 @@ pub fn save_float(
     base: u32,
     n: u32,
     buf: &mut [u8],
-    labels: &mut [u64; 2039],
-    jumps: &mut [u32; 20480],
+    labels: &mut Labels,
+    jumps: &mut Jumps,
     asm: Asm,
-) -> Done
-    ensures { λ x. ⌜ outcome x (now (labels .exit)) (now (jumps .exit)) (now (buf .exit)) ≡ put 0 (one-fault s base n) (map instr (save-float-code s base n)) (state asm (now (labels .entry)) (now (jumps .entry)) (now (buf .entry))) ⌝ }
+) -> EmitResult
+    ensures { λ x. ⌜ after x labels jumps buf ≡ put 0 (one-fault s base n) (map instr (save-float-code s base n)) (before asm labels jumps buf) ⌝ }
 {
-    let f = one_refusal(s, base, n);
-    settle(f, save_float_plan(s, base, n), buf, labels, jumps, asm)
+    place_one(Cell::SaveFloat, s, base, n, buf, labels, jumps, asm)
 }
 
 pub fn load_int(
@@ -424,14 +445,13 @@ pub fn load_int(
     base: u32,
     n: u32,
     buf: &mut [u8],
-    labels: &mut [u64; 2039],
-    jumps: &mut [u32; 20480],
+    labels: &mut Labels,
+    jumps: &mut Jumps,
     asm: Asm,
-) -> Done
-    ensures { λ x. ⌜ outcome x (now (labels .exit)) (now (jumps .exit)) (now (buf .exit)) ≡ put 0 (one-fault d base n) (map instr (load-int-code d base n)) (state asm (now (labels .entry)) (now (jumps .entry)) (now (buf .entry))) ⌝ }
+) -> EmitResult
+    ensures { λ x. ⌜ after x labels jumps buf ≡ put 0 (one-fault d base n) (map instr (load-int-code d base n)) (before asm labels jumps buf) ⌝ }
 {
-    let f = one_refusal(d, base, n);
-    settle(f, load_int_plan(d, base, n), buf, labels, jumps, asm)
+    place_one(Cell::LoadInt, d, base, n, buf, labels, jumps, asm)
 }
 
 pub fn load_complex(
@@ -439,15 +459,13 @@ pub fn load_complex(
     base: u32,
     n: u32,
     buf: &mut [u8],
-    labels: &mut [u64; 2039],
-    jumps: &mut [u32; 20480],
+    labels: &mut Labels,
+    jumps: &mut Jumps,
     asm: Asm,
-) -> Done
-    ensures { λ x. ⌜ outcome x (now (labels .exit)) (now (jumps .exit)) (now (buf .exit)) ≡ put 0 (pair-fault r base n) (map instr (load-complex-code r base n)) (state asm (now (labels .entry)) (now (jumps .entry)) (now (buf .entry))) ⌝ }
+) -> EmitResult
+    ensures { λ x. ⌜ after x labels jumps buf ≡ put 0 (pair-fault r base n) (map instr (load-complex-code r base n)) (before asm labels jumps buf) ⌝ }
 {
-    let f = pair_refusal(r, base, n);
-    let p = load_complex_plan(at_most(LAST_PAIR, r), base, at_most(LIMIT, n));
-    settle(f, p, buf, labels, jumps, asm)
+    place_pair(Cell::LoadFloat, r, base, n, buf, labels, jumps, asm)
 }
 
 pub fn save_complex(
@@ -455,25 +473,23 @@ pub fn save_complex(
     base: u32,
     n: u32,
     buf: &mut [u8],
-    labels: &mut [u64; 2039],
-    jumps: &mut [u32; 20480],
+    labels: &mut Labels,
+    jumps: &mut Jumps,
     asm: Asm,
-) -> Done
-    ensures { λ x. ⌜ outcome x (now (labels .exit)) (now (jumps .exit)) (now (buf .exit)) ≡ put 0 (pair-fault r base n) (map instr (save-complex-code r base n)) (state asm (now (labels .entry)) (now (jumps .entry)) (now (buf .entry))) ⌝ }
+) -> EmitResult
+    ensures { λ x. ⌜ after x labels jumps buf ≡ put 0 (pair-fault r base n) (map instr (save-complex-code r base n)) (before asm labels jumps buf) ⌝ }
 {
-    let f = pair_refusal(r, base, n);
-    let p = save_complex_plan(at_most(LAST_PAIR, r), base, at_most(LIMIT, n));
-    settle(f, p, buf, labels, jumps, asm)
+    place_pair(Cell::SaveFloat, r, base, n, buf, labels, jumps, asm)
 }
 
 pub fn sub_stack(
     n: u32,
     buf: &mut [u8],
-    labels: &mut [u64; 2039],
-    jumps: &mut [u32; 20480],
+    labels: &mut Labels,
+    jumps: &mut Jumps,
     asm: Asm,
-) -> Done
-    ensures { λ x. ⌜ outcome x (now (labels .exit)) (now (jumps .exit)) (now (buf .exit)) ≡ put 0 (stack-fault n) (map instr (sub-stack-code n)) (state asm (now (labels .entry)) (now (jumps .entry)) (now (buf .entry))) ⌝ }
+) -> EmitResult
+    ensures { λ x. ⌜ after x labels jumps buf ≡ put 0 (stack-fault n) (map instr (sub-stack-code n)) (before asm labels jumps buf) ⌝ }
 {
     let f = stack_refusal(n);
     let p = sub_stack_plan(at_most(LIMIT, n));
@@ -483,11 +499,11 @@ pub fn sub_stack(
 pub fn add_stack(
     n: u32,
     buf: &mut [u8],
-    labels: &mut [u64; 2039],
-    jumps: &mut [u32; 20480],
+    labels: &mut Labels,
+    jumps: &mut Jumps,
     asm: Asm,
-) -> Done
-    ensures { λ x. ⌜ outcome x (now (labels .exit)) (now (jumps .exit)) (now (buf .exit)) ≡ put 0 (stack-fault n) (map instr (add-stack-code n)) (state asm (now (labels .entry)) (now (jumps .entry)) (now (buf .entry))) ⌝ }
+) -> EmitResult
+    ensures { λ x. ⌜ after x labels jumps buf ≡ put 0 (stack-fault n) (map instr (add-stack-code n)) (before asm labels jumps buf) ⌝ }
 {
     let f = stack_refusal(n);
     let p = add_stack_plan(at_most(LIMIT, n));
@@ -497,11 +513,11 @@ pub fn add_stack(
 pub fn allocate_stack(
     n: u32,
     buf: &mut [u8],
-    labels: &mut [u64; 2039],
-    jumps: &mut [u32; 20480],
+    labels: &mut Labels,
+    jumps: &mut Jumps,
     asm: Asm,
-) -> Done
-    ensures { λ x. ⌜ outcome x (now (labels .exit)) (now (jumps .exit)) (now (buf .exit)) ≡ put 0 (stack-fault n) (map instr (allocate-stack-code n)) (state asm (now (labels .entry)) (now (jumps .entry)) (now (buf .entry))) ⌝ }
+) -> EmitResult
+    ensures { λ x. ⌜ after x labels jumps buf ≡ put 0 (stack-fault n) (map instr (allocate-stack-code n)) (before asm labels jumps buf) ⌝ }
 {
     let f = stack_refusal(n);
     let p = allocate_stack_plan(at_most(LIMIT, n));

@@ -1,4 +1,4 @@
--- From the routine's promise to the text that is printed. Assumes nothing.
+-- From the routine's promise to the text that is printed.
 use mathlib.Core.Path.{_≡_, refl, sym, ap, _∙_}
 use mathlib.Core.List.{List, [], _∷_, _++_, flatMap}
 use Prim.Native.Nat.{ℕ, zero, suc, _+_, _*_, _/_, _%_, _^_, _≤_, _<_}
@@ -12,14 +12,14 @@ use Rattle.refusal.specs.Number.{number-of}
 use Rattle.text.specs.Digits.{decimal, digits}
 use Rattle.assembler.specs.Bytes.{bytes}
 use Rattle.assembler.proofs.Writes.{length-bytes}
-use Rattle.call.specs.Program.{Program}
+use Rattle.reading.specs.Program.{Program}
 use Rattle.call.specs.Layout.{items, place, routine-words, code-length}
 use Rattle.call.proofs.Items.{resolved-length}
-use Rattle.routine.specs.Routine.{Told, Promise, program-of, told-answer, buffer-after}
-use Rattle.order.specs.declared.Frame.{Frame}
-use Rattle.routine.specs.declared.Answer as Routine
-use Rattle.routine.specs.declared.Answer.the-variants.{Accepted, Refused}
-use Rattle.routine.specs.Told.{told}
+use Rattle.routine.specs.Routine.{Summary, Promise, program-of, summary-answer, buffer-after}
+use Rattle.ast.specs.declared.Frame.{Frame}
+use Rattle.routine.specs.declared.RoutineAnswer.{RoutineAnswer}
+use Rattle.routine.specs.declared.RoutineAnswer.the-variants.{Accepted, Refused}
+use Rattle.routine.specs.Answer.{routine-answer}
 use Rattle.print.specs.Text.{Puts, le-word, words-of, hex, word-line, word-lines, refusal-line}
 use Rattle.print.specs.declared.Text.{Text}
 use Rattle.print.proofs.Short.{words-short, refusal-short}
@@ -29,16 +29,16 @@ use Rattle.answer.specs.Answer.{answer-text, listing, deck-text}
 abbrev pub Tells : (text : List ℕ) → (code out : List ℕ) → Text → (after : List ℕ) → Type 0
 Tells text code out r after = Puts text 0 out r after × (length code ≤ 65536 → length text ≤ 245760)
 
-module _ (a : Routine.Answer) (code out after : List ℕ) (r : Text) where
-  pub words-told : (l o k j : ℕ) (f : Frame) → a ≡ Accepted l o k j f → Puts (word-lines 0 (words-of (take l code))) 0 out r after → Tells (answer-text (told a) code) code out r after
+module _ (a : RoutineAnswer) (code out after : List ℕ) (r : Text) where
+  pub words-told : (l o k j : ℕ) (f : Frame) → a ≡ Accepted l o k j f → Puts (word-lines 0 (words-of (take l code))) 0 out r after → Tells (answer-text (routine-answer a) code) code out r after
   words-told l o k j f e p =
       let n = length-take l code in
       rw e (p, λ h. words-short (take l code) (omega arith))
 
-  pub all-told : (l o k j : ℕ) (f : Frame) → a ≡ Accepted l o k j f → length code ≤ l → Puts (word-lines 0 (words-of code)) 0 out r after → Tells (answer-text (told a) code) code out r after
+  pub all-told : (l o k j : ℕ) (f : Frame) → a ≡ Accepted l o k j f → length code ≤ l → Puts (word-lines 0 (words-of code)) 0 out r after → Tells (answer-text (routine-answer a) code) code out r after
   all-told l o k j f e h p = words-told l o k j f e (rw (take-all l code h) p)
 
-  pub refusal-told : (why : Refusal) (line n : ℕ) → a ≡ Refused why line → n ≡ number-of why → n < 256 → line < 2 ^ 32 → Puts (refusal-line n line) 0 out r after → Tells (answer-text (told a) code) code out r after
+  pub refusal-told : (why : Refusal) (line n : ℕ) → a ≡ Refused why line → n ≡ number-of why → n < 256 → line < 2 ^ 32 → Puts (refusal-line n line) 0 out r after → Tells (answer-text (routine-answer a) code) code out r after
   refusal-told why line n e h x y p = rw (e, ← h) (p, λ z. refusal-short n line x y)
 
 -- ---- words from the buffer's bytes
@@ -84,16 +84,16 @@ lines-back offset (w ∷ ws) = rw (byte-line offset w, lines-back (offset + 4) w
 -- ---- the promise
 
 module _ (file buf after : List ℕ) (full : length buf ≡ 65536) where
-  of-program : (a : Answer Program) → after ≡ buffer-after a buf → answer-text (told-answer a) after ≡ listing a
+  of-program : (a : Answer Program) → after ≡ buffer-after a buf → answer-text (summary-answer a) after ≡ listing a
   unfolding buffer-after
   of-program (refused n line) e = refl
   of-program (accepted p) e =
       let n : length (bytes (routine-words p)) ≡ code-length p = length-bytes (routine-words p) ∙ resolved-length (place p) 0 (items p) in
       rw (e, take-at (bytes (routine-words p)) _ (code-length p) n) (lines-back 0 (routine-words p))
 
-  pub listed : (t : Answer Told) → Promise file buf t after → answer-text t after ≡ deck-text file
+  pub listed : (t : Answer Summary) → Promise file buf t after → answer-text t after ≡ deck-text file
   unfolding deck-text
   listed t p = rw (← full, p .0) (of-program (program-of (length buf) file) (p .1))
 
-  pub deck-told : (t : Answer Told) (r : Text) (out left : List ℕ) → length after ≡ length buf → Promise file buf t after → Tells (answer-text t after) after out r left → Puts (deck-text file) 0 out r left × (length (deck-text file) ≤ 245760)
+  pub deck-told : (t : Answer Summary) (r : Text) (out left : List ℕ) → length after ≡ length buf → Promise file buf t after → Tells (answer-text t after) after out r left → Puts (deck-text file) 0 out r left × (length (deck-text file) ≤ 245760)
   deck-told t r out left n p q = rw (← listed t p) (q .0, q .1 (omega arith))

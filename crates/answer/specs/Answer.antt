@@ -3,14 +3,14 @@ use mathlib.Core.List.{List}
 use Prim.Native.Nat.{ℕ}
 use lib.ListN.{take}
 use Rattle.refusal.specs.Answer.{Answer, accepted, refused}
-use Rattle.call.specs.Program.{Program}
+use Rattle.reading.specs.Program.{Program}
 use Rattle.call.specs.Layout.{routine-words}
-use Rattle.routine.specs.Routine.{Told, program-of}
-use Rattle.print.specs.Text.{words-of, word-lines, refusal-line}
+use Rattle.routine.specs.Routine.{Summary, program-of}
+use Rattle.print.specs.Text.{word-lines, code-lines, refusal-line}
 
 -- The text of the routine's answer; the code is what stands in the buffer.
-abbrev pub answer-text : Answer Told → (code : List ℕ) → List ℕ
-answer-text (accepted t) code = word-lines 0 (words-of (take (t .length) code))
+abbrev pub answer-text : Answer Summary → (code : List ℕ) → List ℕ
+answer-text (accepted t) code = code-lines (take (t .length) code)
 answer-text (refused n line) code = refusal-line n line
 
 -- "byte offset (decimal) and word (8 hex digits), or refused,number,line"

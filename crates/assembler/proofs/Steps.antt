@@ -8,17 +8,18 @@ use native.Mathlib.Omega.{arith}
 use borrow.Author.Tests.{lt-ltb, le-ltb, le-leb, lt-leb, ne-eqb}
 use lib.ListN.{length, getD, set, take, length-append}
 use lib.Seq.{length-take-le}
-use Rattle.order.specs.declared.Constant.{Constant}
+use Rattle.ast.specs.declared.Constant.{Constant}
 use Rattle.refusal.specs.Answer.{accepted, refused}
 use Rattle.assembler.specs.Item.{Item, raw, label}
 use Rattle.assembler.specs.Label.{is-set, with-place}
 use Rattle.assembler.specs.Bytes.{room, written}
-use Rattle.assembler.specs.State.{State, Outcome, state, told, outcome, sound, fits}
+use Rattle.assembler.specs.State.{State, Outcome, state, emit-answer, outcome, sound, fits}
 use Rattle.assembler.specs.Put.{words, jumps, labels, among, twice, with-label, place, placed, verdict, put-number, settled, put}
-use Rattle.assembler.specs.Constant.{constant-bits, constant-items, constant-fault}
-use Rattle.assembler.specs.Plan.{label-fault, tail-items, plan-words, plan-items}
+use Rattle.assembler.specs.Constant.{constant-items, constant-fault}
+use Rattle.ast.specs.Constant.{constant-bits}
+use Rattle.assembler.specs.Plan.{label-fault, tail-items, plan-words, plan-items, plan-fault}
 use Rattle.assembler.specs.declared.Asm.{Asm}
-use Rattle.assembler.specs.declared.Done.{Done}
+use Rattle.assembler.specs.declared.EmitResult.{EmitResult}
 use Rattle.assembler.specs.declared.Plan.{Plan}
 use Rattle.assembler.specs.declared.Tail.{Tail}
 use Rattle.assembler.proofs.Checks.{fits-last, v-good}
@@ -33,11 +34,11 @@ pub settled-yes : (s t : State) → settled 0 s t ≡ record { answer = accepted
 unfolding settled
 settled-yes s t = refl
 
-pub settled-refused : (s t : State) (d : Done) (k v : ℕ) → k ≡ v → (k ≡ 0 → ⊥) → (d .asm ≡ s .asm) × (told (d .answer) ≡ refused k 0) → outcome d (s .labels) (s .jumps) (s .buf) ≡ settled v s t
+pub settled-refused : (s t : State) (d : EmitResult) (k v : ℕ) → k ≡ v → (k ≡ 0 → ⊥) → (d .asm ≡ s .asm) × (emit-answer (d .answer) ≡ refused k 0) → outcome d (s .labels) (s .jumps) (s .buf) ≡ settled v s t
 settled-refused s t d k v e h g = rw (← e, g .0, g .1) (sym (settled-no k s t h))
 
 module _ (tag fault : ℕ) (is : List Item) (s : State) where
-  pub put-refused : (d : Done) (k : ℕ) → k ≡ put-number fault is s → (k ≡ 0 → ⊥) → (d .asm ≡ s .asm) × (told (d .answer) ≡ refused k 0) → outcome d (s .labels) (s .jumps) (s .buf) ≡ put tag fault is s
+  pub put-refused : (d : EmitResult) (k : ℕ) → k ≡ put-number fault is s → (k ≡ 0 → ⊥) → (d .asm ≡ s .asm) × (emit-answer (d .answer) ≡ refused k 0) → outcome d (s .labels) (s .jumps) (s .buf) ≡ put tag fault is s
   unfolding put
   put-refused d k e h g = settled-refused s (placed tag is s) d k (put-number fault is s) e h g
 
@@ -84,12 +85,17 @@ put-raw tag ws s e g j h =
     let n : put-number 0 (map raw ws) s ≡ 0 = rw (words-raw, jumps-raw, labels-raw) (sym (v-good 0 false (length ws) 0 (length (s .buf)) (s .asm) e (λ z. omega arith) (λ z. omega arith) g refl refl f)) in
     sym (put-done tag 0 (map raw ws) s (with-words ws s) n (sym (placed-raw tag ws s)))
 
-pub plan-number : (f : ℕ) (p : Plan) (t : Tail) (s : State) → length (p .w) ≡ 12
+plan-number : (f : ℕ) (p : Plan) (t : Tail) (s : State) → length (p .w) ≡ 12
     → put-number f (plan-items p t) s ≡ verdict f false (min (p .n) 12 + length (tail-items t)) (length (tail-items t)) (length (s .buf)) (s .asm)
 unfolding twice
 plan-number f p t s e =
     let n : length (plan-words p) ≡ min (p .n) 12 = length-take-le (min (p .n) 12) (p .w) (omega arith) in
     rw (words-append, jumps-append, labels-append, words-raw, jumps-raw, labels-raw, labels-tail, jumps-tail, length-append, words-tail, n, zero-add)
+
+-- the number of a plan whose fault is f and whose parts have n and j words
+pub plan-told : (k f n j : ℕ) (p : Plan) (t : Tail) (s : State) → length (p .w) ≡ 12 → f ≡ plan-fault p t → n ≡ min (p .n) 12 → j ≡ length (tail-items t)
+    → k ≡ verdict f false (n + j) j (length (s .buf)) (s .asm) → k ≡ put-number (plan-fault p t) (plan-items p t) s
+plan-told k f n j p t s l e g h q = rw (plan-number _ p t s l, ← e, ← g, ← h) q
 
 -- the words written, then the tail
 pub plan-placed : (p : Plan) (t : Tail) (tag : ℕ) (s : State) → length (p .w) ≡ 12 → (n : ℕ) (b : List ℕ) (u : State) → n ≡ min (p .n) 12

@@ -3,12 +3,13 @@ use mathlib.Core.List.{[], _∷_}
 use Prim.Native.Nat.{ℕ, _+_}
 use lib.IntN.{ℤ, pos}
 use lib.ListN.{getD}
+use Rattle.isa.specs.Register.{zero, t0, t2, s2}
 use Rattle.isa.specs.Immediate.{twos, hi, lo}
 use Rattle.isa.specs.Instr.{Instr, I, B, U, LD, JALR, FLD, BEQ, BNE, AUIPC}
-use Rattle.assembler.specs.declared.Kind.{Kind}
-use Rattle.assembler.specs.declared.Kind.the-variants.{Auipc, Ld, Jalr, Fld, Beq, Bne}
+use Rattle.assembler.specs.declared.JumpKind.{JumpKind}
+use Rattle.assembler.specs.declared.JumpKind.the-variants.{Auipc, Ld, Jalr, Fld, Beq, Bne}
 
-abbrev pub kind-number : Kind → ℕ
+abbrev pub kind-number : JumpKind → ℕ
 kind-number Auipc = 0
 kind-number Ld = 1
 kind-number Jalr = 2
@@ -17,15 +18,15 @@ kind-number Beq = 4
 kind-number Bne = 5
 
 -- The instruction of a jump: r is its register, z the offset from its word to its label's place, in bytes.
--- The second word of a pair takes its low part from its own offset plus 4. t0 is x5, t2 x7, s2 x18.
-abbrev pub jump-instr : Kind → ℕ → ℤ → Instr
-jump-instr Auipc r z = U AUIPC 5 (pos (hi (twos 32 z)))
-jump-instr Ld r z = I LD r 5 (lo (twos 32 z + 4))
-jump-instr Jalr r z = I JALR r 5 (lo (twos 32 z + 4))
-jump-instr Fld r z = I FLD r 5 (lo (twos 32 z + 4))
-jump-instr Beq r z = B BEQ 18 0 z
-jump-instr Bne r z = B BNE 7 0 z
+-- The second word of a pair takes its low part from its own offset plus 4.
+abbrev pub jump-instr : JumpKind → ℕ → ℤ → Instr
+jump-instr Auipc r z = U AUIPC t0 (pos (hi (twos 32 z)))
+jump-instr Ld r z = I LD r t0 (lo (twos 32 z + 4))
+jump-instr Jalr r z = I JALR r t0 (lo (twos 32 z + 4))
+jump-instr Fld r z = I FLD r t0 (lo (twos 32 z + 4))
+jump-instr Beq r z = B BEQ s2 zero z
+jump-instr Bne r z = B BNE t2 zero z
 
 -- the kind with a number below 6
-abbrev pub kind-of : ℕ → Kind
+abbrev pub kind-of : ℕ → JumpKind
 kind-of n = getD (Auipc ∷ Ld ∷ Jalr ∷ Fld ∷ Beq ∷ Bne ∷ []) n Bne

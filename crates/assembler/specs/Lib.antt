@@ -1,3 +1,4 @@
+pub mod Limit
 pub mod Item
 pub mod Jump
 pub mod Bytes

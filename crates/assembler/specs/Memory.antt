@@ -11,7 +11,13 @@ pub record Jump : Type 0 where
 
 -- jump i in the memory, and its tag
 abbrev pub jump-at : List ℕ → ℕ → Jump
-jump-at memory i = record { word = getD memory (5 * i) 0; label = getD memory (5 * i + 1) 0; reg = getD memory (5 * i + 2) 0; kind = getD memory (5 * i + 3) 0 }
+jump-at memory i =
+    record {
+      word = getD memory (5 * i) 0;
+      label = getD memory (5 * i + 1) 0;
+      reg = getD memory (5 * i + 2) 0;
+      kind = getD memory (5 * i + 3) 0;
+    }
 
 abbrev pub tag-at : List ℕ → ℕ → ℕ
 tag-at memory i = getD memory (5 * i + 4) 0

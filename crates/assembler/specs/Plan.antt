@@ -10,8 +10,9 @@ use Rattle.refusal.specs.declared.Refusal.{Refusal}
 use Rattle.refusal.specs.declared.Refusal.the-variants.{Register, Value, Label, Twice, Unset, Far, Full, Closed, Count, Base, Unsaved, Line}
 use Rattle.encoder.specs.declared.Encoded.{Encoded}
 use Rattle.encoder.specs.declared.Encoded.the-variants.{Word, Refused}
+use Rattle.assembler.specs.Limit.{label-limit}
 use Rattle.assembler.specs.Item.{Item, raw, jump}
-use Rattle.assembler.specs.declared.Kind.the-variants.{Auipc}
+use Rattle.assembler.specs.declared.JumpKind.the-variants.{Auipc}
 use Rattle.assembler.specs.declared.Tail.{Tail}
 use Rattle.assembler.specs.declared.Tail.the-variants.{Nothing, One, Pair}
 use Rattle.assembler.specs.declared.Plan.{Plan}
@@ -74,7 +75,7 @@ fault-of is = fault-from 0 is
 
 -- a label's: 2 above 2,038
 abbrev pub label-fault : ℕ → ℕ
-label-fault l = cond (ltb l 2039) 0 (number-of Value)
+label-fault l = cond (ltb l label-limit) 0 (number-of Value)
 
 -- a jump's: 1 a register above 31, else its label's
 abbrev pub jump-fault : (label reg : ℕ) → ℕ
@@ -125,7 +126,7 @@ labels-of (Sets.Three a b c) = a ∷ b ∷ c ∷ []
 
 abbrev pub all-labels : List ℕ → Bool
 all-labels [] = true
-all-labels (l ∷ ls) = ltb l 2039 && all-labels ls
+all-labels (l ∷ ls) = ltb l label-limit && all-labels ls
 
 -- their fault: 2 where one is above 2,038
 abbrev pub sets-fault : List ℕ → ℕ

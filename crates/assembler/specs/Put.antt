@@ -94,7 +94,8 @@ placed tag (i ∷ is) s = placed tag is (place tag i s)
 
 -- ---- all or nothing
 
--- The number of the refusal, 0 for none, in document 01's order, over a buffer of `size` bytes. `fault` is what is wrong with an operand: a number, 0 for nothing.
+-- The number of the refusal, 0 for none, in document 01's order, over a buffer of `size` bytes.
+-- `fault` is what is wrong with an operand: a number, 0 for nothing.
 unfoldable pub verdict : (fault : ℕ) → (taken : Bool) → (words jumps size : ℕ) → Asm → ℕ
 verdict fault taken words jumps size asm =
     cond (asm .closed) (number-of Closed)
@@ -118,3 +119,8 @@ settled (suc n) s t = record { answer = refused (suc n) 0; state = s }
 -- `tag` is the caller's own number, kept with each jump.
 unfoldable pub put : (tag fault : ℕ) → List Item → State → Outcome
 put tag fault is s = settled (put-number fault is s) s (placed tag is s)
+
+-- what a whole of these labels and so many words and jumps would be refused with; nothing changes
+abbrev pub prechecked : (fault : ℕ) → (labels : List ℕ) → (words jumps : ℕ) → State → Outcome
+prechecked fault ls words jumps s =
+    settled (verdict fault (twice (s .labels) ls) words jumps (length (s .buf)) (s .asm)) s s

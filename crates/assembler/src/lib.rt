@@ -10,18 +10,35 @@ ghost use Rattle.refusal.specs.Answer.{accepted, refused};
 ghost use Rattle.refusal.specs.Number.{number-of};
 ghost use Rattle.assembler.specs.Item.{raw, label, jump as jump-item};
 ghost use Rattle.assembler.specs.Jump.{kind-number};
-ghost use Rattle.assembler.specs.Bytes.{written, room};
+ghost use Rattle.assembler.specs.Limit.{room-limit, label-limit, jump-limit};
+ghost use Rattle.assembler.specs.Bytes.{written, fitted, room};
 ghost use Rattle.assembler.specs.Label.{is-set, place-of, with-place};
-ghost use Rattle.assembler.specs.State.{state, outcome, told, sound, fits};
-ghost use Rattle.assembler.specs.Put.{twice, verdict, with-jump, placed, settled, put};
-ghost use Rattle.assembler.specs.Plan.{rank, earlier, fault-number, first-of, refusal-fault, label-fault, jump-fault, tail-items, tail-fault, plan-items, plan-fault, no-words, faulty, pushed, labels-of, sets-fault};
-ghost use Rattle.assembler.specs.Constant.{constant-bits, quad, constant-items, constant-fault, told-size, aligned};
+ghost use Rattle.assembler.specs.State.{emit-answer, sound, fits, Fits, before, after, Steps, Answered};
+ghost use Rattle.assembler.specs.Put.{twice, verdict, prechecked, with-jump, placed, put};
+ghost use Rattle.assembler.specs.Plan.{rank, earlier, fault-number, first-of, refusal-fault, label-fault, jump-fault};
+ghost use Rattle.assembler.specs.Plan.{tail-items, tail-fault, plan-items, plan-fault, no-words, faulty, pushed, labels-of, sets-fault};
+ghost use Rattle.assembler.specs.Constant.{quad, constant-items, constant-fault, size-answer, aligned};
+ghost use Rattle.ast.specs.Constant.{constant-bits};
+use ast::Constant;
 use encoder::Encoded;
-use order::Constant;
 use refusal::Refusal;
 
+// How many bytes of a buffer count at most.
+pub const ROOM: usize = 65536;
+
+// Label memory has an entry for each label, jump memory five numbers for each of at most 4,096 jumps.
+pub const LABELS: usize = 2039;
+
+pub const JUMP_LIMIT: usize = 4096;
+
+pub const JUMPS: usize = 5 * JUMP_LIMIT;
+
+pub type Labels = [u64; LABELS];
+
+pub type Jumps = [u32; JUMPS];
+
 // What finishing writes for a jump: `auipc` t0; `ld`, `jalr` or `fld` through t0; `beq` s2, zero; `bne` t2, zero.
-pub enum Kind {
+pub enum JumpKind {
     Auipc,
     Ld,
     Jalr,
@@ -43,7 +60,7 @@ pub enum Answer {
     Refused(Refusal, u32),
 }
 
-pub struct Done {
+pub struct EmitResult {
     pub asm: Asm,
     pub answer: Answer,
 }
@@ -51,8 +68,8 @@ pub struct Done {
 // Jumps behind the words of an order: none; one (label, register); or an `auipc` with its second word (label, register).
 pub enum Tail {
     Nothing,
-    One(Kind, u32, u32),
-    Pair(Kind, u32, u32),
+    One(JumpKind, u32, u32),
+    Pair(JumpKind, u32, u32),
 }
 
 // What is wrong with an operand: document 01's numbers 1, 2, 3, 9 and 10, or nothing. The others aren't an operand's.
@@ -113,11 +130,11 @@ fn refusal(k: u8) -> Refusal
     }
 }
 
-fn refused_with(k: u8, asm: Asm) -> Done
+fn refused_with(k: u8, asm: Asm) -> EmitResult
     requires { ⌜ (1 ≤ k) × (k ≤ 12) ⌝ }
-    ensures { λ r. ⌜ (r .asm ≡ asm) × (told (r .answer) ≡ refused k 0) ⌝ }
+    ensures { λ r. ⌜ (r .asm ≡ asm) × (emit-answer (r .answer) ≡ refused k 0) ⌝ }
 {
-    Done {
+    EmitResult {
         asm,
         answer: Answer::Refused(refusal(k), 0),
     }
@@ -126,14 +143,14 @@ fn refused_with(k: u8, asm: Asm) -> Done
 // ---- the record
 
 fn counts(n: usize) -> usize
-    ensures { λ r. ⌜ (r ≡ room n) × (r ≤ 65536) × (r ≤ n) ⌝ }
+    ensures { λ r. ⌜ (r ≡ room n) × (r ≤ room-limit) × (r ≤ n) ⌝ }
 {
-    if n < 65536 { n } else { 65536 }
+    if n < ROOM { n } else { ROOM }
 }
 
 // Whether the record is one that orders make, over a buffer of n bytes.
 pub fn is_sound(n: usize, asm: Asm) -> bool
-    ensures { λ r. ⌜ (r ≡ sound n asm) × (r ≡ true → (asm .len ≤ n) × (asm .len ≤ 65536) × (asm .jumps ≤ 4096)) ⌝ }
+    ensures { λ r. ⌜ (r ≡ sound n asm) × (r ≡ true → (asm .len ≤ n) × (asm .len ≤ room-limit) × (asm .jumps ≤ jump-limit)) ⌝ }
 {
     let len = asm.len;
     if counts(n) < len {
@@ -142,12 +159,12 @@ pub fn is_sound(n: usize, asm: Asm) -> bool
     if len % 4 != 0 {
         return false;
     }
-    asm.jumps <= 4096
+    asm.jumps <= JUMP_LIMIT
 }
 
 // So many words and jumps more have room.
 fn has_room(n: usize, asm: Asm, words: usize, jumps: usize) -> bool
-    ensures { λ r. ⌜ (r ≡ fits n asm words jumps) × (r ≡ true → (asm .len + 4 * words ≤ n) × (asm .len + 4 * words ≤ 65536) × (asm .jumps + jumps ≤ 4096)) ⌝ }
+    ensures { λ r. ⌜ (r ≡ fits n asm words jumps) × (r ≡ true → Fits n asm words jumps) ⌝ }
 {
     let r = counts(n);
     let len = asm.len;
@@ -158,16 +175,16 @@ fn has_room(n: usize, asm: Asm, words: usize, jumps: usize) -> bool
         return false;
     }
     let j = asm.jumps;
-    if 4096 < j {
+    if JUMP_LIMIT < j {
         return false;
     }
-    jumps <= 4096 - j
+    jumps <= JUMP_LIMIT - j
 }
 
 // The number of the refusal, 0 for none, in document 01's order.
 fn number(fault: u8, taken: bool, words: usize, jumps: usize, n: usize, asm: Asm) -> u8
     requires { ⌜ fault ≤ 12 ⌝ }
-    ensures { λ r. ⌜ (r ≡ verdict fault taken words jumps n asm) × (r ≤ 12) × (r ≡ 0 → (fault ≡ 0) × (asm .len + 4 * words ≤ n) × (asm .len + 4 * words ≤ 65536) × (asm .jumps + jumps ≤ 4096)) ⌝ }
+    ensures { λ r. ⌜ (r ≡ verdict fault taken words jumps n asm) × (r ≤ 12) × (r ≡ 0 → (fault ≡ 0) × Fits n asm words jumps) ⌝ }
 {
     if asm.closed {
         return 8;
@@ -210,9 +227,9 @@ fn put_word(buf: &mut [u8], at: usize, w: u32)
 
 // A word at `at`, if what counts of the buffer goes so far.
 pub fn write_word(buf: &mut [u8], at: usize, w: u32)
-    ensures { λ _. ⌜ now (buf .exit) ≡ cond (leb (at + 4) (room (length (now (buf .entry))))) (written (now (buf .entry)) at (w ∷ [])) (now (buf .entry)) ⌝ }
+    ensures { λ _. ⌜ now (buf .exit) ≡ fitted (now (buf .entry)) at (w ∷ []) ⌝ }
 {
-    if 65532 < at {
+    if ROOM - 4 < at {
         return;
     }
     let n = buf.len();
@@ -237,9 +254,9 @@ fn put_four(buf: &mut [u8], at: usize, a: u32, b: u32, c: u32, d: u32)
 
 // Four words from `at` on, if what counts of the buffer goes so far.
 pub fn write_four(buf: &mut [u8], at: usize, a: u32, b: u32, c: u32, d: u32)
-    ensures { λ _. ⌜ now (buf .exit) ≡ cond (leb (at + 16) (room (length (now (buf .entry))))) (written (now (buf .entry)) at (a ∷ b ∷ c ∷ d ∷ [])) (now (buf .entry)) ⌝ }
+    ensures { λ _. ⌜ now (buf .exit) ≡ fitted (now (buf .entry)) at (a ∷ b ∷ c ∷ d ∷ []) ⌝ }
 {
-    if 65520 < at {
+    if ROOM - 16 < at {
         return;
     }
     let n = buf.len();
@@ -278,11 +295,11 @@ fn put_words(buf: &mut [u8], at: usize, n: usize, w: [u32; 12])
 pub fn append_word(
     w: u32,
     buf: &mut [u8],
-    labels: &mut [u64; 2039],
-    jumps: &mut [u32; 20480],
+    labels: &mut Labels,
+    jumps: &mut Jumps,
     asm: Asm,
-) -> Done
-    ensures { λ r. ⌜ outcome r (now (labels .exit)) (now (jumps .exit)) (now (buf .exit)) ≡ put 0 0 (raw w ∷ []) (state asm (now (labels .entry)) (now (jumps .entry)) (now (buf .entry))) ⌝ }
+) -> EmitResult
+    ensures { λ r. ⌜ after r labels jumps buf ≡ put 0 0 (raw w ∷ []) (before asm labels jumps buf) ⌝ }
 {
     let k = number(0, false, 1, 0, buf.len(), asm);
     if k != 0 {
@@ -290,7 +307,7 @@ pub fn append_word(
     }
     let len = asm.len;
     put_word(buf, len, w);
-    Done {
+    EmitResult {
         asm: Asm {
             len: len + 4,
             jumps: asm.jumps,
@@ -303,11 +320,11 @@ pub fn append_word(
 pub fn append_quad(
     q: u64,
     buf: &mut [u8],
-    labels: &mut [u64; 2039],
-    jumps: &mut [u32; 20480],
+    labels: &mut Labels,
+    jumps: &mut Jumps,
     asm: Asm,
-) -> Done
-    ensures { λ r. ⌜ outcome r (now (labels .exit)) (now (jumps .exit)) (now (buf .exit)) ≡ put 0 0 (quad q) (state asm (now (labels .entry)) (now (jumps .entry)) (now (buf .entry))) ⌝ }
+) -> EmitResult
+    ensures { λ r. ⌜ after r labels jumps buf ≡ put 0 0 (quad q) (before asm labels jumps buf) ⌝ }
 {
     let k = number(0, false, 2, 0, buf.len(), asm);
     if k != 0 {
@@ -315,7 +332,7 @@ pub fn append_quad(
     }
     let len = asm.len;
     put_quad(buf, len, q);
-    Done {
+    EmitResult {
         asm: Asm {
             len: len + 8,
             jumps: asm.jumps,
@@ -334,15 +351,15 @@ fn label_set(e: u64) -> bool
 }
 
 fn label_at(e: u64, p: usize) -> u64
-    requires { ⌜ p ≤ 65536 ⌝ }
+    requires { ⌜ p ≤ room-limit ⌝ }
     ensures { λ r. ⌜ r ≡ with-place e p ⌝ }
 {
     e / 4294967296 * 4294967296 + (p as u64 + 1)
 }
 
 // Label l at p.
-fn mark(labels: &mut [u64; 2039], l: usize, p: usize)
-    requires { ⌜ (l < 2039) × (p ≤ 65536) ⌝ }
+fn mark(labels: &mut Labels, l: usize, p: usize)
+    requires { ⌜ (l < label-limit) × (p ≤ room-limit) ⌝ }
     ensures { λ _. ⌜ now (labels .exit) ≡ set (now (labels .entry)) l (with-place (getD (now (labels .entry)) l 0) p) ⌝ }
 {
     let e = label_at(labels[l], p);
@@ -352,24 +369,24 @@ fn mark(labels: &mut [u64; 2039], l: usize, p: usize)
 pub fn set_label(
     l: u32,
     buf: &mut [u8],
-    labels: &mut [u64; 2039],
-    jumps: &mut [u32; 20480],
+    labels: &mut Labels,
+    jumps: &mut Jumps,
     asm: Asm,
-) -> Done
-    ensures { λ r. ⌜ outcome r (now (labels .exit)) (now (jumps .exit)) (now (buf .exit)) ≡ put 0 (label-fault l) (label l ∷ []) (state asm (now (labels .entry)) (now (jumps .entry)) (now (buf .entry))) ⌝ }
+) -> EmitResult
+    ensures { λ r. ⌜ after r labels jumps buf ≡ put 0 (label-fault l) (label l ∷ []) (before asm labels jumps buf) ⌝ }
 {
-    if 2039 <= l {
+    let i = l as usize;
+    if LABELS <= i {
         let k = number(2, false, 0, 0, buf.len(), asm);
         return refused_with(k, asm);
     }
-    let i = l as usize;
     let taken = label_set(labels[i]);
     let k = number(0, taken, 0, 0, buf.len(), asm);
     if k != 0 {
         return refused_with(k, asm);
     }
     mark(labels, i, asm.len);
-    Done {
+    EmitResult {
         asm,
         answer: Answer::Accepted,
     }
@@ -377,22 +394,22 @@ pub fn set_label(
 
 // ---- jumps
 
-fn number_of(k: Kind) -> u32
+fn number_of(k: JumpKind) -> u32
     ensures { λ r. ⌜ r ≡ kind-number k ⌝ }
 {
     match k {
-        Kind::Auipc => 0,
-        Kind::Ld => 1,
-        Kind::Jalr => 2,
-        Kind::Fld => 3,
-        Kind::Beq => 4,
-        Kind::Bne => 5,
+        JumpKind::Auipc => 0,
+        JumpKind::Ld => 1,
+        JumpKind::Jalr => 2,
+        JumpKind::Fld => 3,
+        JumpKind::Beq => 4,
+        JumpKind::Bne => 5,
     }
 }
 
 // Five numbers in the memory.
-fn note(jumps: &mut [u32; 20480], i: usize, p: u32, l: u32, r: u32, k: u32, t: u32)
-    requires { ⌜ i < 4096 ⌝ }
+fn note(jumps: &mut Jumps, i: usize, p: u32, l: u32, r: u32, k: u32, t: u32)
+    requires { ⌜ i < jump-limit ⌝ }
     ensures { λ _. ⌜ now (jumps .exit) ≡ sets (now (jumps .entry)) (5 * i) (p ∷ l ∷ r ∷ k ∷ t ∷ []) ⌝ }
 {
     let b = 5 * i;
@@ -404,17 +421,9 @@ fn note(jumps: &mut [u32; 20480], i: usize, p: u32, l: u32, r: u32, k: u32, t: u
 }
 
 // A zero word, and the jump noted.
-fn reserve(
-    k: Kind,
-    l: u32,
-    r: u32,
-    t: u32,
-    buf: &mut [u8],
-    jumps: &mut [u32; 20480],
-    asm: Asm,
-) -> Asm
-    requires { ⌜ (asm .len + 4 ≤ length (now buf)) × (asm .len ≤ 65536) × (asm .jumps < 4096) ⌝ }
-    ensures { λ a. ⌜ ((ls : List ℕ) → state a ls (now (jumps .exit)) (now (buf .exit)) ≡ with-jump (kind-number k) l r t (state asm ls (now (jumps .entry)) (now (buf .entry)))) × (a .len ≡ asm .len + 4) × (a .jumps ≡ asm .jumps + 1) ⌝ }
+fn reserve(k: JumpKind, l: u32, r: u32, t: u32, buf: &mut [u8], jumps: &mut Jumps, asm: Asm) -> Asm
+    requires { ⌜ (asm .len + 4 ≤ length (now buf)) × (asm .len ≤ room-limit) × (asm .jumps < jump-limit) ⌝ }
+    ensures { λ a. ⌜ Steps (with-jump (kind-number k) l r t) asm a jumps buf × (a .len ≡ asm .len + 4) × (a .jumps ≡ asm .jumps + 1) ⌝ }
 {
     let len = asm.len;
     let i = asm.jumps;
@@ -434,30 +443,30 @@ fn fault_of(l: u32, r: u32) -> u8
     if 32 <= r {
         return 1;
     }
-    if 2039 <= l {
+    if LABELS <= l as usize {
         return 2;
     }
     0
 }
 
 pub fn jump(
-    k: Kind,
+    k: JumpKind,
     l: u32,
     r: u32,
     tag: u32,
     buf: &mut [u8],
-    labels: &mut [u64; 2039],
-    jumps: &mut [u32; 20480],
+    labels: &mut Labels,
+    jumps: &mut Jumps,
     asm: Asm,
-) -> Done
-    ensures { λ x. ⌜ outcome x (now (labels .exit)) (now (jumps .exit)) (now (buf .exit)) ≡ put tag (jump-fault l r) (jump-item k l r ∷ []) (state asm (now (labels .entry)) (now (jumps .entry)) (now (buf .entry))) ⌝ }
+) -> EmitResult
+    ensures { λ x. ⌜ after x labels jumps buf ≡ put tag (jump-fault l r) (jump-item k l r ∷ []) (before asm labels jumps buf) ⌝ }
 {
     let n = number(fault_of(l, r), false, 1, 1, buf.len(), asm);
     if n != 0 {
         return refused_with(n, asm);
     }
     let a = reserve(k, l, r, tag, buf, jumps, asm);
-    Done {
+    EmitResult {
         asm: a,
         answer: Answer::Accepted,
     }
@@ -596,13 +605,13 @@ fn fault_of_tail(t: Tail) -> u8
 fn fault_of_labels(a: u32, b: u32, c: u32) -> u8
     ensures { λ r. ⌜ (r ≡ sets-fault (a ∷ b ∷ c ∷ [])) × (r ≤ 2) ⌝ }
 {
-    if 2039 <= a {
+    if LABELS <= a as usize {
         return 2;
     }
-    if 2039 <= b {
+    if LABELS <= b as usize {
         return 2;
     }
-    if 2039 <= c {
+    if LABELS <= c as usize {
         return 2;
     }
     0
@@ -620,13 +629,13 @@ fn fault_of_sets(s: Sets) -> u8
 }
 
 // Label l is set; or it comes again behind; or else what is known of those behind.
-fn taken_or(labels: &[u64; 2039], l: u32, again: bool, rest: bool) -> bool
-    ensures { λ r. ⌜ (l < 2039 → r ≡ is-set (getD (now (labels .entry)) l 0) || (again || rest)) ⌝ }
+fn taken_or(labels: &Labels, l: u32, again: bool, rest: bool) -> bool
+    ensures { λ r. ⌜ (l < label-limit → r ≡ is-set (getD (now (labels .entry)) l 0) || (again || rest)) ⌝ }
 {
-    if 2039 <= l {
+    let i = l as usize;
+    if LABELS <= i {
         return rest;
     }
-    let i = l as usize;
     let t = label_set(labels[i]);
     if t {
         return true;
@@ -646,7 +655,7 @@ fn same_one(l: u32, a: u32, b: u32) -> bool
     b == l
 }
 
-fn taken(s: Sets, labels: &[u64; 2039]) -> bool
+fn taken(s: Sets, labels: &Labels) -> bool
     ensures { λ r. ⌜ (sets-fault (labels-of s) ≡ 0 → r ≡ twice (now (labels .entry)) (labels-of s)) ⌝ }
 {
     match s {
@@ -664,18 +673,17 @@ fn taken(s: Sets, labels: &[u64; 2039]) -> bool
     }
 }
 
-// Asked before a whole is placed part by part: whether it is refused. Nothing changes.
-// The whole is these labels and so many words and jumps: 4 is for the labels, and 7 for those counts exactly.
-pub fn ask(
+// Before a whole of these labels and so many words and jumps is placed part by part: whether it is refused. Nothing changes.
+pub fn check_whole(
     fault: Fault,
     sets: Sets,
     words: usize,
     jumps: usize,
     buf: &[u8],
-    labels: &[u64; 2039],
+    labels: &Labels,
     asm: Asm,
-) -> Done
-    ensures { λ r. ⌜ ((js : List ℕ) → outcome r (now (labels .entry)) js (now (buf .entry)) ≡ settled (verdict (earlier (fault-number fault) (sets-fault (labels-of sets))) (twice (now (labels .entry)) (labels-of sets)) words jumps (length (now (buf .entry))) asm) (state asm (now (labels .entry)) js (now (buf .entry))) (state asm (now (labels .entry)) js (now (buf .entry)))) ⌝ }
+) -> EmitResult
+    ensures { λ r. ⌜ Answered (prechecked (earlier (fault-number fault) (sets-fault (labels-of sets))) (labels-of sets) words jumps) asm r labels buf ⌝ }
 {
     let f = first_number(fault_number(fault), fault_of_sets(sets));
     let t = taken(sets, labels);
@@ -683,7 +691,7 @@ pub fn ask(
     if k != 0 {
         return refused_with(k, asm);
     }
-    Done {
+    EmitResult {
         asm,
         answer: Answer::Accepted,
     }
@@ -696,15 +704,15 @@ fn at_most(n: usize) -> usize
 }
 
 // The jumps of a tail.
-fn reserve_tail(t: Tail, tag: u32, buf: &mut [u8], jumps: &mut [u32; 20480], asm: Asm) -> Asm
-    requires { ⌜ (asm .len + 4 * length (tail-items t) ≤ length (now buf)) × (asm .len + 4 * length (tail-items t) ≤ 65536) × (asm .jumps + length (tail-items t) ≤ 4096) ⌝ }
-    ensures { λ a. ⌜ ((ls : List ℕ) → state a ls (now (jumps .exit)) (now (buf .exit)) ≡ placed tag (tail-items t) (state asm ls (now (jumps .entry)) (now (buf .entry)))) ⌝ }
+fn reserve_tail(t: Tail, tag: u32, buf: &mut [u8], jumps: &mut Jumps, asm: Asm) -> Asm
+    requires { ⌜ Fits (length (now buf)) asm (length (tail-items t)) (length (tail-items t)) ⌝ }
+    ensures { λ a. ⌜ Steps (placed tag (tail-items t)) asm a jumps buf ⌝ }
 {
     match t {
         Tail::Nothing => asm,
         Tail::One(k, l, r) => reserve(k, l, r, tag, buf, jumps, asm),
         Tail::Pair(k, l, r) => {
-            let a = reserve(Kind::Auipc, l, 0, tag, buf, jumps, asm);
+            let a = reserve(JumpKind::Auipc, l, 0, tag, buf, jumps, asm);
             reserve(k, l, r, tag, buf, jumps, a)
         }
     }
@@ -716,11 +724,11 @@ pub fn place(
     t: Tail,
     tag: u32,
     buf: &mut [u8],
-    labels: &mut [u64; 2039],
-    jumps: &mut [u32; 20480],
+    labels: &mut Labels,
+    jumps: &mut Jumps,
     asm: Asm,
-) -> Done
-    ensures { λ x. ⌜ outcome x (now (labels .exit)) (now (jumps .exit)) (now (buf .exit)) ≡ put tag (plan-fault p t) (plan-items p t) (state asm (now (labels .entry)) (now (jumps .entry)) (now (buf .entry))) ⌝ }
+) -> EmitResult
+    ensures { λ x. ⌜ after x labels jumps buf ≡ put tag (plan-fault p t) (plan-items p t) (before asm labels jumps buf) ⌝ }
 {
     let n = at_most(p.n);
     let j = tail_count(t);
@@ -739,7 +747,7 @@ pub fn place(
         closed: asm.closed,
     };
     let b = reserve_tail(t, tag, buf, jumps, a);
-    Done {
+    EmitResult {
         asm: b,
         answer: Answer::Accepted,
     }
@@ -766,11 +774,11 @@ pub fn append_const(
     k: u32,
     c: Constant,
     buf: &mut [u8],
-    labels: &mut [u64; 2039],
-    jumps: &mut [u32; 20480],
+    labels: &mut Labels,
+    jumps: &mut Jumps,
     asm: Asm,
-) -> Done
-    ensures { λ r. ⌜ outcome r (now (labels .exit)) (now (jumps .exit)) (now (buf .exit)) ≡ put 0 (constant-fault k) (constant-items k c) (state asm (now (labels .entry)) (now (jumps .entry)) (now (buf .entry))) ⌝ }
+) -> EmitResult
+    ensures { λ r. ⌜ after r labels jumps buf ≡ put 0 (constant-fault k) (constant-items k c) (before asm labels jumps buf) ⌝ }
 {
     let b = bits_of(c);
     if 1007 < k {
@@ -786,7 +794,7 @@ pub fn append_const(
     let len = asm.len;
     mark(labels, i, len);
     put_quad(buf, len, b);
-    Done {
+    EmitResult {
         asm: Asm {
             len: len + 8,
             jumps: asm.jumps,
@@ -803,7 +811,7 @@ pub enum Aligned {
 
 // The next multiple of 16 above n.
 pub fn align_stack(n: u32) -> Aligned
-    ensures { λ r. ⌜ told-size r ≡ aligned n ⌝ }
+    ensures { λ r. ⌜ size-answer r ≡ aligned n ⌝ }
 {
     if n <= 0x7FFFF7FF {
         return Aligned::Size(n + 16 - n % 16);

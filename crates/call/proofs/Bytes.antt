@@ -1,4 +1,4 @@
--- A cell's bytes follow from its value; observation cells written in turn. Assumes nothing.
+-- A cell's bytes follow from its value; observation cells written in turn.
 use mathlib.Core.Path.{_≡_, refl, sym, _∙_}
 use mathlib.Core.Bool.{Bool, true, false}
 use Prim.Native.Nat.{ℕ, zero, suc, _+_, _*_, _≤_, _<_}
@@ -9,9 +9,8 @@ use lib.Dec.{ltb}
 use Rattle.machine.specs.Word.{w64, dist, byte, load8, store8}
 use Rattle.machine.specs.State.{State}
 use Rattle.machine.proofs.Memory.{store-miss}
-use Rattle.order.specs.declared.Head.{Head}
-use Rattle.framing.proofs.Claim as F
-use Rattle.call.specs.Terms.{table-cell, observed}
+use Rattle.ast.specs.declared.Head.{Head}
+use Rattle.reading.specs.Terms.{table-cell, observed}
 
 -- ---- bytes of a value
 
@@ -49,11 +48,6 @@ unfolding store8
 store-same m k a v x e = rw e
 
 module _ (H : Head) (s : State) where
-  -- as the frames have them
-  pub observed-is : (c : ℕ → ℕ) (i n : ℕ) (m : ℕ → ℕ) → F.observed H s c i n m ≡ observed H s c i n m
-  observed-is c i zero m = refl
-  observed-is c i (suc n) m = observed-is c (suc i) n (store8 m (table-cell H s (H .states + i)) (c (H .states + i)))
-
   -- where the two memories agree and the values are the same, they agree afterwards
   pub observed-same : (c d : ℕ → ℕ) (i n : ℕ) (m k : ℕ → ℕ) (x : ℕ) → ((j : ℕ) → j < i + n → c (H .states + j) ≡ d (H .states + j)) → m x ≡ k x → observed H s c i n m x ≡ observed H s d i n k x
   observed-same c d i zero m k x v e = e

@@ -1,4 +1,4 @@
--- A call of a program's words: prologue and saves, the body, reloads and epilogue, one behind another. Assumes nothing.
+-- A call of a program's words: prologue and saves, the body, reloads and epilogue, one behind another.
 use mathlib.Core.Path.{_≡_, refl, ap, sym, subst, _∙_}
 use mathlib.Core.Logic.{_⊎_, inl, inr}
 use mathlib.Core.Bool.{Bool, true, false, not, _||_, cond}
@@ -9,41 +9,41 @@ use native.Mathlib.Omega.{arith}
 use borrow.Author.Tests.{eqb-true}
 use lib.Dec.{T, eqb, leb, lit<, ltb→lt, T-not}
 use lib.ListN.{length, getD}
-use Rattle.order.specs.Count.{cells, cell-count}
+use Rattle.ast.specs.Count.{cells, cell-count}
 use Rattle.machine.specs.Word.{w64, upd, dist, load8}
 use Rattle.machine.specs.Floats.{Floats}
 use Rattle.machine.specs.State.{State, Sound}
 use Rattle.machine.specs.Step.{CodeAt, Among, RunIn}
 use Rattle.machine.proofs.Memory.{inside, dist-near, dist-back, load8-local, upd-other}
-use Rattle.machine.proofs.Effects.{and-r}
+use Rattle.base.proofs.Bools.{and-r}
 use Rattle.machine.proofs.Runs.{joined, wider, run-sound}
 use Rattle.assembler.specs.Resolved.{resolved}
-use Rattle.order.specs.declared.Place.{Place}
-use Rattle.order.specs.declared.Place.the-variants.{Mem, Stack, Param}
-use Rattle.order.specs.declared.Frame.{Frame}
-use Rattle.order.specs.declared.Frame.the-variants.{Fast, Indirect}
-use Rattle.order.specs.declared.Head.{Head}
-use Rattle.framing.specs.Size.{uses-table, holds-mem}
-use Rattle.framing.specs.Items.{kept}
-use Rattle.order.specs.Mask.{preserved, chosen, in-mask, saved}
-use Rattle.framing.specs.Fault.{prologue-holds, result-holds}
-use Rattle.framing.specs.Steps.{prologue-steps, epilogue-steps}
-use Rattle.framing.proofs.Claim.{mem-at, Observed-at, sets, end-sets, Ready}
-use Rattle.framing.proofs.Claim as F
-use Rattle.framing.proofs.Closing.{leaves}
-use Rattle.call.specs.Program.{Program}
-use Rattle.call.specs.Plain.{Reading, Reads, Ended}
-use Rattle.call.specs.Terms.{table-used, bottom, base, cell-address, as-called, table-cell, start-f, start, observed, end-obs, Within, frame, Terms}
+use Rattle.ast.specs.declared.Place.{Place}
+use Rattle.ast.specs.declared.Place.the-variants.{Mem, Stack, Param}
+use Rattle.ast.specs.declared.Frame.{Frame}
+use Rattle.ast.specs.declared.Frame.the-variants.{Fast, Indirect}
+use Rattle.ast.specs.declared.Head.{Head}
+use Rattle.reading.specs.Size.{uses-table, holds-mem}
+use Rattle.frame_code.specs.Items.{kept}
+use Rattle.ast.specs.Mask.{preserved, chosen, in-mask, saved}
+use Rattle.ast.specs.Counts.{prologue-holds, result-holds}
+use Rattle.frame_code.specs.Steps.{prologue-steps, epilogue-steps}
+use Rattle.frame_code.proofs.Ends.{mem-at, Observed-at, sets, end-sets, PrologueDone, EpilogueDone}
+use Rattle.frame_code.proofs.Closing.{leaves}
+use Rattle.reading.specs.Program.{Program}
+use Rattle.reading.specs.Plain.{Reading, Reads, Ended}
+use Rattle.reading.specs.Terms.{table-used, bottom, base, cell-address, as-called, table-cell, start-f, start, observed, end-obs, Within, frame, Terms}
 use Rattle.call.specs.Layout.{entry, exit, place, code-length, routine-words, line-offset}
-use Rattle.call.specs.Good.{member, Good}
+use Rattle.call.proofs.Good.{Good}
+use Rattle.base.specs.Tests.{member}
 use Rattle.call.specs.Returned.{callers, Byte-of, Observation, Returned}
-use Rattle.call.specs.Claim.{Claim, ForwardClaim}
+use Rattle.call.proofs.Claim.{Claim, ForwardClaim}
 use Rattle.call.proofs.Items.{resolved-length}
 use Rattle.call.proofs.Whole.{offset-exit, entry-fits, In-code, part-in}
 use Rattle.call.proofs.Forth.{ends}
 use Rattle.call.proofs.Words.{code-stands}
 use Rattle.call.proofs.Cells.{Inside, at-cell}
-use Rattle.call.proofs.Bytes.{same-bytes, observed-is, observed-same, observed-miss}
+use Rattle.call.proofs.Bytes.{same-bytes, observed-same, observed-miss}
 use Rattle.call.proofs.Follow.{lasting, Rel, Comes, follows}
 use Rattle.call.proofs.Saved.{Held, held}
 use Rattle.call.proofs.Lies.{Lies}
@@ -111,7 +111,7 @@ module _ (Q : Floats) (p : Program) (g : Good p) (s : State) (o : Sound s) (c : 
   abbrev first : State
   first = ready Q p g s o c t
 
-  abbrev r0 : Ready Q H (place p) s (bottom H s) first
+  abbrev r0 : PrologueDone Q H (place p) s (bottom H s) first
   r0 = opened Q p g s o c t .1
 
   abbrev l : Lies H (code-length p) s
@@ -128,13 +128,13 @@ module _ (Q : Floats) (p : Program) (g : Good p) (s : State) (o : Sound s) (c : 
   h = ran .rel
 
   -- the end
-  back : (v : State) × F.Returned Q H (place p) s (bottom H s) (line-offset p (r .line)) u v
+  back : (v : State) × EpilogueDone Q H (place p) s (bottom H s) (line-offset p (r .line)) u v
   back = leaves Q H (place p) s (bottom H s) (s .pc) (line-offset p (r .line)) u (leaving Q p g s o c t r u h n q z)
 
   abbrev v : State
   v = back .0
 
-  abbrev w : F.Returned Q H (place p) s (bottom H s) (line-offset p (r .line)) u v
+  abbrev w : EpilogueDone Q H (place p) s (bottom H s) (line-offset p (r .line)) u v
   w = back .1
 
   kept-held : Held (H .mask) (start H s) r
@@ -152,8 +152,8 @@ module _ (Q : Floats) (p : Program) (g : Good p) (s : State) (o : Sound s) (c : 
   end-bytes : (x : ℕ) → (Observed-at H s x → ⊥) → v .mem x ≡ u .mem x
   end-bytes x f = ap (λ (m : ℕ → ℕ). m x) (w .mem) ∙ by (table-used H s) (λ e j k d. f (e, j, k, d))
     where
-      by : (b : Bool) → (T b → (j : ℕ) → j < H .obs → dist (table-cell H s (H .states + j)) x < 8 → ⊥) → cond b (F.observed H s value 0 (H .obs) (u .mem)) (u .mem) x ≡ u .mem x
-      by true k = ap (λ (m : ℕ → ℕ). m x) (observed-is H s value 0 (H .obs) (u .mem)) ∙ observed-miss H s value 0 (H .obs) (u .mem) x (λ j i. k tt j (omega arith))
+      by : (b : Bool) → (T b → (j : ℕ) → j < H .obs → dist (table-cell H s (H .states + j)) x < 8 → ⊥) → cond b (observed H s value 0 (H .obs) (u .mem)) (u .mem) x ≡ u .mem x
+      by true k = observed-miss H s value 0 (H .obs) (u .mem) x (λ j i. k tt j (omega arith))
       by false k = refl
 
   -- no cell has a byte of an observation cell
@@ -170,8 +170,8 @@ module _ (Q : Floats) (p : Program) (g : Good p) (s : State) (o : Sound s) (c : 
   obs-after : (x : ℕ) → x < 2 ^ 64 → Observed-at H s x → v .mem x ≡ end-obs H s r x
   obs-after x b e = ap (λ (m : ℕ → ℕ). m x) (w .mem) ∙ by (table-used H s) (e .0)
     where
-      by : (b : Bool) → T b → cond b (F.observed H s value 0 (H .obs) (u .mem)) (u .mem) x ≡ cond b (observed H s (r .cells Mem) 0 (H .obs) (r .obs)) (r .obs) x
-      by true k = ap (λ (m : ℕ → ℕ). m x) (observed-is H s value 0 (H .obs) (u .mem)) ∙ observed-same H s value (r .cells Mem) 0 (H .obs) (u .mem) (r .obs) x (λ j i. mem-value (H .states + j) (omega arith)) (obs-before x b e ∙ ap (λ (m : ℕ → ℕ). m x) (sym (kept-held .obs)))
+      by : (b : Bool) → T b → cond b (observed H s value 0 (H .obs) (u .mem)) (u .mem) x ≡ cond b (observed H s (r .cells Mem) 0 (H .obs) (r .obs)) (r .obs) x
+      by true k = observed-same H s value (r .cells Mem) 0 (H .obs) (u .mem) (r .obs) x (λ j i. mem-value (H .states + j) (omega arith)) (obs-before x b e ∙ ap (λ (m : ℕ → ℕ). m x) (sym (kept-held .obs)))
       by false k = absurd k
 
   -- the two ways to say that a byte is of an observation cell

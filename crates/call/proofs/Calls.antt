@@ -13,12 +13,12 @@ use Rattle.machine.specs.Floats.{Floats}
 use Rattle.machine.specs.Binary64.{binary64}
 use Rattle.machine.specs.State.{State, Sound}
 use Rattle.machine.specs.Step.{Loaded, Run}
-use Rattle.machine.proofs.Effects.{and-l, and-r}
-use Rattle.order.specs.declared.Place.the-variants.{Mem, Param}
-use Rattle.order.specs.declared.Binary.the-variants.{Times}
-use Rattle.order.specs.declared.Order.{Order}
-use Rattle.order.specs.declared.Order.the-variants.{Binary, Load, Save}
-use Rattle.order.specs.declared.Frame.the-variants.{Fast, Indirect}
+use Rattle.base.proofs.Bools.{and-l, and-r}
+use Rattle.ast.specs.declared.Place.the-variants.{Mem, Param}
+use Rattle.ast.specs.declared.Binary.the-variants.{Times}
+use Rattle.ast.specs.declared.Order.{Order}
+use Rattle.ast.specs.declared.Order.the-variants.{Binary, Load, Save}
+use Rattle.ast.specs.declared.Frame.the-variants.{Fast, Indirect}
 use Rattle.assembler.specs.Bytes.{bytes}
 use Rattle.assembler.proofs.Writes.{length-bytes}
 use Rattle.accesses.specs.Code.{li-code, sub-stack-code, add-stack-code, allocate-stack-code, access-code, point-code}
@@ -26,15 +26,15 @@ use Rattle.reading.specs.Meaning.{meaning, binary}
 use Rattle.reading.specs.Line.{Line, order, constant}
 use Rattle.orders.specs.Code.{code, line-code, binary-code}
 use Rattle.orders.specs.Fault.{fault}
-use Rattle.order.specs.Mask.{saved}
-use Rattle.framing.specs.Items.{repeated, prologue, saves, reloads, epilogue}
-use Rattle.call.specs.Program.{Program, constants}
-use Rattle.call.specs.Plain.{Reading, with-cell, means, with-meaning, does, Reads, none-read, line-read}
-use Rattle.call.specs.Terms.{table-cell, start, Clear, frame, regions, Terms}
+use Rattle.ast.specs.Mask.{saved, saves as any-saved}
+use Rattle.frame_code.specs.Items.{repeated, prologue, saves, reloads, epilogue}
+use Rattle.reading.specs.Program.{Program, constants}
+use Rattle.reading.specs.Plain.{Reading, with-cell, means, with-meaning, does, Reads, none-read, line-read}
+use Rattle.reading.specs.Terms.{table-cell, start, Clear, frame, regions, Terms}
 use Rattle.call.specs.Layout.{span, body, constants-from, items, place, code-length, routine-words}
-use Rattle.call.specs.Good.{GoodOrder, Good}
+use Rattle.call.proofs.Good.{GoodOrder, Good}
 use Rattle.call.specs.Returned.{Returned}
-use Rattle.call.specs.Claim.{Called}
+use Rattle.call.proofs.Claim.{Called}
 use Rattle.call.proofs.Items.{resolved-length}
 use Rattle.call.proofs.Call.{call}
 
@@ -135,7 +135,7 @@ unfolding items span body constants constants-from prologue epilogue saves reloa
 sample-length = refl
 
 sample-good : Good sample
-unfolding saved constants
+unfolding any-saved constants
 sample-good =
     record {
       counts = tt;
@@ -200,7 +200,7 @@ each P (constant c ∷ ls) a zero o e = let z : _≡_ {A = ℕ} 0 1 = cc in absu
 each P (constant c ∷ ls) a (suc n) o e = each P ls a n o e
 
 product-good : Good product
-unfolding saved constants fault
+unfolding any-saved constants fault
 product-good =
     record {
       counts = tt;

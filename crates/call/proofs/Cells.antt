@@ -1,4 +1,4 @@
--- The cells of the three places in memory: one is set, the others and all outside stay. Assumes nothing.
+-- The cells of the three places in memory: one is set, the others and all outside stay.
 use mathlib.Core.Path.{_≡_, refl, ap, ap₂, _∙_}
 use mathlib.Core.Bool.{Bool, true, false, _&&_, cond}
 use mathlib.Core.List.{List, [], _∷_}
@@ -6,13 +6,13 @@ use Prim.Native.Nat.{ℕ, _+_, _*_, _^_, _≤_, _<_}
 use native.Mathlib.Omega.{arith}
 use borrow.Author.Tests.{ltb-true, ltb-false, eqb-true, eq-eqb}
 use lib.Dec.{eqb, ltb}
-use Rattle.isa.proofs.Validity.{both}
+use Rattle.base.proofs.Bools.{both}
 use Rattle.machine.specs.Word.{w64, dist, load8, store8}
 use Rattle.machine.proofs.Memory.{inside, store-miss, load-store, load8-store, Apart}
-use Rattle.order.specs.declared.Place.{Place}
-use Rattle.order.specs.declared.Place.the-variants.{Mem, Stack, Param}
+use Rattle.ast.specs.declared.Place.{Place}
+use Rattle.ast.specs.declared.Place.the-variants.{Mem, Stack, Param}
 use Rattle.reading.specs.Meaning.{Written}
-use Rattle.call.specs.Plain.{same-place, with-cell, with-cells}
+use Rattle.reading.specs.Plain.{same-place, with-cell, with-cells}
 
 -- x lies in one of the n cells at a
 abbrev pub Inside : (a n x : ℕ) → Type 0

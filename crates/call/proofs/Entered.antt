@@ -1,4 +1,4 @@
--- From the terms of a call to where the body starts: behind prologue and saves the machine stands at the reading's start. Assumes nothing.
+-- From the terms of a call to where the body starts: behind prologue and saves the machine stands at the reading's start.
 use mathlib.Core.Path.{_≡_, refl, ap, sym, _∙_}
 use mathlib.Core.Logic.{_⊎_, inl, inr}
 use mathlib.Core.Bool.{Bool, true, false, not, _&&_, _||_, cond}
@@ -8,58 +8,46 @@ use native.Mathlib.Omega.{arith}
 use borrow.Author.Tests.{ltb-true, ltb-false, eqb-true, eqb-false, leb-true}
 use lib.Dec.{T, eqb, ltb, leb, eqb·suc-zero}
 use lib.ListN.{length}
-use Rattle.order.specs.Count.{cells, param-count, cell-count}
+use Rattle.ast.specs.Count.{cells, param-count, cell-count}
 use Rattle.machine.specs.Word.{w64, upd, dist, load8}
 use Rattle.machine.specs.Floats.{Floats}
 use Rattle.machine.specs.State.{State, Sound}
 use Rattle.machine.specs.Step.{CodeAt}
 use Rattle.machine.proofs.Memory.{inside, dist-back, load8-local}
-use Rattle.machine.proofs.Effects.{and-l}
+use Rattle.base.proofs.Bools.{and-l}
 use Rattle.machine.proofs.Runs.{run-sound}
 use Rattle.machine.proofs.Placed.{code-kept}
-use Rattle.order.specs.declared.Place.{Place}
-use Rattle.order.specs.declared.Place.the-variants.{Mem, Stack, Param}
-use Rattle.order.specs.declared.Frame.{Frame}
-use Rattle.order.specs.declared.Frame.the-variants.{Fast, Indirect}
-use Rattle.order.specs.declared.Head.{Head}
+use Rattle.ast.specs.declared.Place.{Place}
+use Rattle.ast.specs.declared.Place.the-variants.{Mem, Stack, Param}
+use Rattle.ast.specs.declared.Frame.{Frame}
+use Rattle.ast.specs.declared.Frame.the-variants.{Fast, Indirect}
+use Rattle.ast.specs.declared.Head.{Head}
 use Rattle.assembler.specs.Resolved.{resolved}
 use Rattle.orders.specs.Code as O
-use Rattle.framing.specs.Size.{holds-mem, stack-size}
-use Rattle.framing.specs.Fault.{prologue-holds}
-use Rattle.order.specs.Mask.{saved, save-cell}
-use Rattle.framing.proofs.Claim.{mem-at, state-of, indirect, Called, Ready}
-use Rattle.framing.proofs.Opened.{opens}
-use Rattle.call.specs.Program.{Program}
-use Rattle.call.specs.Terms.{table-used, frame-bytes, bottom, base, as-called, table-cell, state-value, stack-value, start-cells, start-f, start, Terms}
+use Rattle.reading.specs.Size.{holds-mem, stack-size}
+use Rattle.ast.specs.Counts.{prologue-holds, cap-holds}
+use Rattle.ast.specs.Mask.{saved, save-cell, saves}
+use Rattle.ast.proofs.Masked.{none-saved}
+use Rattle.frame_code.proofs.Ends.{mem-at, indirect, PrologueTerms, PrologueDone}
+use Rattle.frame_code.proofs.Opened.{opens}
+use Rattle.reading.specs.Program.{Program}
+use Rattle.reading.specs.Terms.{table-used, frame-bytes, bottom, base, as-called, table-cell, state-value, stack-value, start-cells, start-f, start, Terms}
 use Rattle.call.specs.Layout.{span, body, items, place, entry, exit, code-items, data-items, code-length, routine-words, line-offset}
-use Rattle.call.specs.Good.{cap-holds, Good}
+use Rattle.call.proofs.Good.{Good}
 use Rattle.call.proofs.Items.{span-append, resolved-length}
 use Rattle.call.proofs.Whole.{entry-part, entry-stands}
 use Rattle.call.proofs.Cells.{at-cell}
 use Rattle.call.proofs.Follow.{Rel, Ground}
 use Rattle.call.proofs.Lies.{Lies, lies}
 
--- f10 holds the last state where a table with states was read
-last-state : (b : Bool) (f v : ℕ → ℕ) (n : ℕ) → cond (b && not (eqb (suc n) 0)) (upd f 10 (v (suc n - 1))) f ≡ cond b (upd f 10 (v n)) f
-last-state true f v n = let e : suc n - 1 ≡ n = omega arith in rw (eqb·suc-zero n, e)
-last-state false f v n = refl
-
-start-floats : (H : Head) (s : State) (n : ℕ) → cond (table-used H s && not (eqb n 0)) (upd (s .f) 10 (load8 (s .mem) (table-cell H s (n - 1)))) (s .f) ≡ start-f H s n
-start-floats H s zero = by (table-used H s)
-  where
-    by : (b : Bool) → cond (b && false) (upd (s .f) 10 (load8 (s .mem) (table-cell H s (0 - 1)))) (s .f) ≡ s .f
-    by true = refl
-    by false = refl
-start-floats H s (suc n) = last-state (table-used H s) (s .f) (λ k. load8 (s .mem) (table-cell H s k)) n
-
 -- a saved register's cell has a cap of 16
 pub saves-room : (H : Head) → T (cap-holds H) → (r : ℕ) → List·Memᴰ r (saved (H .mask)) → 16 ≤ H .cap
-saves-room H h r m = by (leb 16 (H .cap)) refl (saved (H .mask)) h m
+saves-room H h r m = by (leb 16 (H .cap)) (saves (H .mask)) refl refl h
   where
-    by : (b : Bool) → leb 16 (H .cap) ≡ b → (rs : List ℕ) → T (b || eqb (length rs) 0) → List·Memᴰ r rs → 16 ≤ H .cap
-    by b e [] h m = absurd (List·Memᴰ·not-nil m)
-    by true e (k ∷ rs) h m = leb-true 16 (H .cap) e
-    by false e (k ∷ rs) h m = absurd (rw (eqb·suc-zero (length rs)) at h)
+    by : (b t : Bool) → leb 16 (H .cap) ≡ b → saves (H .mask) ≡ t → T (b || not t) → 16 ≤ H .cap
+    by true t e q h = leb-true 16 (H .cap) e
+    by false true e q h = absurd h
+    by false false e q h = absurd (List·Memᴰ·not-nil (rw (none-saved (H .mask) q) at m))
 
 -- the cells of `stack`: a saved register's, or what memory held
 stack-found : (H : Head) (s : State) (m : ℕ → ℕ) (b i : ℕ) (rs : List ℕ) → ((r : ℕ) → List·Memᴰ r rs → load8 m (b + 8 * save-cell r) ≡ s .f r) → (((r : ℕ) → List·Memᴰ r rs → save-cell r ≡ i → ⊥) → load8 m (b + 8 * i) ≡ as-called H s Stack i) → load8 m (b + 8 * i) ≡ stack-value H s rs i
@@ -89,7 +77,7 @@ module _ (Q : Floats) (p : Program) (g : Good p) (s : State) (o : Sound s) (c : 
   unfolding items
   entry-span = omega (arith, span-append (code-items p) (data-items p), span-append (entry p) (body (p .lines) ++ exit p))
 
-  called : Called H (place p) s (bottom H s)
+  called : PrologueTerms H (place p) s (bottom H s)
   called =
       let e : 4 * length (resolved (place p) 0 (entry p)) ≡ span (entry p) = resolved-length (place p) 0 (entry p) in
       record {
@@ -110,7 +98,7 @@ module _ (Q : Floats) (p : Program) (g : Good p) (s : State) (o : Sound s) (c : 
         block-apart = λ h x b d f. lying .block-frame h x (inside (s .x 10) (8 * cells H) x (lying .block-top h) b d) f;
       }
 
-  pub opened : (u : State) × Ready Q H (place p) s (bottom H s) u
+  pub opened : (u : State) × PrologueDone Q H (place p) s (bottom H s) u
   opened = opens Q H (place p) s (bottom H s) called
 
   -- ---- the machine behind prologue and saves
@@ -118,7 +106,7 @@ module _ (Q : Floats) (p : Program) (g : Good p) (s : State) (o : Sound s) (c : 
   abbrev pub ready : State
   ready = opened .0
 
-  abbrev r : Ready Q H (place p) s (bottom H s) ready
+  abbrev r : PrologueDone Q H (place p) s (bottom H s) ready
   r = opened .1
 
   pub mem-base-is : base H s Mem ≡ mem-at H s (bottom H s)
@@ -128,18 +116,6 @@ module _ (Q : Floats) (p : Program) (g : Good p) (s : State) (o : Sound s) (c : 
       by true h = h tt
       by false h = refl
 
-  -- state i, as the frames have it and as the reading has it
-  state-is : (i : ℕ) → state-of (H .frame) s i ≡ state-value H s (H .frame) i
-  state-is i = by (H .frame) refl (eqb (s .x 11) 0) refl
-    where
-      block : H .frame ≡ Indirect → eqb (s .x 11) 0 ≡ true → s .x 10 ≡ base H s Mem
-      block e f = rw (e, f)
-
-      by : (F : Frame) → H .frame ≡ F → (b : Bool) → eqb (s .x 11) 0 ≡ b → state-of F s i ≡ state-value H s F i
-      by Fast e b f = refl
-      by Indirect e true f = rw f (ap (λ (a : ℕ). load8 (s .mem) (w64 (a + 8 * i))) (block e f))
-      by Indirect e false f = rw f
-
   pub outside-frame : (x : ℕ) → x < 2 ^ 64 → ((bottom H s ≤ x) × (x < bottom H s + frame-bytes H s) → ⊥) → ready .mem x ≡ s .mem x
   outside-frame x b f = r .mem x b f
 
@@ -147,7 +123,7 @@ module _ (Q : Floats) (p : Program) (g : Good p) (s : State) (o : Sound s) (c : 
   start-cell Mem i h = rw mem-base-is (by (ltb i (H .states)) refl)
     where
       by : (b : Bool) → ltb i (H .states) ≡ b → load8 (ready .mem) (w64 (mem-at H s (bottom H s) + 8 * i)) ≡ cond b (state-value H s (H .frame) i) (load8 (s .mem) (w64 (mem-at H s (bottom H s) + 8 * i)))
-      by true e = r .states i (ltb-true i (H .states) e) ∙ state-is i
+      by true e = r .states i (ltb-true i (H .states) e)
       by false e = r .mem-cells i (ltb-false i (H .states) e) h
   start-cell Stack i h =
       rw (at-cell (lying .rooms) Stack i h)
@@ -167,7 +143,7 @@ module _ (Q : Floats) (p : Program) (g : Good p) (s : State) (o : Sound s) (c : 
       record {
         sound = run-sound Q (r .runs .runs) o;
         pc = r .pc ∙ ap (λ (k : ℕ). w64 (s .pc + k)) (omega (arith, resolved-length (place p) 0 (entry p)));
-        f = r .f ∙ start-floats H s (H .states);
+        f = r .f;
         rm = r .rm;
         cells = start-cell;
         rest = λ x b f. refl;

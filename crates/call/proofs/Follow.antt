@@ -1,4 +1,4 @@
--- The machine follows the plain reading, line by line. Assumes nothing.
+-- The machine follows the plain reading, line by line.
 use mathlib.Core.Path.{_≡_, refl, ap, _∙_}
 use mathlib.Core.Bool.{Bool, not, _&&_, _||_}
 use mathlib.Core.List.{List, [], _∷_}
@@ -8,7 +8,7 @@ use native.Mathlib.Omega.{arith}
 use borrow.Author.Tests.{ne-eqb}
 use lib.Dec.{T, eqb, leb}
 use lib.ListN.{length, getElem?}
-use Rattle.order.specs.Count.{cell-count}
+use Rattle.ast.specs.Count.{cell-count}
 use Rattle.machine.specs.Word.{w64, load8}
 use Rattle.machine.specs.Floats.{Floats}
 use Rattle.machine.specs.State.{State, Sound, getx}
@@ -17,21 +17,21 @@ use Rattle.machine.specs.Ends.{temporary}
 use Rattle.machine.proofs.Memory.{inside}
 use Rattle.machine.proofs.Runs.{no-step, joined, wider, run-sound}
 use Rattle.machine.proofs.Placed.{code-kept}
-use Rattle.order.specs.declared.Place.{Place}
-use Rattle.order.specs.declared.Place.the-variants.{Mem, Stack, Param}
-use Rattle.order.specs.declared.Order.{Order}
+use Rattle.ast.specs.declared.Place.{Place}
+use Rattle.ast.specs.declared.Place.the-variants.{Mem, Stack, Param}
+use Rattle.ast.specs.declared.Order.{Order}
 use Rattle.assembler.specs.Resolved.{resolved}
 use Rattle.reading.specs.Meaning.{Exit, on, to, Written, Meaning, meaning}
 use Rattle.reading.specs.Line.{Line, order, constant, weight}
 use Rattle.orders.specs.Code.{code, line-code}
 use Rattle.orders.specs.Code as O
-use Rattle.orders.specs.Does.{At, Does, cell-value, const-value, written, exit-address}
+use Rattle.orders.specs.Does.{At, OrderDoes, cell-value, const-value, written, exit-address}
 use Rattle.orders.proofs.Does.{order-does}
 use Rattle.orders.proofs.Laws.{line-length}
-use Rattle.call.specs.Program.{Program}
-use Rattle.call.specs.Plain.{Reading, goes, const, means, with-meaning, passed, Step, does, passes, Reads, none-read, line-read}
+use Rattle.reading.specs.Program.{Program}
+use Rattle.reading.specs.Plain.{Reading, goes, const, means, with-meaning, passed, Step, does, passes, Reads, none-read, line-read}
 use Rattle.call.specs.Layout.{span, place, items, code-length, routine-words, line-offset}
-use Rattle.call.specs.Good.{GoodOrder, Good}
+use Rattle.call.proofs.Good.{GoodOrder, Good}
 use Rattle.call.proofs.Items.{resolved-length}
 use Rattle.call.proofs.Whole.{line-part, constant-part, offset-next, offset-four, offset-exit, offset-small, user-place, constants-place, placed, In-code, part-in}
 use Rattle.call.proofs.Cells.{Inside, Rooms, Fine, stored, stored-cells, stored-rest}
@@ -146,7 +146,7 @@ module _ (Q : Floats) (p : Program) (A : Place → ℕ) (start : ℕ) (x0 m0 : �
               code = rw (h .pc) (line-part p (s .mem) start (g .start-small) (code-now r s h) (r .line) (order o) e);
             }
 
-        done : Does (place p) start Q here o s
+        done : OrderDoes (place p) start Q here o s
         done = order-does Q (place p) (placed p (g .good)) start here o (fits .fault-free) s stands
 
         -- the machine's readers are the reading's

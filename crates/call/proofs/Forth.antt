@@ -1,4 +1,4 @@
--- A reading whose branches go forward ends. Assumes nothing.
+-- A reading whose branches go forward ends.
 use mathlib.Core.Path.{_≡_, refl, ap, _∙_}
 use mathlib.Core.List.{List, [], _∷_}
 use mathlib.Core.Option.{Option, some, none, IsSome}
@@ -7,13 +7,13 @@ use native.Mathlib.Decide.{decLt}
 use native.Mathlib.Omega.{arith}
 use lib.ListN.{length, getElem?}
 use Rattle.machine.specs.Floats.{Floats}
-use Rattle.order.specs.declared.Order.{Order}
-use Rattle.order.specs.declared.Order.the-variants.{BranchIf}
+use Rattle.ast.specs.declared.Order.{Order}
+use Rattle.ast.specs.declared.Order.the-variants.{BranchIf}
 use Rattle.reading.specs.Meaning.{Exit, on, to}
 use Rattle.reading.specs.Line.{Line, order, constant, weight}
-use Rattle.call.specs.Program.{Program, label-line}
-use Rattle.call.specs.Plain.{Reading, goes, const, means, with-meaning, passed, Step, does, passes, Reads, none-read, line-read, Ended, Forward}
-use Rattle.call.specs.Good.{Good}
+use Rattle.reading.specs.Program.{Program, label-line}
+use Rattle.reading.specs.Plain.{Reading, goes, const, means, with-meaning, passed, Step, does, passes, Reads, none-read, line-read, Ended, Forward}
+use Rattle.call.proofs.Good.{Good}
 use Rattle.call.proofs.Means.{exit-branch}
 use Rattle.call.proofs.Placing.{labelled}
 

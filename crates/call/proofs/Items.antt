@@ -1,4 +1,4 @@
--- Laws of items one behind another: their bytes, their words, and where they set labels. Assumes nothing.
+-- Laws of items one behind another: their bytes, their words, and where they set labels.
 use mathlib.Core.Path.{_≡_, refl, subst}
 use mathlib.Core.Bool.{Bool, true, false, cond}
 use mathlib.Core.List.{List, [], _∷_, _++_, map}
@@ -12,7 +12,7 @@ use lib.ListN.{length}
 use Rattle.isa.specs.Instr.{Instr}
 use Rattle.assembler.specs.Item.{Item, instr, raw, jump, label}
 use Rattle.assembler.specs.Resolved.{resolved, label-place}
-use Rattle.framing.proofs.Walk.{Stands, resolved-append as resolved-behind}
+use Rattle.frame_code.proofs.Walk.{Stands, resolved-append as resolved-behind}
 use Rattle.call.specs.Layout.{span}
 
 pub span-append : (xs ys : List Item) → span (xs ++ ys) ≡ span xs + span ys

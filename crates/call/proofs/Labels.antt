@@ -1,4 +1,4 @@
--- The labels of the frames: each is set once, and none is a user's or a constant's. Assumes nothing.
+-- The labels of the frames: each is set once, and none is a user's or a constant's.
 use mathlib.Core.Bool.{Bool, true, false, cond}
 use mathlib.Core.Path.{_≡_}
 use mathlib.Core.List.{List, [], _∷_, _++_, map, append-assoc}
@@ -7,15 +7,15 @@ use native.Mathlib.Omega.{arith}
 use lib.Dec.{eqb, leb}
 use lib.IntN.{pos, negsuc}
 use Rattle.isa.specs.Instr.{Instr, R, I, Shift, ADD, ADDI, FLD, SLLI}
-use Rattle.order.specs.declared.Frame.{Frame}
-use Rattle.order.specs.declared.Frame.the-variants.{Fast, Indirect}
-use Rattle.order.specs.declared.Head.{Head}
+use Rattle.ast.specs.declared.Frame.{Frame}
+use Rattle.ast.specs.declared.Frame.the-variants.{Fast, Indirect}
+use Rattle.ast.specs.declared.Head.{Head}
 use Rattle.assembler.specs.Item.{Item, jump, label}
-use Rattle.assembler.specs.declared.Kind.the-variants.{Bne}
+use Rattle.assembler.specs.declared.JumpKind.the-variants.{Bne}
 use Rattle.accesses.specs.Code.{li-code, sub-stack-code, allocate-stack-code}
-use Rattle.framing.specs.Size.{frame-size, stack-size}
-use Rattle.order.specs.Mask.{saved}
-use Rattle.framing.specs.Items.{code, mv, opening, closing, times-over, states-from, state-copy, obs-copy, at-pro, at-epi, at-done, at-main, save, reload, by-frame, repeated, prologue, prologue-fast, prologue-indirect, epilogue, epilogue-fast, epilogue-indirect, saves, reloads}
+use Rattle.reading.specs.Size.{frame-size, stack-size}
+use Rattle.ast.specs.Mask.{saved}
+use Rattle.frame_code.specs.Items.{code, mv, opening, closing, times-over, states-from, state-copy, obs-copy, at-pro, at-epi, at-done, at-main, save, reload, by-frame, repeated, prologue, prologue-fast, prologue-indirect, epilogue, epilogue-fast, epilogue-indirect, saves, reloads}
 use Rattle.call.proofs.Items.{Fresh, fresh-instrs, fresh-then}
 
 -- those of prologues, and those of what follows the body

@@ -1,33 +1,33 @@
--- Behind the body: what reloads and epilogue ask for. Assumes nothing.
+-- Behind the body: what reloads and epilogue ask for.
 use mathlib.Core.Path.{_≡_, ap, sym, _∙_}
 use mathlib.Core.List.{List·Memᴰ}
 use Prim.Native.Nat.{ℕ, _+_, _*_, _^_, _≤_, _<_}
 use native.Mathlib.Omega.{arith}
 use lib.Dec.{T, ltb, ltb→lt}
 use lib.ListN.{length}
-use Rattle.order.specs.Count.{cells, cell-count}
+use Rattle.ast.specs.Count.{cells, cell-count}
 use Rattle.machine.specs.Word.{w64, dist, load8}
 use Rattle.machine.specs.Floats.{Floats}
 use Rattle.machine.specs.State.{State, Sound}
 use Rattle.machine.specs.Step.{CodeAt}
 use Rattle.machine.proofs.Memory.{inside, load8-local}
-use Rattle.machine.proofs.Effects.{and-l, and-r}
-use Rattle.order.specs.declared.Place.{Place}
-use Rattle.order.specs.declared.Place.the-variants.{Stack}
-use Rattle.order.specs.declared.Frame.{Frame}
-use Rattle.order.specs.declared.Frame.the-variants.{Fast, Indirect}
-use Rattle.order.specs.declared.Head.{Head}
+use Rattle.base.proofs.Bools.{and-l, and-r}
+use Rattle.ast.specs.declared.Place.{Place}
+use Rattle.ast.specs.declared.Place.the-variants.{Stack}
+use Rattle.ast.specs.declared.Frame.{Frame}
+use Rattle.ast.specs.declared.Frame.the-variants.{Fast, Indirect}
+use Rattle.ast.specs.declared.Head.{Head}
 use Rattle.assembler.specs.Resolved.{resolved}
-use Rattle.framing.specs.Size.{save-size, below-saves}
-use Rattle.framing.specs.Items.{kept}
-use Rattle.order.specs.Mask.{saved, save-cell}
-use Rattle.framing.proofs.Rows.{saved-proper}
-use Rattle.framing.proofs.Claim.{Observed-at, Ready, Leaving}
-use Rattle.call.specs.Program.{Program}
-use Rattle.call.specs.Plain.{Reading, Reads, Ended}
-use Rattle.call.specs.Terms.{table-used, frame-bytes, bottom, base, start, Within, frame, Terms}
+use Rattle.reading.specs.Size.{save-size, below-saves}
+use Rattle.frame_code.specs.Items.{kept}
+use Rattle.ast.specs.Mask.{saved, save-cell}
+use Rattle.frame_code.proofs.Rows.{saved-proper}
+use Rattle.frame_code.proofs.Ends.{Observed-at, PrologueDone, EpilogueTerms}
+use Rattle.reading.specs.Program.{Program}
+use Rattle.reading.specs.Plain.{Reading, Reads, Ended}
+use Rattle.reading.specs.Terms.{table-used, frame-bytes, bottom, base, start, Within, frame, Terms}
 use Rattle.call.specs.Layout.{span, place, exit, code-length, routine-words, line-offset}
-use Rattle.call.specs.Good.{Good}
+use Rattle.call.proofs.Good.{Good}
 use Rattle.call.proofs.Items.{resolved-length}
 use Rattle.call.proofs.Whole.{exit-part, exit-stands, offset-four, offset-exit}
 use Rattle.call.proofs.Cells.{Inside, at-cell}
@@ -52,7 +52,7 @@ module _ (Q : Floats) (p : Program) (g : Good p) (s : State) (o : Sound s) (c : 
   abbrev first : State
   first = ready Q p g s o c t
 
-  abbrev r0 : Ready Q H (place p) s (bottom H s) first
+  abbrev r0 : PrologueDone Q H (place p) s (bottom H s) first
   r0 = opened Q p g s o c t .1
 
   abbrev l : Lies H (code-length p) s
@@ -113,7 +113,7 @@ module _ (Q : Floats) (p : Program) (g : Good p) (s : State) (o : Sound s) (c : 
           let w = inside (s .pc + here) (span (exit p)) x (omega (arith, exit-span, l .code-top)) b f in
           l .obs-off (v .0) (v .1) (v .2) x b (v .3) .0 (omega (arith, w .0), omega (arith, w .1, exit-span))
 
-      pub leaving : Leaving H (place p) s (bottom H s) (s .pc) here u
+      pub leaving : EpilogueTerms H (place p) s (bottom H s) (s .pc) here u
       leaving =
           let e : 4 * length (resolved (place p) here (exit p)) ≡ span (exit p) = resolved-length (place p) here (exit p) in
           record {

@@ -1,3 +1,5 @@
+pub mod Good
+pub mod Claim
 pub mod Items
 pub mod Labels
 pub mod Placing
@@ -13,6 +15,4 @@ pub mod Bytes
 pub mod Left
 pub mod Call
 pub mod Words
-pub mod Decks
 pub mod Calls
-pub mod One

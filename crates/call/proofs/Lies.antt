@@ -1,25 +1,25 @@
--- Where code, frame, cells and table lie under the terms of a call, over both frames. Assumes nothing.
+-- Where code, frame, cells and table lie under the terms of a call, over both frames.
 use mathlib.Core.Path.{_≡_, refl, sym, subst, fun-ext}
 use mathlib.Core.Bool.{Bool, true, false, not, _&&_}
 use mathlib.Core.List.{[], _∷_}
 use Prim.Native.Nat.{ℕ, zero, suc, _+_, _-_, _*_, _^_, _≤_, _<_}
 use native.Mathlib.Omega.{arith}
 use lib.Dec.{T, eqb, leb, leb→le}
-use Rattle.order.specs.Count.{cells, cell-count}
+use Rattle.ast.specs.Count.{cells, cell-count}
 use Rattle.machine.specs.Word.{w64, dist}
 use Rattle.machine.specs.State.{State, Sound}
 use Rattle.machine.proofs.Memory.{dist-back}
-use Rattle.machine.proofs.Effects.{and-l, and-r}
-use Rattle.order.specs.declared.Place.{Place}
-use Rattle.order.specs.declared.Place.the-variants.{Mem, Stack, Param}
-use Rattle.order.specs.declared.Frame.{Frame}
-use Rattle.order.specs.declared.Frame.the-variants.{Fast, Indirect}
-use Rattle.order.specs.declared.Head.{Head}
-use Rattle.assembler.specs.Constant.{align16}
-use Rattle.framing.specs.Size.{holds-mem, stack-size, below-saves}
-use Rattle.framing.specs.Fault.{epilogue-holds}
-use Rattle.call.specs.Plain.{same-place}
-use Rattle.call.specs.Terms.{table-used, frame-bytes, bottom, base, table-cell, Within, code, frame, table, block, params, Separate, Terms}
+use Rattle.base.proofs.Bools.{and-l, and-r}
+use Rattle.ast.specs.declared.Place.{Place}
+use Rattle.ast.specs.declared.Place.the-variants.{Mem, Stack, Param}
+use Rattle.ast.specs.declared.Frame.{Frame}
+use Rattle.ast.specs.declared.Frame.the-variants.{Fast, Indirect}
+use Rattle.ast.specs.declared.Head.{Head}
+use Rattle.ast.specs.Align.{align16}
+use Rattle.reading.specs.Size.{holds-mem, stack-size, below-saves}
+use Rattle.ast.specs.Counts.{epilogue-holds}
+use Rattle.reading.specs.Plain.{same-place}
+use Rattle.reading.specs.Terms.{table-used, frame-bytes, bottom, base, table-cell, Within, code, frame, table, block, params, Separate, Terms}
 use Rattle.call.proofs.Cells.{Inside, Rooms}
 
 pub record Lies (H : Head) (len : ℕ) (s : State) : Type 0 where

@@ -1,4 +1,4 @@
--- What an order's meaning rests on, and what it leaves, for an order of a good program. Assumes nothing.
+-- What an order's meaning rests on, and what it leaves, for an order of a good program.
 use mathlib.Core.Path.{_≡_, refl, ap}
 use mathlib.Core.Bool.{Bool, true, false, cond}
 use mathlib.Core.List.{List, [], _∷_}
@@ -6,19 +6,20 @@ use Prim.Native.Nat.{ℕ, _^_, _≤_, _<_}
 use native.Mathlib.Omega.{arith}
 use lib.Dec.{T, leb, leb→le, ltb→lt}
 use lib.ListN.{length}
-use Rattle.order.specs.Count.{cell-count, index-holds}
+use Rattle.ast.specs.Count.{cell-count}
+use Rattle.ast.specs.Uses.{index-holds, registers-fit}
 use Rattle.machine.specs.Floats.{Floats}
-use Rattle.order.specs.declared.Place.{Place}
-use Rattle.order.specs.declared.Place.the-variants.{Stack}
-use Rattle.order.specs.declared.Head.{Head}
-use Rattle.order.specs.declared.Order.{Order}
-use Rattle.order.specs.declared.Order.the-variants.{Unary, Scratched, Binary, Fused, Ifelse, LoadConst, Load, Save, BranchIf, SetLabel}
-use Rattle.accesses.proofs.Then.{passed}
+use Rattle.ast.specs.declared.Place.{Place}
+use Rattle.ast.specs.declared.Place.the-variants.{Stack}
+use Rattle.ast.specs.declared.Head.{Head}
+use Rattle.ast.specs.declared.Order.{Order}
+use Rattle.ast.specs.declared.Order.the-variants.{Unary, Scratched, Binary, Fused, Ifelse, LoadConst, Load, Save, BranchIf, SetLabel}
+use Rattle.base.proofs.Bools.{passed}
 use Rattle.reading.specs.Meaning.{on, to, jumps, meaning}
 use Rattle.reading.specs.Line.{Line}
-use Rattle.orders.specs.Fault.{registers-fit, fault}
-use Rattle.call.specs.Program.{constants}
-use Rattle.call.specs.Good.{Named}
+use Rattle.orders.specs.Fault.{fault}
+use Rattle.reading.specs.Program.{constants}
+use Rattle.call.proofs.Good.{Named}
 use Rattle.call.proofs.Cells.{Fine}
 
 -- labels and constants that the orders take

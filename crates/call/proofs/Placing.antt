@@ -1,4 +1,4 @@
--- Where a routine's lines, labels and constants stand. Assumes nothing.
+-- Where a routine's lines, labels and constants stand.
 use mathlib.Core.Path.{_≡_, refl, ap, _∙_}
 use mathlib.Core.Bool.{Bool, true, false, cond}
 use mathlib.Core.List.{List, [], _∷_, _++_}
@@ -13,15 +13,16 @@ use Rattle.machine.specs.Word.{w64, load8}
 use Rattle.machine.specs.Step.{CodeAt}
 use Rattle.machine.proofs.Memory.{wrap-l}
 use Rattle.machine.proofs.Placed.{code-left, code-right, code-eight}
-use Rattle.order.specs.declared.Order.{Order}
-use Rattle.order.specs.declared.Order.the-variants.{Unary, Scratched, Binary, Fused, Ifelse, LoadConst, Load, Save, BranchIf, SetLabel}
+use Rattle.ast.specs.declared.Order.{Order}
+use Rattle.ast.specs.declared.Order.the-variants.{Unary, Scratched, Binary, Fused, Ifelse, LoadConst, Load, Save, BranchIf, SetLabel}
 use Rattle.assembler.specs.Item.{label}
 use Rattle.assembler.specs.Resolved.{resolved, label-place}
-use Rattle.assembler.specs.Constant.{constant-label}
+use Rattle.ast.specs.Constant.{constant-label}
 use Rattle.reading.specs.Line.{Line, order, constant}
 use Rattle.accesses.specs.Code.{load-int-code, load-float-code, save-float-code}
 use Rattle.orders.specs.Code.{base, unary-code, scratched-code, binary-code, choose-code, code, line-code}
-use Rattle.call.specs.Program.{sets, here-or, label-line}
+use Rattle.reading.specs.Program.{here-or, label-line}
+use Rattle.ast.specs.Uses.{sets}
 use Rattle.call.specs.Layout.{span, body, constants-from}
 use Rattle.call.proofs.Items.{span-append, resolved-append, resolved-length, Unset, unset-append, unset-instrs, past}
 

@@ -1,4 +1,4 @@
--- Preserved float registers while a good program is read: those outside the mask stay, and so do the cells of the saved ones. Assumes nothing.
+-- Preserved float registers while a good program is read: those outside the mask stay, and so do the cells of the saved ones.
 use mathlib.Core.Path.{_≡_, refl, ap, sym, _∙_}
 use mathlib.Core.Logic.{_≢_, _⊎_, inl, inr}
 use mathlib.Core.Bool.{Bool, true, false, not, _&&_, _||_, cond}
@@ -11,21 +11,23 @@ use lib.ListN.{getElem?}
 use Rattle.machine.specs.Word.{upd}
 use Rattle.machine.specs.Floats.{Floats}
 use Rattle.machine.proofs.Memory.{upd-other}
-use Rattle.machine.proofs.Effects.{and-l, and-r}
-use Rattle.order.specs.declared.Place.{Place}
-use Rattle.order.specs.declared.Place.the-variants.{Mem, Stack, Param}
-use Rattle.order.specs.declared.Unary as U
-use Rattle.order.specs.declared.Unary.the-variants.{Fmov, Recip, Round, Floor, Not}
-use Rattle.order.specs.declared.Scratched as S
-use Rattle.order.specs.declared.Scratched.the-variants.{Sign, Frac}
-use Rattle.order.specs.declared.Order.{Order}
-use Rattle.order.specs.declared.Order.the-variants.{Unary, Scratched, Binary, Fused, Ifelse, LoadConst, Load, Save, BranchIf, SetLabel}
+use Rattle.base.proofs.Bools.{and-l, and-r}
+use Rattle.ast.specs.declared.Place.{Place}
+use Rattle.ast.specs.declared.Place.the-variants.{Mem, Stack, Param}
+use Rattle.ast.specs.declared.Unary as U
+use Rattle.ast.specs.declared.Unary.the-variants.{Fmov, Recip, Round, Floor, Not}
+use Rattle.ast.specs.declared.Scratched as S
+use Rattle.ast.specs.declared.Scratched.the-variants.{Sign, Frac}
+use Rattle.ast.specs.declared.Order.{Order}
+use Rattle.ast.specs.declared.Order.the-variants.{Unary, Scratched, Binary, Fused, Ifelse, LoadConst, Load, Save, BranchIf, SetLabel}
 use Rattle.reading.specs.Meaning.{unary, scratched, meaning}
 use Rattle.reading.specs.Line.{Line}
-use Rattle.order.specs.Mask.{preserved, in-mask, saved, save-cell}
-use Rattle.call.specs.Program.{Program}
-use Rattle.call.specs.Plain.{Reading, with-cell, with-cells, Step, does, passes, Reads, none-read, line-read}
-use Rattle.call.specs.Good.{member, all-hold, unary-writes, writes, free, stores-open, Good}
+use Rattle.ast.specs.Mask.{preserved, in-mask, saved, save-cell, free}
+use Rattle.reading.specs.Program.{Program}
+use Rattle.reading.specs.Plain.{Reading, with-cell, with-cells, Step, does, passes, Reads, none-read, line-read}
+use Rattle.call.proofs.Good.{Good}
+use Rattle.base.specs.Tests.{member, all}
+use Rattle.ast.specs.Uses.{unary-writes, writes, stores-open}
 
 upd-self : (f : ℕ → ℕ) (d y : ℕ) → upd f d (f d) y ≡ f y
 unfolding upd
@@ -57,11 +59,11 @@ module _ (mask : ℕ) where
         upd-other (upd f e v) d w y (not-free y d g (and-l (free mask d) true (and-r (free mask e) _ h)))
         ∙ upd-other f e v y (not-free y e g (and-l (free mask e) _ h))
 
-    unary-keeps : (k : U.Unary) (d s : ℕ) → T (all-hold (free mask) (unary-writes k d s)) → unary Q rm k f d s y ≡ f y
+    unary-keeps : (k : U.Unary) (d s : ℕ) → T (all (free mask) (unary-writes k d s)) → unary Q rm k f d s y ≡ f y
     unfolding unary
     unary-keeps Fmov d s h = by (eqb d s) refl h
       where
-        by : (b : Bool) → eqb d s ≡ b → T (all-hold (free mask) (cond b [] (d ∷ []))) → upd f d (f s) y ≡ f y
+        by : (b : Bool) → eqb d s ≡ b → T (all (free mask) (cond b [] (d ∷ []))) → upd f d (f s) y ≡ f y
         by true e h = rw (← (eqb-true d s e)) (upd-self f d y)
         by false e h = one d (f s) h
     unary-keeps Recip d s h = two d 10 _ _ h
@@ -69,13 +71,13 @@ module _ (mask : ℕ) where
     unary-keeps Floor d s h = one d _ h
     unary-keeps Not d s h = one d _ h
 
-    scratched-keeps : (k : S.Scratched) (d s t : ℕ) → T (all-hold (free mask) (t ∷ d ∷ [])) → scratched Q rm k f d s t y ≡ f y
+    scratched-keeps : (k : S.Scratched) (d s t : ℕ) → T (all (free mask) (t ∷ d ∷ [])) → scratched Q rm k f d s t y ≡ f y
     unfolding scratched
     scratched-keeps Sign d s t h = two d t _ _ h
     scratched-keeps Frac d s t h = two d t _ _ h
 
     -- an order leaves it
-    register-kept : (c : Place → ℕ → ℕ) (k : ℕ → ℕ) (o : Order) → T (all-hold (free mask) (writes o)) → meaning Q f rm c k o .f y ≡ f y
+    register-kept : (c : Place → ℕ → ℕ) (k : ℕ → ℕ) (o : Order) → T (all (free mask) (writes o)) → meaning Q f rm c k o .f y ≡ f y
     unfolding meaning
     register-kept c k (Unary u d s) h = unary-keeps u d s h
     register-kept c k (Scratched u d s t) h = scratched-keeps u d s t h
@@ -137,8 +139,8 @@ module _ (Q : Floats) (p : Program) (g : Good p) where
       record {
         rm = refl;
         obs = refl;
-        registers = λ y v. register-kept mask Q (r .f) (r .rm) y v (r .cells) _ o (and-l (all-hold (free mask) (writes o)) _ h);
-        cells = λ y m. cell-kept mask Q (r .f) (r .rm) y m (r .cells) _ o (and-r (all-hold (free mask) (writes o)) _ h);
+        registers = λ y v. register-kept mask Q (r .f) (r .rm) y v (r .cells) _ o (and-l (all (free mask) (writes o)) _ h);
+        cells = λ y m. cell-kept mask Q (r .f) (r .rm) y m (r .cells) _ o (and-r (all (free mask) (writes o)) _ h);
       }
   step-held e passes = record { rm = refl; obs = refl; registers = λ y v. refl; cells = λ y m. refl }
 

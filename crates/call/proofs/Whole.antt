@@ -1,4 +1,4 @@
--- The parts of a routine in memory: its entry, lines, exit and constants, and the places of its labels. Assumes nothing.
+-- The parts of a routine in memory: its entry, lines, exit and constants, and the places of its labels.
 use mathlib.Core.Path.{_≡_, refl, _∙_}
 use mathlib.Core.List.{List, [], _∷_, _++_, append-nil, append-assoc}
 use mathlib.Core.Option.{Option, some, none, Option·getD}
@@ -12,13 +12,13 @@ use Rattle.machine.specs.Word.{w64, load8}
 use Rattle.machine.specs.Step.{CodeAt, Among}
 use Rattle.machine.proofs.Memory.{wrap-l}
 use Rattle.machine.proofs.Placed.{code-left, code-right}
-use Rattle.order.specs.declared.Frame.{Frame}
-use Rattle.order.specs.declared.Frame.the-variants.{Fast, Indirect}
-use Rattle.order.specs.declared.Head.{Head}
-use Rattle.order.specs.declared.Order.the-variants.{SetLabel}
+use Rattle.ast.specs.declared.Frame.{Frame}
+use Rattle.ast.specs.declared.Frame.the-variants.{Fast, Indirect}
+use Rattle.ast.specs.declared.Head.{Head}
+use Rattle.ast.specs.declared.Order.the-variants.{SetLabel}
 use Rattle.assembler.specs.Item.{Item, label}
 use Rattle.assembler.specs.Resolved.{resolved, label-place}
-use Rattle.assembler.specs.Constant.{constant-label}
+use Rattle.ast.specs.Constant.{constant-label}
 use Rattle.reading.specs.Line.{Line}
 use Rattle.orders.specs.Code.{line-code}
 use Rattle.orders.specs.Fault.{fault}
@@ -26,12 +26,12 @@ use Rattle.orders.specs.Does.{Placed}
 use Rattle.isa.specs.Instr.{R, I, ADD, FLD}
 use lib.IntN.{pos}
 use Rattle.accesses.specs.Code.{li-code}
-use Rattle.accesses.proofs.Then.{passed}
-use Rattle.framing.specs.Items.{code as instrs, obs-copy, at-epi, at-done, by-frame, repeated, closing, epilogue, epilogue-fast, epilogue-indirect, reloads}
-use Rattle.framing.proofs.Walk.{Stands}
-use Rattle.call.specs.Program.{Program, constants, label-line}
+use Rattle.base.proofs.Bools.{passed}
+use Rattle.frame_code.specs.Items.{code as instrs, obs-copy, at-epi, at-done, by-frame, repeated, closing, epilogue, epilogue-fast, epilogue-indirect, reloads}
+use Rattle.frame_code.proofs.Walk.{Stands}
+use Rattle.reading.specs.Program.{Program, constants, label-line}
 use Rattle.call.specs.Layout.{span, body, constants-from, entry, exit, code-items, data-items, items, constants-offset, code-length, place, routine-words, line-offset}
-use Rattle.call.specs.Good.{Good}
+use Rattle.call.proofs.Good.{Good}
 use Rattle.call.proofs.Items.{span-append, span-four, resolved-append, resolved-length, Unset, unset-append, past, found, within, fresh-unset, stands-of, Worded, worded-append, worded-instrs, before-end}
 use Rattle.call.proofs.Labels.{Early, Late, entry-fresh, exit-fresh}
 use Rattle.call.proofs.Placing.{labelled, line-words, next-line, constant-place, constant-value, body-unset}
@@ -185,7 +185,8 @@ module _ (p : Program) where
     exit-stands n h =
         stands-of (place p) (span (entry p) + span (body (take n (p .lines)))) (exit p) (data-items p) Late (exit-fresh (p .head))
         (λ l v.
-        rw (append-assoc (entry p) (body (p .lines) ++ exit p) (data-items p), append-assoc (body (p .lines)) (exit p) (data-items p), past l 0 (entry p) (body (p .lines) ++ (exit p ++ data-items p)) (entry-unset l (λ u. omega (arith, u .1, v .0))), past l (0 + span (entry p)) (body (p .lines)) (exit p ++ data-items p) (body-unset l (p .lines) (λ i j e q. omega (arith, label-low j (g .orders i (SetLabel j) e .fault-free), v .0))), zero-add (span (entry p)), take-all n (p .lines) h))
+        rw (append-assoc (entry p) (body (p .lines) ++ exit p) (data-items p), append-assoc (body (p .lines)) (exit p) (data-items p))
+        (rw (past l 0 (entry p) (body (p .lines) ++ (exit p ++ data-items p)) (entry-unset l (λ u. omega (arith, u .1, v .0))), past l (0 + span (entry p)) (body (p .lines)) (exit p ++ data-items p) (body-unset l (p .lines) (λ i j e q. omega (arith, label-low j (g .orders i (SetLabel j) e .fault-free), v .0))), zero-add (span (entry p)), take-all n (p .lines) h)))
 
     -- every place is a word's
     pub placed : Placed (place p)

@@ -1,4 +1,4 @@
--- The routine's words before the constants are those of valid instructions; and from its bytes in memory to its code. Assumes nothing.
+-- The routine's words before the constants are those of valid instructions; and from its bytes in memory to its code.
 use mathlib.Core.Path.{_≡_, refl, ap, subst}
 use mathlib.Core.List.{List, [], _∷_, _++_, flatMap}
 use mathlib.Core.Option.{some}
@@ -13,9 +13,9 @@ use Rattle.isa.specs.Decode.{decode}
 use Rattle.isa.proofs.Laws.{decode-encode, encode-small}
 use Rattle.machine.specs.Word.{w64}
 use Rattle.machine.specs.Step.{CodeAt, Loaded, bytes-of, words}
-use Rattle.machine.proofs.Effects.{and-l}
+use Rattle.base.proofs.Bools.{and-l}
 use Rattle.machine.proofs.Placed.{Small, Valids, code-of-bytes}
-use Rattle.order.specs.declared.Order.{Order}
+use Rattle.ast.specs.declared.Order.{Order}
 use Rattle.assembler.specs.Bytes.{bytes}
 use Rattle.assembler.specs.Item.{Item, instr, raw, jump, label}
 use Rattle.assembler.specs.Resolved.{resolved}
@@ -23,13 +23,13 @@ use Rattle.reading.specs.Line.{Line, order, constant}
 use Rattle.orders.specs.Code.{code, line-code, resolve}
 use Rattle.orders.specs.Fault.{fault}
 use Rattle.orders.proofs.Laws.{code-words, code-valid}
-use Rattle.framing.specs.Fault.{prologue-holds}
-use Rattle.framing.specs.Items.{prologue, saves, reloads, epilogue}
-use Rattle.framing.proofs.Walk.{stands-left, stands-right}
-use Rattle.framing.proofs.Valid.{AllValid, prologue-valid, saves-valid, reloads-valid, epilogue-valid}
-use Rattle.call.specs.Program.{Program, constants}
+use Rattle.ast.specs.Counts.{prologue-holds}
+use Rattle.frame_code.specs.Items.{prologue, saves, reloads, epilogue}
+use Rattle.frame_code.proofs.Walk.{stands-left, stands-right}
+use Rattle.frame_code.proofs.Valid.{AllValid, prologue-valid, saves-valid, reloads-valid, epilogue-valid}
+use Rattle.reading.specs.Program.{Program, constants}
 use Rattle.call.specs.Layout.{span, body, constants-from, entry, exit, code-items, data-items, items, constants-offset, place, routine-words, line-offset}
-use Rattle.call.specs.Good.{Good}
+use Rattle.call.proofs.Good.{Good}
 use Rattle.call.proofs.Items.{resolved-append, resolved-length, Fresh}
 use Rattle.call.proofs.Labels.{Early, Late, entry-fresh, exit-fresh}
 use Rattle.call.proofs.Whole.{entry-stands, exit-stands}

@@ -4,12 +4,13 @@ use mathlib.Core.Option.{Option·getD}
 use Prim.Native.Nat.{ℕ, suc, _+_}
 use lib.ListN.{take}
 use Rattle.assembler.specs.Item.{Item, instr, raw, jump, label}
-use Rattle.assembler.specs.Constant.{constant-label, quad}
+use Rattle.assembler.specs.Constant.{quad}
+use Rattle.ast.specs.Constant.{constant-label}
 use Rattle.assembler.specs.Resolved.{resolved, label-place}
 use Rattle.reading.specs.Line.{Line}
 use Rattle.orders.specs.Code.{line-code}
-use Rattle.framing.specs.Items.{prologue, saves, reloads, epilogue}
-use Rattle.call.specs.Program.{Program, constants}
+use Rattle.frame_code.specs.Items.{prologue, saves, reloads, epilogue}
+use Rattle.reading.specs.Program.{Program, constants}
 
 -- the bytes that items take: four each, a label none
 unfoldable pub span : List Item → ℕ

@@ -1,7 +1,2 @@
-pub mod Program
-pub mod Plain
-pub mod Terms
-pub mod Returned
 pub mod Layout
-pub mod Good
-pub mod Claim
+pub mod Returned

@@ -3,24 +3,26 @@ use mathlib.Core.Path.{_≡_}
 use mathlib.Core.List.{List, [], _∷_}
 use Prim.Native.Nat.{ℕ, _+_, _*_, _^_, _≤_, _<_}
 use lib.Dec.{T}
-use Rattle.order.specs.Count.{cell-count}
-use Rattle.order.specs.Mask.{preserved}
-use Rattle.order.specs.declared.Place.{Place}
-use Rattle.order.specs.declared.Place.the-variants.{Mem}
-use Rattle.order.specs.declared.Head.{Head}
-use Rattle.order.specs.declared.Frame.the-variants.{Fast}
+use Rattle.isa.specs.Register.{ra, sp, gp, tp, s0, s1, s2, s3, s4, s5, s6, s7, s8, s9, s10, s11, a1, fa0}
+use Rattle.ast.specs.Count.{cell-count}
+use Rattle.ast.specs.Mask.{preserved}
+use Rattle.ast.specs.declared.Place.{Place}
+use Rattle.ast.specs.declared.Place.the-variants.{Mem}
+use Rattle.ast.specs.declared.Head.{Head}
+use Rattle.ast.specs.declared.Frame.the-variants.{Fast}
 use Rattle.machine.specs.Word.{w64, load8}
 use Rattle.machine.specs.Floats.{Floats}
 use Rattle.machine.specs.State.{State, Sound}
 use Rattle.machine.specs.Step.{Run}
-use Rattle.framing.specs.Steps.{prologue-steps, epilogue-steps}
-use Rattle.call.specs.Program.{Program, member}
-use Rattle.call.specs.Plain.{Reading}
-use Rattle.call.specs.Terms.{table-used, cell-address, as-called, table-cell, end-obs, Within, frame, code}
+use Rattle.frame_code.specs.Steps.{prologue-steps, epilogue-steps}
+use Rattle.reading.specs.Program.{Program}
+use Rattle.base.specs.Tests.{member}
+use Rattle.reading.specs.Plain.{Reading}
+use Rattle.reading.specs.Terms.{table-used, cell-address, as-called, table-cell, end-obs, Within, frame, code}
 
 -- ra, sp, gp, tp and s0..s11; `preserved` has fs0..fs11
 abbrev pub callers : List ℕ
-callers = 1 ∷ 2 ∷ 3 ∷ 4 ∷ 8 ∷ 9 ∷ 18 ∷ 19 ∷ 20 ∷ 21 ∷ 22 ∷ 23 ∷ 24 ∷ 25 ∷ 26 ∷ 27 ∷ []
+callers = ra ∷ sp ∷ gp ∷ tp ∷ s0 ∷ s1 ∷ s2 ∷ s3 ∷ s4 ∷ s5 ∷ s6 ∷ s7 ∷ s8 ∷ s9 ∷ s10 ∷ s11 ∷ []
 
 -- the words that the two frame ends run, by line 1 and a1
 abbrev pub frame-steps : Head → (a1 : ℕ) → ℕ
@@ -50,12 +52,12 @@ pub record Returned (Q : Floats) (p : Program) (code-bytes : ℕ) (s : State) (n
   pub end : State
   pub runs : Run Q s count end
   pub sound : Sound end
-  pub few : count ≤ 11 * n + frame-steps (p .head) (s .x 11)
+  pub few : count ≤ 11 * n + frame-steps (p .head) (s .x a1)
   -- before the end pc is within the code, so it comes to ra, which is outside, at the end and not before
   pub inside : (k : ℕ) (t : State) → k < count → Run Q s k t → Within (code code-bytes s) (t .pc)
-  pub first : (k : ℕ) (t : State) → k < count → Run Q s k t → t .pc ≡ s .x 1 → ⊥
+  pub first : (k : ℕ) (t : State) → k < count → Run Q s k t → t .pc ≡ s .x ra → ⊥
   -- shared with the twin: pc, which is ra; sp, ra, gp, tp and every register that the psABI preserves; the rounding mode
-  pub pc : end .pc ≡ s .x 1
+  pub pc : end .pc ≡ s .x ra
   pub x : (y : ℕ) → T (member y callers) → end .x y ≡ s .x y
   pub f : (y : ℕ) → T (member y preserved) → end .f y ≡ s .f y
   pub rm : end .rm ≡ s .rm
@@ -72,5 +74,5 @@ pub record Returned (Q : Floats) (p : Program) (code-bytes : ℕ) (s : State) (n
       (q : Place) (i : ℕ)
       → i < cell-count (p .head) q
       → load8 (end .mem) (cell-address (p .head) s q i) ≡ r .cells q i
-  pub fa0 : p .head .frame ≡ Fast → end .f 10 ≡ r .cells Mem (p .head .last)
+  pub fa0 : p .head .frame ≡ Fast → end .f fa0 ≡ r .cells Mem (p .head .last)
   pub obs : (x : ℕ) → Observation (p .head) s x → end .mem x ≡ end-obs (p .head) s r x

@@ -1,4 +1,2 @@
 mod Ranges
-mod Whole
-pub mod Packing
-pub mod Stands
+mod Floats

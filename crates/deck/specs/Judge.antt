@@ -1,23 +1,21 @@
 -- Document 01, "Numbers of refusal": which numbers a line's fields may be, and what the line then says.
-use mathlib.Core.Bool.{Bool, true, false, _&&_, _||_, not, cond, Bool·beq}
-use mathlib.Core.List.{List, [], _∷_}
-use Prim.Native.Nat.{ℕ, _%_, _^_}
-use lib.Dec.{ltb, leb}
+use mathlib.Core.Bool.{Bool, true, false, _&&_, cond, Bool·beq}
+use Prim.Native.Nat.{ℕ, _^_}
+use lib.Dec.{ltb}
 use lib.Ieee.{ofInt, binary64}
 use lib.IntN.{ℤ, pos, negℤ}
 use Rattle.refusal.specs.Answer.{Answer, accepted, refused}
 use Rattle.refusal.specs.Number.{number-of}
 use Rattle.refusal.specs.declared.Refusal.{Refusal}
 use Rattle.refusal.specs.declared.Refusal.the-variants.{Register, Value as Valued, Label, Count, Line}
-use Rattle.order.specs.Count.{cells}
-use Rattle.order.specs.Mask.{preserved, in-mask}
-use Rattle.order.specs.declared.Frame.{Frame}
-use Rattle.order.specs.declared.Frame.the-variants.{Fast, Indirect}
-use Rattle.order.specs.declared.Head.{Head}
-use Rattle.order.specs.declared.Order.{Order}
-use Rattle.order.specs.declared.Order.the-variants as Order
-use Rattle.order.specs.declared.Constant.{Constant}
-use Rattle.order.specs.declared.Constant.the-variants as Constant
+use Rattle.ast.specs.Constant.{constant-limit}
+use Rattle.ast.specs.Counts.{counts-hold}
+use Rattle.ast.specs.declared.Frame.{Frame}
+use Rattle.ast.specs.declared.Head.{Head}
+use Rattle.ast.specs.declared.Order.{Order}
+use Rattle.ast.specs.declared.Order.the-variants as Order
+use Rattle.ast.specs.declared.Constant.{Constant}
+use Rattle.ast.specs.declared.Constant.the-variants as Constant
 use Rattle.text.specs.declared.Number.{Number}
 use Rattle.text.specs.declared.Number.the-variants.{Value, TooBig}
 use Rattle.form.specs.declared.Form.{Form}
@@ -34,11 +32,11 @@ pub data Content : Type 0 where
   constant : Constant → Content
 
 -- an answer's content, or its number; the place 0 stands for the line's, which the routine knows
-abbrev pub told : Judged → Answer Content
-told (Judged.Head h) = accepted (head h)
-told (Judged.Order o) = accepted (order o)
-told (Judged.Constant c) = accepted (constant c)
-told (Judged.Refused r) = refused (number-of r) 0
+abbrev pub line-answer : Judged → Answer Content
+line-answer (Judged.Head h) = accepted (head h)
+line-answer (Judged.Order o) = accepted (order o)
+line-answer (Judged.Constant c) = accepted (constant c)
+line-answer (Judged.Refused r) = refused (number-of r) 0
 
 -- the answer, if the test holds; else the refusal
 abbrev pub demand : Bool → Refusal → Answer Content → Answer Content
@@ -68,7 +66,7 @@ index n = below 4096 n
 
 -- `k` of `load_const`
 abbrev pub constant-index : Number → Bool
-constant-index n = below 1008 n
+constant-index n = below constant-limit n
 
 abbrev pub mask : Number → Bool
 mask n = below (2 ^ 32) n
@@ -84,24 +82,7 @@ abbrev pub signed : Bool → ℕ → ℤ
 signed false n = pos n
 signed true n = negℤ (pos n)
 
--- ---- the head's counts
-
-abbrev pub any : (ℕ → Bool) → List ℕ → Bool
-any p [] = false
-any p (r ∷ rs) = p r || any p rs
-
--- the mask has a preserved register
-unfoldable pub saves : ℕ → Bool
-saves m = any (in-mask m) preserved
-
--- a fast frame has at most 8 states, and its result cell is at most 255 and one of its cells
-abbrev pub frame-holds : Head → Frame → Bool
-frame-holds h Fast = leb (h .states) 8 && (leb (h .last) 255 && ltb (h .last) (cells h))
-frame-holds h Indirect = true
-
--- at most 4,096 cells; cap at least 16 if the mask has a preserved register
-unfoldable pub counts-hold : Head → Bool
-counts-hold h = leb (cells h) 4096 && ((leb 16 (h .cap) || not (saves (h .mask))) && frame-holds h (h .frame))
+-- ---- the head
 
 abbrev pub head-of : Frame → (cap states obs last mask : Number) → Head
 head-of f c s o l m = record { frame = f; cap = value c; states = value s; obs = value o; last = value l; mask = value m }
@@ -111,49 +92,54 @@ head-of f c s o l m = record { frame = f; cap = value c; states = value s; obs =
 unfoldable pub judged : Form → Answer Content
 judged Form.Malformed = refused (number-of Line) 0
 judged (Form.Head f c s o l m) =
-    demand (mask m) Valued (demand (count c && (count s && (count o && (count l && counts-hold (head-of f c s o l m))))) Count (accepted (head (head-of f c s o l m))))
-judged (Form.Unary u d s) = demand (register d && register s) Register (accepted (order (Order.Unary u (value d) (value s))))
+    demand (mask m) Valued
+    (demand (count c && (count s && (count o && (count l && counts-hold (head-of f c s o l m))))) Count
+    (accepted (head (head-of f c s o l m))))
+judged (Form.Unary u d s) =
+    demand (register d && register s) Register
+    (accepted (order (Order.Unary u (value d) (value s))))
 judged (Form.Scratched u d s t) =
-    demand (register d && (register s && register t)) Register (accepted (order (Order.Scratched u (value d) (value s) (value t))))
+    demand (register d && (register s && register t)) Register
+    (accepted (order (Order.Scratched u (value d) (value s) (value t))))
 judged (Form.Binary u d s t) =
-    demand (register d && (register s && register t)) Register (accepted (order (Order.Binary u (value d) (value s) (value t))))
+    demand (register d && (register s && register t)) Register
+    (accepted (order (Order.Binary u (value d) (value s) (value t))))
 judged (Form.Fused u d s t v) =
-    demand (register d && (register s && (register t && register v))) Register (accepted (order (Order.Fused u (value d) (value s) (value t) (value v))))
+    demand (register d && (register s && (register t && register v))) Register
+    (accepted (order (Order.Fused u (value d) (value s) (value t) (value v))))
 judged (Form.Ifelse d s t i) =
-    demand (register d && (register s && register t)) Register (demand (index i) Count (accepted (order (Order.Ifelse (value d) (value s) (value t) (value i)))))
-judged (Form.LoadConst d k) = demand (register d) Register (demand (constant-index k) Count (accepted (order (Order.LoadConst (value d) (value k)))))
-judged (Form.Load d p i) = demand (register d) Register (demand (index i) Count (accepted (order (Order.Load (value d) p (value i)))))
-judged (Form.Save s p i) = demand (register s) Register (demand (index i) Count (accepted (order (Order.Save (value s) p (value i)))))
-judged (Form.BranchIf c l e) = demand (register c) Register (demand (label l) Label (accepted (order (Order.BranchIf (value c) (value l) e))))
+    demand (register d && (register s && register t)) Register
+    (demand (index i) Count
+    (accepted (order (Order.Ifelse (value d) (value s) (value t) (value i)))))
+judged (Form.LoadConst d k) =
+    demand (register d) Register (demand (constant-index k) Count (accepted (order (Order.LoadConst (value d) (value k)))))
+judged (Form.Load d p i) =
+    demand (register d) Register (demand (index i) Count (accepted (order (Order.Load (value d) p (value i)))))
+judged (Form.Save s p i) =
+    demand (register s) Register (demand (index i) Count (accepted (order (Order.Save (value s) p (value i)))))
+judged (Form.BranchIf c l e) =
+    demand (register c) Register (demand (label l) Label (accepted (order (Order.BranchIf (value c) (value l) e))))
 judged (Form.SetLabel l) = demand (label l) Label (accepted (order (Order.SetLabel (value l))))
-judged (Form.Float minus n) = demand (exact n) Valued (accepted (constant (Constant.Float (ofInt binary64 (signed minus (value n))))))
+judged (Form.Float minus n) =
+    demand (exact n) Valued (accepted (constant (Constant.Float (ofInt binary64 (signed minus (value n))))))
 judged (Form.Bits n) = accepted (constant (Constant.Bits n))
 
-abbrev pub heads : Form → Bool
-heads (Form.Head f c s o l m) = true
-heads (Form.Unary u d s) = false
-heads (Form.Scratched u d s t) = false
-heads (Form.Binary u d s t) = false
-heads (Form.Fused u d s t v) = false
-heads (Form.Ifelse d s t i) = false
-heads (Form.LoadConst d k) = false
-heads (Form.Load d p i) = false
-heads (Form.Save s p i) = false
-heads (Form.BranchIf c l e) = false
-heads (Form.SetLabel l) = false
-heads (Form.Float minus n) = false
-heads (Form.Bits n) = false
-heads Form.Malformed = false
+abbrev pub is-head : Form → Bool
+is-head (Form.Head f c s o l m) = true
+is-head (Form.Unary u d s) = false
+is-head (Form.Scratched u d s t) = false
+is-head (Form.Binary u d s t) = false
+is-head (Form.Fused u d s t v) = false
+is-head (Form.Ifelse d s t i) = false
+is-head (Form.LoadConst d k) = false
+is-head (Form.Load d p i) = false
+is-head (Form.Save s p i) = false
+is-head (Form.BranchIf c l e) = false
+is-head (Form.SetLabel l) = false
+is-head (Form.Float minus n) = false
+is-head (Form.Bits n) = false
+is-head Form.Malformed = false
 
 -- line 1 is a head, and no other line is
 unfoldable pub line-judged : (first : Bool) → Form → Answer Content
-line-judged first f = cond (Bool·beq (heads f) first) (judged f) (refused (number-of Line) 0)
-
--- ---- the parts of the judge
-
--- four numbers below one bound
-abbrev pub are-below : ℕ → (a b c d : Number) → Bool
-are-below k a b c d = below k a && (below k b && (below k c && below k d))
-
-abbrev pub low-of : Number → ℕ
-low-of n = value n % 2 ^ 32
+line-judged first f = cond (Bool·beq (is-head f) first) (judged f) (refused (number-of Line) 0)

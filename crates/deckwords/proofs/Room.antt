@@ -1,4 +1,4 @@
--- What was read, and what is printed, lies within its buffer. Assumes nothing.
+-- What was read, and what is printed, lies within its buffer.
 use mathlib.Core.Path.{_≡_, sym, _∙_}
 use mathlib.Core.List.{List}
 use Prim.Native.Nat.{ℕ, _≤_}
@@ -7,7 +7,7 @@ use lib.ListN.{length}
 use Rattle.print.specs.Text.{length-in}
 use Rattle.print.specs.declared.Text as Print
 use Rattle.print.specs.declared.Text.the-variants.{Length}
-use Rattle.print.proofs.Whole.{length-within}
+use Rattle.print.proofs.Fitting.{length-within}
 use Rattle.deckwords.specs.Input.{Within}
 use Rattle.deckwords.specs.declared.Input.{Input}
 use Rattle.deckwords.specs.declared.Input.the-variants.{Read}

@@ -10,10 +10,12 @@ use lib.IntN.{ℤ, pos}
 use lib.ListN.{length, getD, take, drop}
 use lib.Seq.{getD-append-add}
 use Rattle.isa.specs.Immediate.{twos}
-use Rattle.isa.specs.Instr.{Instr, R, F, C, M, R4, I, Shift, S, B, U, J, ADD, FADD-D, FSQRT-D, FMV-X-D, FMADD-D, ADDI, SLLI, SD, BEQ, LUI, JAL, Operand, register, holds, all-hold, operands, registers-hold, valid, Valid}
+use Rattle.isa.specs.Instr.{Instr, R, F, C, M, R4, I, Shift, S, B, U, J, ADD, FADD-D, FSQRT-D, FMV-X-D, FMADD-D, ADDI, SLLI, SD, BEQ, LUI, JAL, Operand, register, holds, operands, registers-hold, valid, Valid}
+use Rattle.base.specs.Tests.{all}
 use Rattle.isa.specs.Encode.{encode}
 use Rattle.isa.specs.Decode.{r-ops, f-ops, c-ops, m-ops, r4-ops, i-ops, shift-ops, s-ops, b-ops, u-ops, j-ops}
-use Rattle.isa.proofs.Validity.{both, valid-Valid, Valid-valid, Valid-registers}
+use Rattle.isa.proofs.Validity.{valid-Valid, Valid-valid, Valid-registers}
+use Rattle.base.proofs.Bools.{both}
 use Rattle.isa.proofs.Laws.{encode-small}
 use Rattle.isa.proofs.Words.{encode-R, encode-F, encode-C, encode-M, encode-R4, encode-I, encode-Shift, encode-S, encode-B, encode-U, encode-J}
 use Rattle.refusal.specs.Answer.{accepted, refused}
@@ -45,15 +47,15 @@ module _ (i : Instr) where
 
 -- the last operand, a value, decides once the registers before it have passed
 module _ (o : Operand) where
-  pub inside : (rs : List ℕ) → registers-hold (map register rs) ≡ true → holds o ≡ true → all-hold (map register rs ++ (o ∷ [])) ≡ true
+  pub inside : (rs : List ℕ) → registers-hold (map register rs) ≡ true → holds o ≡ true → all holds (map register rs ++ (o ∷ [])) ≡ true
   inside [] p e = rw e
   inside (r ∷ rs) p e = let q = both (ltb r 32) _ p in rw (q .0) (inside rs (q .1) e)
 
-  pub outside : (rs : List ℕ) → holds o ≡ false → all-hold (map register rs ++ (o ∷ [])) ≡ false
+  pub outside : (rs : List ℕ) → holds o ≡ false → all holds (map register rs ++ (o ∷ [])) ≡ false
   outside [] e = rw e
   outside (r ∷ rs) e = rw (outside rs e) (and-false (ltb r 32))
 
-  pub decides : (rs : List ℕ) (f : Field) (n : ℕ) → registers-hold (map register rs) ≡ true → Means f (holds o) n → Means f (all-hold (map register rs ++ (o ∷ []))) n
+  pub decides : (rs : List ℕ) (f : Field) (n : ℕ) → registers-hold (map register rs) ≡ true → Means f (holds o) n → Means f (all holds (map register rs ++ (o ∷ []))) n
   decides rs (Bits m) n p h = (inside rs p (h .0), h .1)
   decides rs Outside n p h = outside rs h
 

@@ -1,4 +1,5 @@
--- What the encoder answers for an instruction, by document 01: number 1 if a register is above 31, else number 2 if a value is outside its field, else the word.
+-- What the encoder answers for an instruction, by document 01:
+-- number 1 if a register is above 31, else number 2 if a value is outside its field, else the word.
 use mathlib.Core.Bool.{cond}
 use Prim.Native.Nat.{ℕ}
 use Rattle.isa.specs.Instr.{Instr, operands, registers-hold, valid}
@@ -10,9 +11,9 @@ use Rattle.encoder.specs.declared.Encoded.{Encoded}
 use Rattle.encoder.specs.declared.Encoded.the-variants.{Word, Refused}
 
 -- an answer's word, or its number and place
-abbrev pub told : Encoded → Answer ℕ
-told (Word w) = accepted w
-told (Refused r place) = refused (number-of r) place
+abbrev pub word-answer : Encoded → Answer ℕ
+word-answer (Word w) = accepted w
+word-answer (Refused r place) = refused (number-of r) place
 
 unfoldable pub encoded : Instr → Answer ℕ
 encoded i =

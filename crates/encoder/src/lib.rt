@@ -6,7 +6,7 @@ ghost use lib.Dec.{T};
 ghost use lib.IntN.{pos, negsuc};
 ghost use lib.ListN.{getD};
 ghost use mathlib.Core.List.{[], _∷_};
-ghost use Rattle.encoder.specs.Answer.{told, encoded};
+ghost use Rattle.encoder.specs.Answer.{word-answer, encoded};
 ghost use Rattle.encoder.specs.Table.{row-of};
 ghost use Rattle.encoder.specs.Field.{packed, sign-of, signed-field, even-field, unsigned-field};
 ghost use Rattle.isa.specs.Instr.{R, F, C, M, R4, I, Shift, S, B, U, J, ADD, SUB, SLL, XOR, SRL, SRA, OR, AND, FSGNJ-D, FSGNJN-D, FSGNJX-D, FMIN-D, FMAX-D, FLE-D, FLT-D, FEQ-D, FADD-D, FSUB-D, FMUL-D, FDIV-D, FSQRT-D, FCVT-W-D, FCVT-L-D, FCVT-D-W, FCVT-D-L, FMV-X-D, FMV-D-X, FMADD-D, FMSUB-D, FNMSUB-D, FNMADD-D, ADDI, XORI, ORI, ANDI, JALR, LD, FLD, SLLI, SRLI, SRAI, SD, FSD, BEQ, BNE, BLT, BGE, BLTU, BGEU, LUI, AUIPC, JAL, rounding as rounding-field, free, Holds, holds, f-rounding, c-rounding, register, registers-hold};
@@ -14,6 +14,42 @@ ghost use Rattle.isa.specs.Immediate.{hi as hi-part, lo as lo-part};
 ghost use Rattle.isa.specs.Encode.{encode};
 ghost use Rattle.isa.specs.Decode.{r-ops, f-ops, c-ops, m-ops, r4-ops, i-ops, shift-ops, s-ops, b-ops, u-ops, j-ops};
 use refusal::Refusal;
+
+// Registers by their names in the calling convention.
+pub const ZERO: u32 = 0;
+
+pub const RA: u32 = 1;
+
+pub const SP: u32 = 2;
+
+pub const T0: u32 = 5;
+
+pub const T1: u32 = 6;
+
+pub const T2: u32 = 7;
+
+pub const S0: u32 = 8;
+
+pub const S1: u32 = 9;
+
+pub const A0: u32 = 10;
+
+pub const A1: u32 = 11;
+
+pub const A2: u32 = 12;
+
+pub const A3: u32 = 13;
+
+pub const S2: u32 = 18;
+
+pub const S3: u32 = 19;
+
+pub const S4: u32 = 20;
+
+pub const S5: u32 = 21;
+
+// A float register.
+pub const FA0: u32 = 10;
 
 // What an encoder function answers.
 pub enum Encoded {
@@ -344,7 +380,7 @@ pub fn lo(x: u32) -> i32
 
 fn rtype(op: usize, rd: u32, rs1: u32, rs2: u32) -> Encoded
     requires { ⌜ op < 16 ⌝ }
-    ensures { λ r. ⌜ told r ≡ encoded (R (getD r-ops op ADD) rd rs1 rs2) ⌝ }
+    ensures { λ r. ⌜ word-answer r ≡ encoded (R (getD r-ops op ADD) rd rs1 rs2) ⌝ }
 {
     if !registers(rd, rs1, rs2, 0) {
         return Encoded::Refused(Refusal::Register, 0);
@@ -355,7 +391,7 @@ fn rtype(op: usize, rd: u32, rs1: u32, rs2: u32) -> Encoded
 // R, with a rounding field in funct3's place.
 fn ftype(op: usize, rd: u32, rs1: u32, rs2: u32, rm: u32) -> Encoded
     requires { ⌜ (op < 4) × Holds (rounding-field (f-rounding (getD f-ops op FADD-D)) rm) ⌝ }
-    ensures { λ r. ⌜ told r ≡ encoded (F (getD f-ops op FADD-D) rd rs1 rs2 rm) ⌝ }
+    ensures { λ r. ⌜ word-answer r ≡ encoded (F (getD f-ops op FADD-D) rd rs1 rs2 rm) ⌝ }
 {
     if !registers(rd, rs1, rs2, 0) {
         return Encoded::Refused(Refusal::Register, 0);
@@ -366,7 +402,7 @@ fn ftype(op: usize, rd: u32, rs1: u32, rs2: u32, rm: u32) -> Encoded
 // R with a rounding field and a fixed rs2: conversions and the square root.
 fn ctype(op: usize, rd: u32, rs1: u32, rm: u32) -> Encoded
     requires { ⌜ (op < 5) × Holds (rounding-field (c-rounding (getD c-ops op FSQRT-D)) rm) ⌝ }
-    ensures { λ r. ⌜ told r ≡ encoded (C (getD c-ops op FSQRT-D) rd rs1 rm) ⌝ }
+    ensures { λ r. ⌜ word-answer r ≡ encoded (C (getD c-ops op FSQRT-D) rd rs1 rm) ⌝ }
 {
     if !registers(rd, rs1, 0, 0) {
         return Encoded::Refused(Refusal::Register, 0);
@@ -377,7 +413,7 @@ fn ctype(op: usize, rd: u32, rs1: u32, rm: u32) -> Encoded
 // R with nothing but rd and rs1: moves of bits.
 fn mtype(op: usize, rd: u32, rs1: u32) -> Encoded
     requires { ⌜ op < 2 ⌝ }
-    ensures { λ r. ⌜ told r ≡ encoded (M (getD m-ops op FMV-X-D) rd rs1) ⌝ }
+    ensures { λ r. ⌜ word-answer r ≡ encoded (M (getD m-ops op FMV-X-D) rd rs1) ⌝ }
 {
     if !registers(rd, rs1, 0, 0) {
         return Encoded::Refused(Refusal::Register, 0);
@@ -387,7 +423,7 @@ fn mtype(op: usize, rd: u32, rs1: u32) -> Encoded
 
 fn r4type(op: usize, rd: u32, rs1: u32, rs2: u32, rs3: u32) -> Encoded
     requires { ⌜ op < 4 ⌝ }
-    ensures { λ r. ⌜ told r ≡ encoded (R4 (getD r4-ops op FMADD-D) rd rs1 rs2 rs3 7) ⌝ }
+    ensures { λ r. ⌜ word-answer r ≡ encoded (R4 (getD r4-ops op FMADD-D) rd rs1 rs2 rs3 7) ⌝ }
 {
     if !registers(rd, rs1, rs2, rs3) {
         return Encoded::Refused(Refusal::Register, 0);
@@ -397,7 +433,7 @@ fn r4type(op: usize, rd: u32, rs1: u32, rs2: u32, rs3: u32) -> Encoded
 
 fn itype(op: usize, rd: u32, rs1: u32, imm: i32) -> Encoded
     requires { ⌜ op < 7 ⌝ }
-    ensures { λ r. ⌜ told r ≡ encoded (I (getD i-ops op ADDI) rd rs1 imm) ⌝ }
+    ensures { λ r. ⌜ word-answer r ≡ encoded (I (getD i-ops op ADDI) rd rs1 imm) ⌝ }
 {
     if !registers(rd, rs1, 0, 0) {
         return Encoded::Refused(Refusal::Register, 0);
@@ -411,7 +447,7 @@ fn itype(op: usize, rd: u32, rs1: u32, imm: i32) -> Encoded
 // I, with a shift count for an immediate.
 fn shift(op: usize, rd: u32, rs1: u32, shamt: i32) -> Encoded
     requires { ⌜ op < 3 ⌝ }
-    ensures { λ r. ⌜ told r ≡ encoded (Shift (getD shift-ops op SLLI) rd rs1 shamt) ⌝ }
+    ensures { λ r. ⌜ word-answer r ≡ encoded (Shift (getD shift-ops op SLLI) rd rs1 shamt) ⌝ }
 {
     if !registers(rd, rs1, 0, 0) {
         return Encoded::Refused(Refusal::Register, 0);
@@ -424,7 +460,7 @@ fn shift(op: usize, rd: u32, rs1: u32, shamt: i32) -> Encoded
 
 fn stype(op: usize, rs1: u32, rs2: u32, imm: i32) -> Encoded
     requires { ⌜ op < 2 ⌝ }
-    ensures { λ r. ⌜ told r ≡ encoded (S (getD s-ops op SD) rs1 rs2 imm) ⌝ }
+    ensures { λ r. ⌜ word-answer r ≡ encoded (S (getD s-ops op SD) rs1 rs2 imm) ⌝ }
 {
     if !registers(rs1, rs2, 0, 0) {
         return Encoded::Refused(Refusal::Register, 0);
@@ -437,7 +473,7 @@ fn stype(op: usize, rs1: u32, rs2: u32, imm: i32) -> Encoded
 
 fn btype(op: usize, rs1: u32, rs2: u32, imm: i32) -> Encoded
     requires { ⌜ op < 6 ⌝ }
-    ensures { λ r. ⌜ told r ≡ encoded (B (getD b-ops op BEQ) rs1 rs2 imm) ⌝ }
+    ensures { λ r. ⌜ word-answer r ≡ encoded (B (getD b-ops op BEQ) rs1 rs2 imm) ⌝ }
 {
     if !registers(rs1, rs2, 0, 0) {
         return Encoded::Refused(Refusal::Register, 0);
@@ -452,7 +488,7 @@ fn btype(op: usize, rs1: u32, rs2: u32, imm: i32) -> Encoded
 
 fn utype(op: usize, rd: u32, imm: i32) -> Encoded
     requires { ⌜ op < 2 ⌝ }
-    ensures { λ r. ⌜ told r ≡ encoded (U (getD u-ops op LUI) rd imm) ⌝ }
+    ensures { λ r. ⌜ word-answer r ≡ encoded (U (getD u-ops op LUI) rd imm) ⌝ }
 {
     if !registers(rd, 0, 0, 0) {
         return Encoded::Refused(Refusal::Register, 0);
@@ -472,7 +508,7 @@ fn utype(op: usize, rd: u32, imm: i32) -> Encoded
 
 fn jtype(op: usize, rd: u32, imm: i32) -> Encoded
     requires { ⌜ op < 1 ⌝ }
-    ensures { λ r. ⌜ told r ≡ encoded (J (getD j-ops op JAL) rd imm) ⌝ }
+    ensures { λ r. ⌜ word-answer r ≡ encoded (J (getD j-ops op JAL) rd imm) ⌝ }
 {
     if !registers(rd, 0, 0, 0) {
         return Encoded::Refused(Refusal::Register, 0);
@@ -495,230 +531,230 @@ fn jtype(op: usize, rd: u32, imm: i32) -> Encoded
 // ---- the forms of `rvv!`
 
 pub fn add(rd: u32, rs1: u32, rs2: u32) -> Encoded
-    ensures { λ r. ⌜ told r ≡ encoded (R ADD rd rs1 rs2) ⌝ }
+    ensures { λ r. ⌜ word-answer r ≡ encoded (R ADD rd rs1 rs2) ⌝ }
 {
     rtype(ADD, rd, rs1, rs2)
 }
 
 pub fn mv(rd: u32, rs1: u32) -> Encoded
-    ensures { λ r. ⌜ told r ≡ encoded (R ADD rd rs1 0) ⌝ }
+    ensures { λ r. ⌜ word-answer r ≡ encoded (R ADD rd rs1 0) ⌝ }
 {
     rtype(ADD, rd, rs1, 0)
 }
 
 pub fn sub(rd: u32, rs1: u32, rs2: u32) -> Encoded
-    ensures { λ r. ⌜ told r ≡ encoded (R SUB rd rs1 rs2) ⌝ }
+    ensures { λ r. ⌜ word-answer r ≡ encoded (R SUB rd rs1 rs2) ⌝ }
 {
     rtype(SUB, rd, rs1, rs2)
 }
 
 pub fn neg(rd: u32, rs2: u32) -> Encoded
-    ensures { λ r. ⌜ told r ≡ encoded (R SUB rd 0 rs2) ⌝ }
+    ensures { λ r. ⌜ word-answer r ≡ encoded (R SUB rd 0 rs2) ⌝ }
 {
     rtype(SUB, rd, 0, rs2)
 }
 
 pub fn and(rd: u32, rs1: u32, rs2: u32) -> Encoded
-    ensures { λ r. ⌜ told r ≡ encoded (R AND rd rs1 rs2) ⌝ }
+    ensures { λ r. ⌜ word-answer r ≡ encoded (R AND rd rs1 rs2) ⌝ }
 {
     rtype(AND, rd, rs1, rs2)
 }
 
 pub fn or(rd: u32, rs1: u32, rs2: u32) -> Encoded
-    ensures { λ r. ⌜ told r ≡ encoded (R OR rd rs1 rs2) ⌝ }
+    ensures { λ r. ⌜ word-answer r ≡ encoded (R OR rd rs1 rs2) ⌝ }
 {
     rtype(OR, rd, rs1, rs2)
 }
 
 pub fn xor(rd: u32, rs1: u32, rs2: u32) -> Encoded
-    ensures { λ r. ⌜ told r ≡ encoded (R XOR rd rs1 rs2) ⌝ }
+    ensures { λ r. ⌜ word-answer r ≡ encoded (R XOR rd rs1 rs2) ⌝ }
 {
     rtype(XOR, rd, rs1, rs2)
 }
 
 pub fn sll(rd: u32, rs1: u32, rs2: u32) -> Encoded
-    ensures { λ r. ⌜ told r ≡ encoded (R SLL rd rs1 rs2) ⌝ }
+    ensures { λ r. ⌜ word-answer r ≡ encoded (R SLL rd rs1 rs2) ⌝ }
 {
     rtype(SLL, rd, rs1, rs2)
 }
 
 pub fn srl(rd: u32, rs1: u32, rs2: u32) -> Encoded
-    ensures { λ r. ⌜ told r ≡ encoded (R SRL rd rs1 rs2) ⌝ }
+    ensures { λ r. ⌜ word-answer r ≡ encoded (R SRL rd rs1 rs2) ⌝ }
 {
     rtype(SRL, rd, rs1, rs2)
 }
 
 pub fn sra(rd: u32, rs1: u32, rs2: u32) -> Encoded
-    ensures { λ r. ⌜ told r ≡ encoded (R SRA rd rs1 rs2) ⌝ }
+    ensures { λ r. ⌜ word-answer r ≡ encoded (R SRA rd rs1 rs2) ⌝ }
 {
     rtype(SRA, rd, rs1, rs2)
 }
 
 pub fn addi(rd: u32, rs1: u32, imm: i32) -> Encoded
-    ensures { λ r. ⌜ told r ≡ encoded (I ADDI rd rs1 imm) ⌝ }
+    ensures { λ r. ⌜ word-answer r ≡ encoded (I ADDI rd rs1 imm) ⌝ }
 {
     itype(ADDI, rd, rs1, imm)
 }
 
 pub fn nop() -> Encoded
-    ensures { λ r. ⌜ told r ≡ encoded (I ADDI 0 0 (pos 0)) ⌝ }
+    ensures { λ r. ⌜ word-answer r ≡ encoded (I ADDI 0 0 (pos 0)) ⌝ }
 {
     itype(ADDI, 0, 0, 0)
 }
 
 pub fn andi(rd: u32, rs1: u32, imm: i32) -> Encoded
-    ensures { λ r. ⌜ told r ≡ encoded (I ANDI rd rs1 imm) ⌝ }
+    ensures { λ r. ⌜ word-answer r ≡ encoded (I ANDI rd rs1 imm) ⌝ }
 {
     itype(ANDI, rd, rs1, imm)
 }
 
 pub fn ori(rd: u32, rs1: u32, imm: i32) -> Encoded
-    ensures { λ r. ⌜ told r ≡ encoded (I ORI rd rs1 imm) ⌝ }
+    ensures { λ r. ⌜ word-answer r ≡ encoded (I ORI rd rs1 imm) ⌝ }
 {
     itype(ORI, rd, rs1, imm)
 }
 
 pub fn xori(rd: u32, rs1: u32, imm: i32) -> Encoded
-    ensures { λ r. ⌜ told r ≡ encoded (I XORI rd rs1 imm) ⌝ }
+    ensures { λ r. ⌜ word-answer r ≡ encoded (I XORI rd rs1 imm) ⌝ }
 {
     itype(XORI, rd, rs1, imm)
 }
 
 pub fn not(rd: u32, rs1: u32) -> Encoded
-    ensures { λ r. ⌜ told r ≡ encoded (I XORI rd rs1 (negsuc 0)) ⌝ }
+    ensures { λ r. ⌜ word-answer r ≡ encoded (I XORI rd rs1 (negsuc 0)) ⌝ }
 {
     itype(XORI, rd, rs1, -1)
 }
 
 pub fn slli(rd: u32, rs1: u32, shamt: i32) -> Encoded
-    ensures { λ r. ⌜ told r ≡ encoded (Shift SLLI rd rs1 shamt) ⌝ }
+    ensures { λ r. ⌜ word-answer r ≡ encoded (Shift SLLI rd rs1 shamt) ⌝ }
 {
     shift(SLLI, rd, rs1, shamt)
 }
 
 pub fn srli(rd: u32, rs1: u32, shamt: i32) -> Encoded
-    ensures { λ r. ⌜ told r ≡ encoded (Shift SRLI rd rs1 shamt) ⌝ }
+    ensures { λ r. ⌜ word-answer r ≡ encoded (Shift SRLI rd rs1 shamt) ⌝ }
 {
     shift(SRLI, rd, rs1, shamt)
 }
 
 pub fn srai(rd: u32, rs1: u32, shamt: i32) -> Encoded
-    ensures { λ r. ⌜ told r ≡ encoded (Shift SRAI rd rs1 shamt) ⌝ }
+    ensures { λ r. ⌜ word-answer r ≡ encoded (Shift SRAI rd rs1 shamt) ⌝ }
 {
     shift(SRAI, rd, rs1, shamt)
 }
 
 pub fn ld(rd: u32, rs1: u32, imm: i32) -> Encoded
-    ensures { λ r. ⌜ told r ≡ encoded (I LD rd rs1 imm) ⌝ }
+    ensures { λ r. ⌜ word-answer r ≡ encoded (I LD rd rs1 imm) ⌝ }
 {
     itype(LD, rd, rs1, imm)
 }
 
 // What is stored comes first, then the base.
 pub fn sd(rs2: u32, rs1: u32, imm: i32) -> Encoded
-    ensures { λ r. ⌜ told r ≡ encoded (S SD rs1 rs2 imm) ⌝ }
+    ensures { λ r. ⌜ word-answer r ≡ encoded (S SD rs1 rs2 imm) ⌝ }
 {
     stype(SD, rs1, rs2, imm)
 }
 
 pub fn beq(rs1: u32, rs2: u32, imm: i32) -> Encoded
-    ensures { λ r. ⌜ told r ≡ encoded (B BEQ rs1 rs2 imm) ⌝ }
+    ensures { λ r. ⌜ word-answer r ≡ encoded (B BEQ rs1 rs2 imm) ⌝ }
 {
     btype(BEQ, rs1, rs2, imm)
 }
 
 pub fn bne(rs1: u32, rs2: u32, imm: i32) -> Encoded
-    ensures { λ r. ⌜ told r ≡ encoded (B BNE rs1 rs2 imm) ⌝ }
+    ensures { λ r. ⌜ word-answer r ≡ encoded (B BNE rs1 rs2 imm) ⌝ }
 {
     btype(BNE, rs1, rs2, imm)
 }
 
 pub fn blt(rs1: u32, rs2: u32, imm: i32) -> Encoded
-    ensures { λ r. ⌜ told r ≡ encoded (B BLT rs1 rs2 imm) ⌝ }
+    ensures { λ r. ⌜ word-answer r ≡ encoded (B BLT rs1 rs2 imm) ⌝ }
 {
     btype(BLT, rs1, rs2, imm)
 }
 
 pub fn ble(rs1: u32, rs2: u32, imm: i32) -> Encoded
-    ensures { λ r. ⌜ told r ≡ encoded (B BGE rs2 rs1 imm) ⌝ }
+    ensures { λ r. ⌜ word-answer r ≡ encoded (B BGE rs2 rs1 imm) ⌝ }
 {
     btype(BGE, rs2, rs1, imm)
 }
 
 pub fn bgt(rs1: u32, rs2: u32, imm: i32) -> Encoded
-    ensures { λ r. ⌜ told r ≡ encoded (B BLT rs2 rs1 imm) ⌝ }
+    ensures { λ r. ⌜ word-answer r ≡ encoded (B BLT rs2 rs1 imm) ⌝ }
 {
     btype(BLT, rs2, rs1, imm)
 }
 
 pub fn bge(rs1: u32, rs2: u32, imm: i32) -> Encoded
-    ensures { λ r. ⌜ told r ≡ encoded (B BGE rs1 rs2 imm) ⌝ }
+    ensures { λ r. ⌜ word-answer r ≡ encoded (B BGE rs1 rs2 imm) ⌝ }
 {
     btype(BGE, rs1, rs2, imm)
 }
 
 pub fn bltu(rs1: u32, rs2: u32, imm: i32) -> Encoded
-    ensures { λ r. ⌜ told r ≡ encoded (B BLTU rs1 rs2 imm) ⌝ }
+    ensures { λ r. ⌜ word-answer r ≡ encoded (B BLTU rs1 rs2 imm) ⌝ }
 {
     btype(BLTU, rs1, rs2, imm)
 }
 
 pub fn bgeu(rs1: u32, rs2: u32, imm: i32) -> Encoded
-    ensures { λ r. ⌜ told r ≡ encoded (B BGEU rs1 rs2 imm) ⌝ }
+    ensures { λ r. ⌜ word-answer r ≡ encoded (B BGEU rs1 rs2 imm) ⌝ }
 {
     btype(BGEU, rs1, rs2, imm)
 }
 
 pub fn jal(rd: u32, imm: i32) -> Encoded
-    ensures { λ r. ⌜ told r ≡ encoded (J JAL rd imm) ⌝ }
+    ensures { λ r. ⌜ word-answer r ≡ encoded (J JAL rd imm) ⌝ }
 {
     jtype(JAL, rd, imm)
 }
 
 pub fn j(imm: i32) -> Encoded
-    ensures { λ r. ⌜ told r ≡ encoded (J JAL 0 imm) ⌝ }
+    ensures { λ r. ⌜ word-answer r ≡ encoded (J JAL 0 imm) ⌝ }
 {
     jtype(JAL, 0, imm)
 }
 
 pub fn jalr(rd: u32, rs1: u32, imm: i32) -> Encoded
-    ensures { λ r. ⌜ told r ≡ encoded (I JALR rd rs1 imm) ⌝ }
+    ensures { λ r. ⌜ word-answer r ≡ encoded (I JALR rd rs1 imm) ⌝ }
 {
     itype(JALR, rd, rs1, imm)
 }
 
 pub fn jr(rs1: u32) -> Encoded
-    ensures { λ r. ⌜ told r ≡ encoded (I JALR 0 rs1 (pos 0)) ⌝ }
+    ensures { λ r. ⌜ word-answer r ≡ encoded (I JALR 0 rs1 (pos 0)) ⌝ }
 {
     itype(JALR, 0, rs1, 0)
 }
 
 pub fn ret() -> Encoded
-    ensures { λ r. ⌜ told r ≡ encoded (I JALR 0 1 (pos 0)) ⌝ }
+    ensures { λ r. ⌜ word-answer r ≡ encoded (I JALR 0 1 (pos 0)) ⌝ }
 {
     itype(JALR, 0, 1, 0)
 }
 
 pub fn lui(rd: u32, imm: i32) -> Encoded
-    ensures { λ r. ⌜ told r ≡ encoded (U LUI rd imm) ⌝ }
+    ensures { λ r. ⌜ word-answer r ≡ encoded (U LUI rd imm) ⌝ }
 {
     utype(LUI, rd, imm)
 }
 
 pub fn auipc(rd: u32, imm: i32) -> Encoded
-    ensures { λ r. ⌜ told r ≡ encoded (U AUIPC rd imm) ⌝ }
+    ensures { λ r. ⌜ word-answer r ≡ encoded (U AUIPC rd imm) ⌝ }
 {
     utype(AUIPC, rd, imm)
 }
 
 pub fn fadd_d(rd: u32, rs1: u32, rs2: u32) -> Encoded
-    ensures { λ r. ⌜ told r ≡ encoded (F FADD-D rd rs1 rs2 7) ⌝ }
+    ensures { λ r. ⌜ word-answer r ≡ encoded (F FADD-D rd rs1 rs2 7) ⌝ }
 {
     ftype(FADD_D, rd, rs1, rs2, DYN)
 }
 
 pub fn fadd_d_rm(rd: u32, rs1: u32, rs2: u32, rm: u32) -> Encoded
-    ensures { λ r. ⌜ told r ≡ encoded (F FADD-D rd rs1 rs2 rm) ⌝ }
+    ensures { λ r. ⌜ word-answer r ≡ encoded (F FADD-D rd rs1 rs2 rm) ⌝ }
 {
     if rounding(rm) {
         return ftype(FADD_D, rd, rs1, rs2, rm);
@@ -731,134 +767,134 @@ pub fn fadd_d_rm(rd: u32, rs1: u32, rs2: u32, rm: u32) -> Encoded
 }
 
 pub fn fsub_d(rd: u32, rs1: u32, rs2: u32) -> Encoded
-    ensures { λ r. ⌜ told r ≡ encoded (F FSUB-D rd rs1 rs2 7) ⌝ }
+    ensures { λ r. ⌜ word-answer r ≡ encoded (F FSUB-D rd rs1 rs2 7) ⌝ }
 {
     ftype(FSUB_D, rd, rs1, rs2, DYN)
 }
 
 pub fn fmul_d(rd: u32, rs1: u32, rs2: u32) -> Encoded
-    ensures { λ r. ⌜ told r ≡ encoded (F FMUL-D rd rs1 rs2 7) ⌝ }
+    ensures { λ r. ⌜ word-answer r ≡ encoded (F FMUL-D rd rs1 rs2 7) ⌝ }
 {
     ftype(FMUL_D, rd, rs1, rs2, DYN)
 }
 
 pub fn fdiv_d(rd: u32, rs1: u32, rs2: u32) -> Encoded
-    ensures { λ r. ⌜ told r ≡ encoded (F FDIV-D rd rs1 rs2 7) ⌝ }
+    ensures { λ r. ⌜ word-answer r ≡ encoded (F FDIV-D rd rs1 rs2 7) ⌝ }
 {
     ftype(FDIV_D, rd, rs1, rs2, DYN)
 }
 
 pub fn fsqrt_d(rd: u32, rs1: u32) -> Encoded
-    ensures { λ r. ⌜ told r ≡ encoded (C FSQRT-D rd rs1 7) ⌝ }
+    ensures { λ r. ⌜ word-answer r ≡ encoded (C FSQRT-D rd rs1 7) ⌝ }
 {
     ctype(FSQRT_D, rd, rs1, DYN)
 }
 
 pub fn fsgnj_d(rd: u32, rs1: u32, rs2: u32) -> Encoded
-    ensures { λ r. ⌜ told r ≡ encoded (R FSGNJ-D rd rs1 rs2) ⌝ }
+    ensures { λ r. ⌜ word-answer r ≡ encoded (R FSGNJ-D rd rs1 rs2) ⌝ }
 {
     rtype(FSGNJ_D, rd, rs1, rs2)
 }
 
 pub fn fsgnjn_d(rd: u32, rs1: u32, rs2: u32) -> Encoded
-    ensures { λ r. ⌜ told r ≡ encoded (R FSGNJN-D rd rs1 rs2) ⌝ }
+    ensures { λ r. ⌜ word-answer r ≡ encoded (R FSGNJN-D rd rs1 rs2) ⌝ }
 {
     rtype(FSGNJN_D, rd, rs1, rs2)
 }
 
 pub fn fsgnjx_d(rd: u32, rs1: u32, rs2: u32) -> Encoded
-    ensures { λ r. ⌜ told r ≡ encoded (R FSGNJX-D rd rs1 rs2) ⌝ }
+    ensures { λ r. ⌜ word-answer r ≡ encoded (R FSGNJX-D rd rs1 rs2) ⌝ }
 {
     rtype(FSGNJX_D, rd, rs1, rs2)
 }
 
 pub fn fmin_d(rd: u32, rs1: u32, rs2: u32) -> Encoded
-    ensures { λ r. ⌜ told r ≡ encoded (R FMIN-D rd rs1 rs2) ⌝ }
+    ensures { λ r. ⌜ word-answer r ≡ encoded (R FMIN-D rd rs1 rs2) ⌝ }
 {
     rtype(FMIN_D, rd, rs1, rs2)
 }
 
 pub fn fmax_d(rd: u32, rs1: u32, rs2: u32) -> Encoded
-    ensures { λ r. ⌜ told r ≡ encoded (R FMAX-D rd rs1 rs2) ⌝ }
+    ensures { λ r. ⌜ word-answer r ≡ encoded (R FMAX-D rd rs1 rs2) ⌝ }
 {
     rtype(FMAX_D, rd, rs1, rs2)
 }
 
 pub fn feq_d(rd: u32, rs1: u32, rs2: u32) -> Encoded
-    ensures { λ r. ⌜ told r ≡ encoded (R FEQ-D rd rs1 rs2) ⌝ }
+    ensures { λ r. ⌜ word-answer r ≡ encoded (R FEQ-D rd rs1 rs2) ⌝ }
 {
     rtype(FEQ_D, rd, rs1, rs2)
 }
 
 pub fn flt_d(rd: u32, rs1: u32, rs2: u32) -> Encoded
-    ensures { λ r. ⌜ told r ≡ encoded (R FLT-D rd rs1 rs2) ⌝ }
+    ensures { λ r. ⌜ word-answer r ≡ encoded (R FLT-D rd rs1 rs2) ⌝ }
 {
     rtype(FLT_D, rd, rs1, rs2)
 }
 
 pub fn fle_d(rd: u32, rs1: u32, rs2: u32) -> Encoded
-    ensures { λ r. ⌜ told r ≡ encoded (R FLE-D rd rs1 rs2) ⌝ }
+    ensures { λ r. ⌜ word-answer r ≡ encoded (R FLE-D rd rs1 rs2) ⌝ }
 {
     rtype(FLE_D, rd, rs1, rs2)
 }
 
 pub fn fgt_d(rd: u32, rs1: u32, rs2: u32) -> Encoded
-    ensures { λ r. ⌜ told r ≡ encoded (R FLT-D rd rs2 rs1) ⌝ }
+    ensures { λ r. ⌜ word-answer r ≡ encoded (R FLT-D rd rs2 rs1) ⌝ }
 {
     rtype(FLT_D, rd, rs2, rs1)
 }
 
 pub fn fge_d(rd: u32, rs1: u32, rs2: u32) -> Encoded
-    ensures { λ r. ⌜ told r ≡ encoded (R FLE-D rd rs2 rs1) ⌝ }
+    ensures { λ r. ⌜ word-answer r ≡ encoded (R FLE-D rd rs2 rs1) ⌝ }
 {
     rtype(FLE_D, rd, rs2, rs1)
 }
 
 pub fn fld(rd: u32, rs1: u32, imm: i32) -> Encoded
-    ensures { λ r. ⌜ told r ≡ encoded (I FLD rd rs1 imm) ⌝ }
+    ensures { λ r. ⌜ word-answer r ≡ encoded (I FLD rd rs1 imm) ⌝ }
 {
     itype(FLD, rd, rs1, imm)
 }
 
 // What is stored comes first, then the base.
 pub fn fsd(rs2: u32, rs1: u32, imm: i32) -> Encoded
-    ensures { λ r. ⌜ told r ≡ encoded (S FSD rs1 rs2 imm) ⌝ }
+    ensures { λ r. ⌜ word-answer r ≡ encoded (S FSD rs1 rs2 imm) ⌝ }
 {
     stype(FSD, rs1, rs2, imm)
 }
 
 pub fn fabs_d(rd: u32, rs1: u32) -> Encoded
-    ensures { λ r. ⌜ told r ≡ encoded (R FSGNJX-D rd rs1 rs1) ⌝ }
+    ensures { λ r. ⌜ word-answer r ≡ encoded (R FSGNJX-D rd rs1 rs1) ⌝ }
 {
     rtype(FSGNJX_D, rd, rs1, rs1)
 }
 
 pub fn fmv_d(rd: u32, rs1: u32) -> Encoded
-    ensures { λ r. ⌜ told r ≡ encoded (R FSGNJ-D rd rs1 rs1) ⌝ }
+    ensures { λ r. ⌜ word-answer r ≡ encoded (R FSGNJ-D rd rs1 rs1) ⌝ }
 {
     rtype(FSGNJ_D, rd, rs1, rs1)
 }
 
 pub fn fneg_d(rd: u32, rs1: u32) -> Encoded
-    ensures { λ r. ⌜ told r ≡ encoded (R FSGNJN-D rd rs1 rs1) ⌝ }
+    ensures { λ r. ⌜ word-answer r ≡ encoded (R FSGNJN-D rd rs1 rs1) ⌝ }
 {
     rtype(FSGNJN_D, rd, rs1, rs1)
 }
 
 pub fn fcvt_w_d(rd: u32, rs1: u32) -> Encoded
-    ensures { λ r. ⌜ told r ≡ encoded (C FCVT-W-D rd rs1 7) ⌝ }
+    ensures { λ r. ⌜ word-answer r ≡ encoded (C FCVT-W-D rd rs1 7) ⌝ }
 {
     ctype(FCVT_W_D, rd, rs1, DYN)
 }
 
 pub fn fcvt_d_w(rd: u32, rs1: u32) -> Encoded
-    ensures { λ r. ⌜ told r ≡ encoded (C FCVT-D-W rd rs1 0) ⌝ }
+    ensures { λ r. ⌜ word-answer r ≡ encoded (C FCVT-D-W rd rs1 0) ⌝ }
 {
     ctype(FCVT_D_W, rd, rs1, RNE)
 }
 
 pub fn fcvt_l_d(rd: u32, rs1: u32, rm: u32) -> Encoded
-    ensures { λ r. ⌜ told r ≡ encoded (C FCVT-L-D rd rs1 rm) ⌝ }
+    ensures { λ r. ⌜ word-answer r ≡ encoded (C FCVT-L-D rd rs1 rm) ⌝ }
 {
     if rounding(rm) {
         return ctype(FCVT_L_D, rd, rs1, rm);
@@ -871,43 +907,43 @@ pub fn fcvt_l_d(rd: u32, rs1: u32, rm: u32) -> Encoded
 }
 
 pub fn fcvt_d_l(rd: u32, rs1: u32) -> Encoded
-    ensures { λ r. ⌜ told r ≡ encoded (C FCVT-D-L rd rs1 7) ⌝ }
+    ensures { λ r. ⌜ word-answer r ≡ encoded (C FCVT-D-L rd rs1 7) ⌝ }
 {
     ctype(FCVT_D_L, rd, rs1, DYN)
 }
 
 pub fn fmv_x_d(rd: u32, rs1: u32) -> Encoded
-    ensures { λ r. ⌜ told r ≡ encoded (M FMV-X-D rd rs1) ⌝ }
+    ensures { λ r. ⌜ word-answer r ≡ encoded (M FMV-X-D rd rs1) ⌝ }
 {
     mtype(FMV_X_D, rd, rs1)
 }
 
 pub fn fmv_d_x(rd: u32, rs1: u32) -> Encoded
-    ensures { λ r. ⌜ told r ≡ encoded (M FMV-D-X rd rs1) ⌝ }
+    ensures { λ r. ⌜ word-answer r ≡ encoded (M FMV-D-X rd rs1) ⌝ }
 {
     mtype(FMV_D_X, rd, rs1)
 }
 
 pub fn fmadd_d(rd: u32, rs1: u32, rs2: u32, rs3: u32) -> Encoded
-    ensures { λ r. ⌜ told r ≡ encoded (R4 FMADD-D rd rs1 rs2 rs3 7) ⌝ }
+    ensures { λ r. ⌜ word-answer r ≡ encoded (R4 FMADD-D rd rs1 rs2 rs3 7) ⌝ }
 {
     r4type(FMADD_D, rd, rs1, rs2, rs3)
 }
 
 pub fn fmsub_d(rd: u32, rs1: u32, rs2: u32, rs3: u32) -> Encoded
-    ensures { λ r. ⌜ told r ≡ encoded (R4 FMSUB-D rd rs1 rs2 rs3 7) ⌝ }
+    ensures { λ r. ⌜ word-answer r ≡ encoded (R4 FMSUB-D rd rs1 rs2 rs3 7) ⌝ }
 {
     r4type(FMSUB_D, rd, rs1, rs2, rs3)
 }
 
 pub fn fnmadd_d(rd: u32, rs1: u32, rs2: u32, rs3: u32) -> Encoded
-    ensures { λ r. ⌜ told r ≡ encoded (R4 FNMADD-D rd rs1 rs2 rs3 7) ⌝ }
+    ensures { λ r. ⌜ word-answer r ≡ encoded (R4 FNMADD-D rd rs1 rs2 rs3 7) ⌝ }
 {
     r4type(FNMADD_D, rd, rs1, rs2, rs3)
 }
 
 pub fn fnmsub_d(rd: u32, rs1: u32, rs2: u32, rs3: u32) -> Encoded
-    ensures { λ r. ⌜ told r ≡ encoded (R4 FNMSUB-D rd rs1 rs2 rs3 7) ⌝ }
+    ensures { λ r. ⌜ word-answer r ≡ encoded (R4 FNMSUB-D rd rs1 rs2 rs3 7) ⌝ }
 {
     r4type(FNMSUB_D, rd, rs1, rs2, rs3)
 }

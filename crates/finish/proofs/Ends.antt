@@ -7,14 +7,14 @@ use borrow.Author.Tests.{lt-ltb, le-ltb, eqb-false}
 use lib.ListN.{length}
 use Rattle.refusal.specs.Answer.{refused}
 use Rattle.assembler.specs.Memory.{jump-at, tag-at}
-use Rattle.assembler.specs.State.{State, state, told, sound}
-use Rattle.finish.specs.Finish.{Ending, labels-good, jump-number, first-with, finish-number, about, ended, finish, ending}
-use Rattle.finish.specs.declared.Finished.{Finished}
+use Rattle.assembler.specs.State.{State, state, emit-answer, sound}
+use Rattle.finish.specs.Finish.{FinishOutcome, labels-good, jump-number, first-with, finish-number, about, ended, finish, finish-outcome}
+use Rattle.finish.specs.declared.FinishResult.{FinishResult}
 use Rattle.finish.proofs.First.{none}
 use Rattle.finish.proofs.Wrong.{one-of}
 
 module _ (s : State) where
-  pub ends : (k : ℕ) (r : Ending) → k ≡ finish-number s → r ≡ ended k s → r ≡ finish s
+  pub ends : (k : ℕ) (r : FinishOutcome) → k ≡ finish-number s → r ≡ ended k s → r ≡ finish s
   unfolding finish
   ends k r e h = rw (← e) h
 
@@ -28,11 +28,11 @@ module _ (s : State) where
       (eqb-false n 2 (rw z at (none _ 0 (s .asm .jumps) a i h))) (eqb-false n 5 (rw z at (none _ 0 (s .asm .jumps) b i h))) (eqb-false n 6 (rw z at (none _ 0 (s .asm .jumps) c i h)))
 
   -- refused with place and tag 0, or about a jump
-  pub refusal : (f : Finished) (k : ℕ) → (f .asm ≡ s .asm) × (told (f .answer) ≡ refused k 0) × (f .tag ≡ 0) → ending f (s .labels) (s .jumps) (s .buf) ≡ record { answer = refused k 0; tag = 0; state = s }
+  pub refusal : (f : FinishResult) (k : ℕ) → (f .asm ≡ s .asm) × (emit-answer (f .answer) ≡ refused k 0) × (f .tag ≡ 0) → finish-outcome f (s .labels) (s .jumps) (s .buf) ≡ record { answer = refused k 0; tag = 0; state = s }
   refusal f k h = rw (h .0, h .1, h .2)
 
-  pub refusal-about : (f : Finished) (k i : ℕ) → (f .asm ≡ s .asm) × (told (f .answer) ≡ refused k (jump-at (s .jumps) i .word)) × (f .tag ≡ tag-at (s .jumps) i)
-      → i ≡ first-with k s → ending f (s .labels) (s .jumps) (s .buf) ≡ about k s
+  pub refusal-about : (f : FinishResult) (k i : ℕ) → (f .asm ≡ s .asm) × (emit-answer (f .answer) ≡ refused k (jump-at (s .jumps) i .word)) × (f .tag ≡ tag-at (s .jumps) i)
+      → i ≡ first-with k s → finish-outcome f (s .labels) (s .jumps) (s .buf) ≡ about k s
   refusal-about f k i h e = rw (h .0, h .1, h .2, e)
 
   pub n-closed : s .asm .closed ≡ true → 8 ≡ finish-number s

@@ -4,3 +4,12 @@ pub mod Near
 pub mod Wrong
 pub mod Patched
 pub mod Ends
+pub mod Represents
+pub mod Over
+pub mod Noted
+pub mod Append
+pub mod Each
+pub mod All
+pub mod Resolves
+pub mod Both
+pub mod Behind

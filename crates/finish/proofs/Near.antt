@@ -14,7 +14,7 @@ use Rattle.isa.specs.Instr.{holds, offset, valid}
 use Rattle.isa.proofs.HiLo.{lo-fits, hi-fits}
 use Rattle.encoder.proofs.ReadBack.{sfits, back, back-small}
 use Rattle.assembler.specs.Jump.{kind-of, jump-instr}
-use Rattle.assembler.specs.declared.Kind.the-variants.{Bne}
+use Rattle.assembler.specs.declared.JumpKind.the-variants.{Bne}
 
 -- ---- offsets
 

@@ -9,7 +9,8 @@ use lib.Dec.{leb, eqb, ltb}
 use lib.IntN.{subℕ}
 use lib.ListN.{getD}
 use Rattle.isa.specs.Instr.{valid, Valid, holds, offset}
-use Rattle.isa.proofs.Validity.{both, valid-Valid}
+use Rattle.isa.proofs.Validity.{valid-Valid}
+use Rattle.base.proofs.Bools.{both}
 use Rattle.assembler.specs.Jump.{kind-of, jump-instr}
 use Rattle.assembler.specs.Label.{is-set, place-of}
 use Rattle.assembler.specs.Memory.{Jump}

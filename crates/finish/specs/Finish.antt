@@ -1,7 +1,8 @@
 -- Finishing: all jumps are looked at, and only then written.
+use mathlib.Core.Path.{_≡_}
 use mathlib.Core.Bool.{Bool, true, not, _&&_, _||_, cond}
 use mathlib.Core.List.{List, [], _∷_}
-use Prim.Native.Nat.{ℕ, zero, suc, _+_, _-_, _/_, _%_, _^_}
+use Prim.Native.Nat.{ℕ, zero, suc, _+_, _-_, _/_, _%_, _^_, _<_}
 use lib.Dec.{ltb, leb, eqb}
 use lib.IntN.{ℤ, subℕ}
 use lib.ListN.{length, getD}
@@ -10,12 +11,13 @@ use Rattle.isa.specs.Encode.{encode}
 use Rattle.refusal.specs.Answer.{Answer, accepted, refused}
 use Rattle.refusal.specs.Number.{number-of}
 use Rattle.refusal.specs.declared.Refusal.the-variants.{Value, Unset, Far, Closed}
+use Rattle.assembler.specs.Limit.{label-limit}
 use Rattle.assembler.specs.Jump.{kind-of, jump-instr}
 use Rattle.assembler.specs.Bytes.{written}
 use Rattle.assembler.specs.Label.{is-set, place-of}
 use Rattle.assembler.specs.Memory.{Jump, jump-at, tag-at, jumps-of}
-use Rattle.assembler.specs.State.{State, state, told, sound}
-use Rattle.finish.specs.declared.Finished.{Finished}
+use Rattle.assembler.specs.State.{State, state, emit-answer, sound}
+use Rattle.finish.specs.declared.FinishResult.{FinishResult}
 
 -- how many of the k numbers from i on stand before the first that passes the test: k if none does
 unfoldable pub first : (ℕ → Bool) → ℕ → ℕ → ℕ
@@ -29,7 +31,7 @@ abbrev pub label-good : ℕ → ℕ → Bool
 label-good len e = eqb (e / 2 ^ 32) 0 && (not (is-set e) || (leb (place-of e) len && eqb (place-of e % 4) 0))
 
 unfoldable pub labels-good : ℕ → List ℕ → Bool
-labels-good len labels = leb 2039 (first (λ i. not (label-good len (getD labels i 0))) 0 2039)
+labels-good len labels = leb label-limit (first (λ i. not (label-good len (getD labels i 0))) 0 label-limit)
 
 -- ---- jumps
 
@@ -37,7 +39,7 @@ labels-good len labels = leb 2039 (first (λ i. not (label-good len (getD labels
 abbrev pub jump-good : ℕ → Jump → Bool
 jump-good len j =
     leb (j .word + 4) len
-    && (eqb (j .word % 4) 0 && (ltb (j .reg) 32 && (ltb (j .label) 2039 && ltb (j .kind) 6)))
+    && (eqb (j .word % 4) 0 && (ltb (j .reg) 32 && (ltb (j .label) label-limit && ltb (j .kind) 6)))
 
 abbrev pub unset : List ℕ → Jump → Bool
 unset labels j = not (is-set (getD labels (j .label) 0))
@@ -56,6 +58,10 @@ jump-number labels len j =
     cond (jump-good len j)
     (cond (unset labels j) (number-of Unset) (cond (far labels j) (number-of Far) 0))
     (number-of Value)
+
+-- nothing is wrong with any of the first n
+abbrev pub AllRight : List ℕ → (len : ℕ) → (jumps : List ℕ) → (n : ℕ) → Type 0
+AllRight labels len jumps n = (i : ℕ) → i < n → jump-number labels len (jump-at jumps i) ≡ 0
 
 abbrev pub jump-word : List ℕ → Jump → ℕ
 jump-word labels j = encode (jump-instr (kind-of (j .kind)) (j .reg) (way labels j))
@@ -85,13 +91,13 @@ finish-number s =
     (number-of Value))
 
 -- What finishing answers, the tag of the jump that 5 or 6 is about (else 0), and the state it leaves.
-pub record Ending : Type 0 where
+pub record FinishOutcome : Type 0 where
   pub answer : Answer (Unit {0})
   pub tag : ℕ
   pub state : State
 
 -- refused about its first jump with this number
-abbrev pub about : ℕ → State → Ending
+abbrev pub about : ℕ → State → FinishOutcome
 about number s =
     record {
       answer = refused number (jump-at (s .jumps) (first-with number s) .word);
@@ -109,15 +115,15 @@ finished s =
       buf = patched (s .labels) (s .buf) (jumps-of (s .jumps) 0 (s .asm .jumps));
     }
 
-abbrev pub ended : ℕ → State → Ending
+abbrev pub ended : ℕ → State → FinishOutcome
 ended number s =
     cond (eqb number 0) (record { answer = accepted tt; tag = 0; state = finished s })
     (cond (eqb number (number-of Unset)) (about (number-of Unset) s)
     (cond (eqb number (number-of Far)) (about (number-of Far) s)
     (record { answer = refused number 0; tag = 0; state = s })))
 
-unfoldable pub finish : State → Ending
+unfoldable pub finish : State → FinishOutcome
 finish s = ended (finish-number s) s
 
-abbrev pub ending : Finished → List ℕ → List ℕ → List ℕ → Ending
-ending f ls js b = record { answer = told (f .answer); tag = f .tag; state = state (f .asm) ls js b }
+abbrev pub finish-outcome : FinishResult → List ℕ → List ℕ → List ℕ → FinishOutcome
+finish-outcome f ls js b = record { answer = emit-answer (f .answer); tag = f .tag; state = state (f .asm) ls js b }

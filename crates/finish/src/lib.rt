@@ -8,21 +8,29 @@ ghost use lib.ListN.{length, getD};
 ghost use Rattle.isa.specs.Immediate.{twos, lo as lo-part};
 ghost use Rattle.isa.specs.Instr.{Valid, valid};
 ghost use Rattle.isa.specs.Encode.{encode};
-ghost use Rattle.encoder.specs.Answer.{told as word-told, encoded};
+ghost use Rattle.encoder.specs.Answer.{word-answer, encoded};
+ghost use Rattle.assembler.specs.Limit.{room-limit, label-limit, jump-limit};
 ghost use Rattle.assembler.specs.Jump.{kind-of, jump-instr};
 ghost use Rattle.assembler.specs.Label.{is-set, place-of};
 ghost use Rattle.assembler.specs.Memory.{jump-at, tag-at, jumps-of};
-ghost use Rattle.assembler.specs.State.{state, told, sound};
+ghost use Rattle.assembler.specs.State.{emit-answer, before};
 ghost use Rattle.refusal.specs.Answer.{refused};
 ghost use Rattle.refusal.specs.Number.{number-of};
-ghost use Rattle.finish.specs.Finish.{first, label-good, labels-good, jump-number, patched, finish, ending};
+ghost use Rattle.finish.specs.Finish.{first, label-good, labels-good, jump-number, AllRight, patched, finish, finish-outcome};
 use assembler::Answer;
 use assembler::Asm;
+use assembler::Jumps;
+use assembler::LABELS;
+use assembler::Labels;
 use encoder::Encoded;
+use encoder::S2;
+use encoder::T0;
+use encoder::T2;
+use encoder::ZERO;
 use refusal::Refusal;
 
 // `tag` is the caller's own number of the jump that 5 or 6 is about, else 0.
-pub struct Finished {
+pub struct FinishResult {
     pub asm: Asm,
     pub answer: Answer,
     pub tag: u32,
@@ -60,7 +68,7 @@ fn good_label(e: u64, len: usize) -> bool
 }
 
 // The 64 labels from i on in one number, which is 0 where none holds anything.
-fn joined(labels: &[u64; 2039], i: usize) -> u64
+fn joined(labels: &Labels, i: usize) -> u64
     requires { ⌜ i ≤ 1920 ⌝ }
     ensures { λ r. ⌜ (r ≡ 0 → (j : ℕ) → j < 64 → getD (now (labels .entry)) (i + j) 0 ≡ 0) ⌝ }
 {
@@ -74,8 +82,8 @@ fn joined(labels: &[u64; 2039], i: usize) -> u64
 }
 
 // The first label from `from` on that is not good, or n.
-fn first_from(labels: &[u64; 2039], len: usize, from: usize, n: usize) -> usize
-    requires { ⌜ (from ≤ n) × (n ≤ 2039) ⌝ }
+fn first_from(labels: &Labels, len: usize, from: usize, n: usize) -> usize
+    requires { ⌜ (from ≤ n) × (n ≤ label-limit) ⌝ }
     ensures { λ r. ⌜ (r ≡ from + first (λ i. not (label-good len (getD (now (labels .entry)) i 0))) from (n - from)) × (r ≤ n) ⌝ }
 {
     let mut i = from;
@@ -91,8 +99,8 @@ fn first_from(labels: &[u64; 2039], len: usize, from: usize, n: usize) -> usize
 }
 
 // How many labels stand before the first that is not good. Most are unset: looked at 64 at a time.
-fn first_label(labels: &[u64; 2039], len: usize) -> usize
-    ensures { λ r. ⌜ (r ≡ first (λ i. not (label-good len (getD (now (labels .entry)) i 0))) 0 2039) × (r ≤ 2039) ⌝ }
+fn first_label(labels: &Labels, len: usize) -> usize
+    ensures { λ r. ⌜ (r ≡ first (λ i. not (label-good len (getD (now (labels .entry)) i 0))) 0 label-limit) × (r ≤ label-limit) ⌝ }
 {
     let mut i = 0;
     while i < 1984 {
@@ -107,7 +115,7 @@ fn first_label(labels: &[u64; 2039], len: usize) -> usize
         }
         i += 64;
     }
-    first_from(labels, len, i, 2039)
+    first_from(labels, len, i, LABELS)
 }
 
 // ---- a jump's word
@@ -123,7 +131,7 @@ fn twos_of(a: u32, b: u32) -> u32
 }
 
 fn offset_of(a: u32, b: u32) -> i32
-    requires { ⌜ (a ≤ 65536) × (b ≤ 65536) ⌝ }
+    requires { ⌜ (a ≤ room-limit) × (b ≤ room-limit) ⌝ }
     ensures { λ r. ⌜ r ≡ subℕ a b ⌝ }
 {
     let x = a as i32;
@@ -140,31 +148,31 @@ fn second(u: u32) -> i32
 
 // The jump of kind k and register r from place b to place a.
 fn jump_encoded(k: u32, r: u32, a: u32, b: u32) -> Encoded
-    requires { ⌜ (a ≤ 65536) × (b ≤ 65536) ⌝ }
-    ensures { λ x. ⌜ word-told x ≡ encoded (jump-instr (kind-of k) r (subℕ a b)) ⌝ }
+    requires { ⌜ (a ≤ room-limit) × (b ≤ room-limit) ⌝ }
+    ensures { λ x. ⌜ word-answer x ≡ encoded (jump-instr (kind-of k) r (subℕ a b)) ⌝ }
 {
     let u = twos_of(a, b);
     if k == 0 {
-        return encoder::auipc(5, encoder::hi(u));
+        return encoder::auipc(T0, encoder::hi(u));
     }
     if k == 1 {
-        return encoder::ld(r, 5, second(u));
+        return encoder::ld(r, T0, second(u));
     }
     if k == 2 {
-        return encoder::jalr(r, 5, second(u));
+        return encoder::jalr(r, T0, second(u));
     }
     if k == 3 {
-        return encoder::fld(r, 5, second(u));
+        return encoder::fld(r, T0, second(u));
     }
     let z = offset_of(a, b);
     if k == 4 {
-        return encoder::beq(18, 0, z);
+        return encoder::beq(S2, ZERO, z);
     }
-    encoder::bne(7, 0, z)
+    encoder::bne(T2, ZERO, z)
 }
 
 fn reaches(k: u32, r: u32, a: u32, b: u32) -> bool
-    requires { ⌜ (a ≤ 65536) × (b ≤ 65536) ⌝ }
+    requires { ⌜ (a ≤ room-limit) × (b ≤ room-limit) ⌝ }
     ensures { λ x. ⌜ x ≡ valid (jump-instr (kind-of k) r (subℕ a b)) ⌝ }
 {
     let e = jump_encoded(k, r, a, b);
@@ -175,7 +183,7 @@ fn reaches(k: u32, r: u32, a: u32, b: u32) -> bool
 }
 
 fn word(k: u32, r: u32, a: u32, b: u32) -> u32
-    requires { ⌜ (a ≤ 65536) × (b ≤ 65536) ⌝ }
+    requires { ⌜ (a ≤ room-limit) × (b ≤ room-limit) ⌝ }
     ensures { λ x. ⌜ (valid (jump-instr (kind-of k) r (subℕ a b)) ≡ true → x ≡ encode (jump-instr (kind-of k) r (subℕ a b))) ⌝ }
 {
     let e = jump_encoded(k, r, a, b);
@@ -188,8 +196,8 @@ fn word(k: u32, r: u32, a: u32, b: u32) -> u32
 // ---- all jumps looked at
 
 // What is wrong with a jump: 2, 5, 6, or 0.
-fn status(labels: &[u64; 2039], len: usize, p: u32, l: u32, r: u32, k: u32) -> u8
-    requires { ⌜ (len ≤ 65536) × (labels-good len (now labels) ≡ true) ⌝ }
+fn status(labels: &Labels, len: usize, p: u32, l: u32, r: u32, k: u32) -> u8
+    requires { ⌜ (len ≤ room-limit) × (labels-good len (now labels) ≡ true) ⌝ }
     ensures { λ x. ⌜ x ≡ jump-number (now (labels .entry)) len (record { word = p; label = l; reg = r; kind = k }) ⌝ }
 {
     let at = p as usize;
@@ -202,13 +210,13 @@ fn status(labels: &[u64; 2039], len: usize, p: u32, l: u32, r: u32, k: u32) -> u
     if 32 <= r {
         return 2;
     }
-    if 2039 <= l {
+    let i = l as usize;
+    if LABELS <= i {
         return 2;
     }
     if 6 <= k {
         return 2;
     }
-    let i = l as usize;
     let a = label_place(labels[i]);
     if is_unset(labels[i]) {
         return 5;
@@ -226,8 +234,8 @@ fn is_unset(e: u64) -> bool
 }
 
 // How many jumps stand before the first with this number.
-fn first_jump(want: u8, labels: &[u64; 2039], jumps: &[u32; 20480], n: usize, len: usize) -> usize
-    requires { ⌜ (n ≤ 4096) × (len ≤ 65536) × (labels-good len (now labels) ≡ true) ⌝ }
+fn first_jump(want: u8, labels: &Labels, jumps: &Jumps, n: usize, len: usize) -> usize
+    requires { ⌜ (n ≤ jump-limit) × (len ≤ room-limit) × (labels-good len (now labels) ≡ true) ⌝ }
     ensures { λ r. ⌜ (r ≡ first (λ i. eqb (jump-number (now (labels .entry)) len (jump-at (now (jumps .entry)) i)) want) 0 n) × (r ≤ n) ⌝ }
 {
     let mut i = 0;
@@ -252,8 +260,12 @@ fn first_jump(want: u8, labels: &[u64; 2039], jumps: &[u32; 20480], n: usize, le
 // ---- and only then written
 
 // Every jump's word.
-fn write_jumps(buf: &mut [u8], labels: &[u64; 2039], jumps: &[u32; 20480], n: usize, len: usize)
-    requires { ⌜ (n ≤ 4096) × (len ≤ length (now buf)) × (len ≤ 65536) × (labels-good len (now labels) ≡ true) × ((i : ℕ) → i < n → jump-number (now labels) len (jump-at (now jumps) i) ≡ 0) ⌝ }
+fn write_jumps(buf: &mut [u8], labels: &Labels, jumps: &Jumps, n: usize, len: usize)
+    requires { ⌜ (n ≤ jump-limit)
+        × (len ≤ length (now buf))
+        × (len ≤ room-limit)
+        × (labels-good len (now labels) ≡ true)
+        × AllRight (now labels) len (now jumps) n ⌝ }
     ensures { λ _. ⌜ now (buf .exit) ≡ patched (now (labels .entry)) (now (buf .entry)) (jumps-of (now (jumps .entry)) 0 n) ⌝ }
 {
     let mut i = 0;
@@ -270,32 +282,34 @@ fn write_jumps(buf: &mut [u8], labels: &[u64; 2039], jumps: &[u32; 20480], n: us
 }
 
 // Refused about jump i.
-fn refused_at(r: Refusal, jumps: &[u32; 20480], i: usize, asm: Asm) -> Finished
-    requires { ⌜ i < 4096 ⌝ }
-    ensures { λ x. ⌜ (x .asm ≡ asm) × (told (x .answer) ≡ refused (number-of r) (jump-at (now (jumps .entry)) i .word)) × (x .tag ≡ tag-at (now (jumps .entry)) i) ⌝ }
+fn refused_at(r: Refusal, jumps: &Jumps, i: usize, asm: Asm) -> FinishResult
+    requires { ⌜ i < jump-limit ⌝ }
+    ensures { λ x. ⌜ (x .asm ≡ asm)
+        × (emit-answer (x .answer) ≡ refused (number-of r) (jump-at (now (jumps .entry)) i .word))
+        × (x .tag ≡ tag-at (now (jumps .entry)) i) ⌝ }
 {
     let b = 5 * i;
     let p = jumps[b];
     let t = jumps[b + 4];
-    Finished {
+    FinishResult {
         asm,
         answer: Answer::Refused(r, p),
         tag: t,
     }
 }
 
-fn refused_with(r: Refusal, asm: Asm) -> Finished
-    ensures { λ x. ⌜ (x .asm ≡ asm) × (told (x .answer) ≡ refused (number-of r) 0) × (x .tag ≡ 0) ⌝ }
+fn refused_with(r: Refusal, asm: Asm) -> FinishResult
+    ensures { λ x. ⌜ (x .asm ≡ asm) × (emit-answer (x .answer) ≡ refused (number-of r) 0) × (x .tag ≡ 0) ⌝ }
 {
-    Finished {
+    FinishResult {
         asm,
         answer: Answer::Refused(r, 0),
         tag: 0,
     }
 }
 
-pub fn apply_jumps(buf: &mut [u8], labels: &[u64; 2039], jumps: &[u32; 20480], asm: Asm) -> Finished
-    ensures { λ r. ⌜ ending r (now (labels .entry)) (now (jumps .entry)) (now (buf .exit)) ≡ finish (state asm (now (labels .entry)) (now (jumps .entry)) (now (buf .entry))) ⌝ }
+pub fn apply_jumps(buf: &mut [u8], labels: &Labels, jumps: &Jumps, asm: Asm) -> FinishResult
+    ensures { λ r. ⌜ finish-outcome r (now (labels .entry)) (now (jumps .entry)) (now (buf .exit)) ≡ finish (before asm labels jumps buf) ⌝ }
 {
     if asm.closed {
         return refused_with(Refusal::Closed, asm);
@@ -304,7 +318,7 @@ pub fn apply_jumps(buf: &mut [u8], labels: &[u64; 2039], jumps: &[u32; 20480], a
     if ok {
         let len = asm.len;
         let n = asm.jumps;
-        if first_label(labels, len) < 2039 {
+        if first_label(labels, len) < LABELS {
             return refused_with(Refusal::Value, asm);
         }
         if first_jump(2, labels, jumps, n, len) < n {
@@ -319,7 +333,7 @@ pub fn apply_jumps(buf: &mut [u8], labels: &[u64; 2039], jumps: &[u32; 20480], a
             return refused_at(Refusal::Far, jumps, k, asm);
         }
         write_jumps(buf, labels, jumps, n, len);
-        return Finished {
+        return FinishResult {
             asm: Asm {
                 len,
                 jumps: n,

@@ -1,29 +1,24 @@
--- Reading a line's text gives the line back, and what reads to a line is its text. Assumes nothing.
+-- Reading a line's text gives the line back, and what reads to a line is its text.
 use mathlib.Core.Path.{_≡_, refl, sym, ap, _∙_, subst}
 use mathlib.Core.Bool.{Bool, true, false, cond}
-use mathlib.Core.Option.{Option, some, none, Option·some-injective, Option·none-ne-some}
-use mathlib.Core.List.{List, [], _∷_, _++_}
+use mathlib.Core.Option.{Option, some, none, Option·map, Option·some-injective, Option·none-ne-some}
+use mathlib.Core.List.{List, [], _∷_, _++_, map}
 use Prim.Native.Nat.{ℕ, suc, _+_, _-_}
 use native.Mathlib.Omega.{arith}
 use borrow.Author.Tests.{eqb-true}
 use lib.Dec.{eqb}
 use lib.ListN.{length, getD, take, length-append}
 use lib.Seq.{take-suc, take-at, getD-at, take-all}
-use Rattle.order.specs.declared.Place.the-variants as Place
-use Rattle.order.specs.declared.Frame.the-variants as Frame
-use Rattle.order.specs.declared.Unary.the-variants as Unary
-use Rattle.order.specs.declared.Scratched.the-variants as Scratched
-use Rattle.order.specs.declared.Binary.the-variants as Binary
-use Rattle.order.specs.declared.Fused.the-variants as Fused
+use Rattle.ast.specs.declared.Place.the-variants as Place
 use Rattle.text.specs.Fields.{commas, split, same}
 use Rattle.text.proofs.Numerals.{decimal-back, decimal-read, integer-back, integer-read, word-back, word-read}
 use Rattle.text.proofs.Answers.{first-field}
 use Rattle.text.proofs.Joined.{free, all-free, split-join, join-split, free-decimal, free-integer, free-word, same-is}
-use Rattle.form.specs.Line.{Sort, number, integer, word, place, flag, Value, Values, Holds, All, field, fields, place-name, flag-name, name, sorts, Line, Fits, text}
-use Rattle.form.specs.Read.{first, both, all-places, all-flags, kinds, kind-of, read-field, read-values, with-values, read-kind, read-fields, read}
+use Rattle.form.specs.Syntax.{Sort, number, integer, word, place, flag, Value, Values, place-name, flag-name, names, sorts, Syntax}
+use Rattle.form.specs.Read.{first, both, all-places, all-flags, kind-in, kind-of, read-field, read-values, with-values, read-kind, read-fields, read}
 use Rattle.form.specs.Form.{cut, form-of}
 use Rattle.form.specs.declared.Kind.{Kind}
-use Rattle.form.specs.declared.Kind.the-variants as Kind
+use Rattle.form.proofs.Text.{found-is, name-of, name, field, fields, Holds, All, Fits, text}
 
 -- ---- names
 
@@ -38,37 +33,23 @@ first-is f s (x ∷ xs) a e = go (same s (f x)) refl e (first-is f s xs a)
 
 -- each name is that of one kind, and has no comma
 pub names-differ : (k : Kind) → (kind-of (name k) ≡ some k) × (free (name k) ≡ true)
-unfolding first same
-names-differ (Kind.Head Frame.Fast) = (refl, refl)
-names-differ (Kind.Head Frame.Indirect) = (refl, refl)
-names-differ (Kind.Unary Unary.Fmov) = (refl, refl)
-names-differ (Kind.Unary Unary.Recip) = (refl, refl)
-names-differ (Kind.Unary Unary.Round) = (refl, refl)
-names-differ (Kind.Unary Unary.Floor) = (refl, refl)
-names-differ (Kind.Unary Unary.Not) = (refl, refl)
-names-differ (Kind.Scratched Scratched.Sign) = (refl, refl)
-names-differ (Kind.Scratched Scratched.Frac) = (refl, refl)
-names-differ (Kind.Binary Binary.Minus) = (refl, refl)
-names-differ (Kind.Binary Binary.Times) = (refl, refl)
-names-differ (Kind.Binary Binary.Divide) = (refl, refl)
-names-differ (Kind.Binary Binary.Gt) = (refl, refl)
-names-differ (Kind.Binary Binary.Neq) = (refl, refl)
-names-differ (Kind.Binary Binary.And) = (refl, refl)
-names-differ (Kind.Binary Binary.Andnot) = (refl, refl)
-names-differ (Kind.Binary Binary.Or) = (refl, refl)
-names-differ (Kind.Binary Binary.Xor) = (refl, refl)
-names-differ (Kind.Fused Fused.MulAdd) = (refl, refl)
-names-differ (Kind.Fused Fused.MulSub) = (refl, refl)
-names-differ (Kind.Fused Fused.NegMulAdd) = (refl, refl)
-names-differ (Kind.Fused Fused.NegMulSub) = (refl, refl)
-names-differ Kind.Ifelse = (refl, refl)
-names-differ Kind.LoadConst = (refl, refl)
-names-differ Kind.Load = (refl, refl)
-names-differ Kind.Save = (refl, refl)
-names-differ Kind.BranchIf = (refl, refl)
-names-differ Kind.SetLabel = (refl, refl)
-names-differ Kind.Float = (refl, refl)
-names-differ Kind.Bits = (refl, refl)
+names-differ k = (found-is (name k) names ∙ name-of k .says, name-of k .no-comma)
+
+abbrev pub kinds : List Kind
+kinds = map (λ n. n .1) names
+
+-- the kind that s names is the first whose name is s
+first-kind : (s : List ℕ) (ns : List (List ℕ × Kind)) → map (λ n. name (n .1)) ns ≡ map (λ n. n .0) ns → kind-in s ns ≡ first name s (map (λ n. n .1) ns)
+unfolding first
+first-kind s [] h = refl
+first-kind s (n ∷ ns) h = let z : name (n .1) ≡ n .0 = cc in rw z (by (same s (n .0)) (first-kind s ns cc))
+  where
+    by : (t : Bool) → kind-in s ns ≡ first name s (map (λ m. m .1) ns) → Option·map (λ m. m .1) (cond t (some n) (first (λ m. m .0) s ns)) ≡ cond t (some (n .1)) (first name s (map (λ m. m .1) ns))
+    by true e = refl
+    by false e = e
+
+pub kind-first : (s : List ℕ) → kind-of s ≡ first name s kinds
+kind-first s = first-kind s names refl
 
 -- ---- fields
 
@@ -127,7 +108,7 @@ values-read (s ∷ ss) (f ∷ fs) vs e = go (read-field s f) (read-values ss fs)
 
 -- ---- lines
 
-pub read-text : (l : Line) → Fits l → read (text l) ≡ some l
+pub read-text : (l : Syntax) → Fits l → read (text l) ≡ some l
 unfolding read text
 read-text l h =
     let b = name (l .kind) ++ commas (fields (sorts (l .kind)) (l .values)) in
@@ -143,20 +124,20 @@ ended (c ∷ cs) e =
     let t : take (suc (length cs)) (c ∷ cs) ≡ take (length cs) (c ∷ cs) ++ (10 ∷ []) = take-suc (c ∷ cs) (length cs) 0 (omega arith) ∙ rw g in
     rw n (sym t ∙ take-all (suc (length cs)) (c ∷ cs) (omega arith))
 
-kind-read : (f : List ℕ) (fs : List (List ℕ)) (l : Line) → read-kind (kind-of f) fs ≡ some l → Fits l × (name (l .kind) ++ commas (fields (sorts (l .kind)) (l .values)) ≡ f ++ commas fs)
+kind-read : (f : List ℕ) (fs : List (List ℕ)) (l : Syntax) → read-kind (kind-of f) fs ≡ some l → Fits l × (name (l .kind) ++ commas (fields (sorts (l .kind)) (l .values)) ≡ f ++ commas fs)
 kind-read f fs l e = go (kind-of f) refl e
   where
     done : (k : Kind) (o : Option (Values (sorts k))) → f ≡ name k → read-values (sorts k) fs ≡ o → with-values k o ≡ some l → Fits l × (name (l .kind) ++ commas (fields (sorts (l .kind)) (l .values)) ≡ f ++ commas fs)
     done k none n v e = absurd (Option·none-ne-some l e)
     done k (some vs) n v e =
         let r = values-read (sorts k) fs vs v in
-        subst (λ (m : Line). Fits m × (name (m .kind) ++ commas (fields (sorts (m .kind)) (m .values)) ≡ f ++ commas fs)) (Option·some-injective (record { kind = k; values = vs }) l e) (r .0, rw (r .1, n))
+        subst (λ (m : Syntax). Fits m × (name (m .kind) ++ commas (fields (sorts (m .kind)) (m .values)) ≡ f ++ commas fs)) (Option·some-injective (record { kind = k; values = vs }) l e) (r .0, rw (r .1, n))
 
     go : (o : Option Kind) → kind-of f ≡ o → read-kind o fs ≡ some l → Fits l × (name (l .kind) ++ commas (fields (sorts (l .kind)) (l .values)) ≡ f ++ commas fs)
     go none h e = absurd (Option·none-ne-some l e)
-    go (some k) h e = done k (read-values (sorts k) fs) (first-is name f kinds k h) refl e
+    go (some k) h e = done k (read-values (sorts k) fs) (first-is name f kinds k (sym (kind-first f) ∙ h)) refl e
 
-pub text-read : (s : List ℕ) (l : Line) → read s ≡ some l → Fits l × (text l ≡ s)
+pub text-read : (s : List ℕ) (l : Syntax) → read s ≡ some l → Fits l × (text l ≡ s)
 unfolding read text
 text-read s l e = go (eqb (getD s (length s - 1) 0) 10) refl e (first-field (take (length s - 1) s))
   where
@@ -169,13 +150,13 @@ text-read s l e = go (eqb (getD s (length s - 1) 0) 10) refl e (first-field (tak
 -- ---- what follows
 
 -- a text is that of one line
-pub text-injective : (l m : Line) → Fits l → Fits m → text l ≡ text m → l ≡ m
+pub text-injective : (l m : Syntax) → Fits l → Fits m → text l ≡ text m → l ≡ m
 text-injective l m h k e = Option·some-injective l m (sym (read-text l h) ∙ ap read e ∙ read-text m k)
 
 -- what reads to none is no line's text
-pub no-text : (s : List ℕ) → read s ≡ none → (l : Line) → Fits l → text l ≡ s → ⊥
+pub no-text : (s : List ℕ) → read s ≡ none → (l : Syntax) → Fits l → text l ≡ s → ⊥
 no-text s e l h t = Option·none-ne-some l (sym e ∙ ap read (sym t) ∙ read-text l h)
 
-pub form-text : (l : Line) → Fits l → form-of (text l) ≡ cut (l .kind) (l .values)
+pub form-text : (l : Syntax) → Fits l → form-of (text l) ≡ cut (l .kind) (l .values)
 unfolding form-of
 form-text l h = rw (read-text l h)

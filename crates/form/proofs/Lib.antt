@@ -1,6 +1,4 @@
+pub mod Text
 mod Names
-pub mod Numbered
-mod Chosen
-mod Looked
 pub mod Inverse
 pub mod Shapes

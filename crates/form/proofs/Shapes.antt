@@ -1,4 +1,4 @@
--- Forms, field by field. Assumes nothing.
+-- Forms, field by field.
 use mathlib.Core.Path.{_≡_, refl, sym, _∙_}
 use mathlib.Core.Bool.{Bool, true, false, cond}
 use mathlib.Core.Option.{Option, some, none, Option·map}
@@ -19,15 +19,16 @@ use Rattle.text.specs.declared.Integer.the-variants as Integer
 use Rattle.text.specs.declared.Word.the-variants as Word
 use Rattle.text.proofs.Answers.{field-is, no-field, next-is}
 use Rattle.text.proofs.Joined.{free, split-join, join-split}
-use Rattle.order.specs.declared.Place.{Place}
-use Rattle.order.specs.declared.Frame.{Frame}
-use Rattle.order.specs.declared.Unary.{Unary}
-use Rattle.order.specs.declared.Scratched.{Scratched}
-use Rattle.order.specs.declared.Binary.{Binary}
-use Rattle.order.specs.declared.Fused.{Fused}
-use Rattle.form.specs.Line.{Sort, number, integer as integer-sort, word as word-sort, place, flag, Value, Values, place-name, flag-name, sorts}
+use Rattle.ast.specs.declared.Place.{Place}
+use Rattle.ast.specs.declared.Frame.{Frame}
+use Rattle.ast.specs.declared.Unary.{Unary}
+use Rattle.ast.specs.declared.Scratched.{Scratched}
+use Rattle.ast.specs.declared.Binary.{Binary}
+use Rattle.ast.specs.declared.Fused.{Fused}
+use Rattle.form.specs.Syntax.{Sort, number, integer as integer-sort, word as word-sort, place, flag, Value, Values, place-name, flag-name, sorts}
 use Rattle.form.specs.Read.{first, all-places, all-flags, kind-of, both, read-field, read-values, with-values, read-kind, read-fields, read}
-use Rattle.form.specs.Form.{formed, form-of, named, shaped, shaped′, behind, numbers, read-numbers, zeros, of-numbers, first-of, only, placed, flagged}
+use Rattle.form.specs.Form.{formed, form-of, only, placed, flagged}
+use Rattle.form.specs.Inner.Parts.{named, shaped, shaped′, behind, numbers, read-numbers, zeros, of-numbers, first-of}
 use Rattle.form.specs.declared.Kind.{Kind}
 use Rattle.form.specs.declared.Kind.the-variants as Kind
 use Rattle.form.specs.declared.Form.{Form}

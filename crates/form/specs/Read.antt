@@ -1,22 +1,16 @@
--- Reading a line: the inverse of `text` (`proofs/Inverse`).
+-- Document 01, "The deck file": what a line's bytes say. It is the inverse of writing a line down (`proofs/Text`, `proofs/Inverse`).
 use mathlib.Core.Bool.{Bool, true, false, cond}
-use mathlib.Core.Option.{Option, some, none}
-use mathlib.Core.List.{List, [], _∷_, _++_}
+use mathlib.Core.Option.{Option, some, none, Option·map}
+use mathlib.Core.List.{List, [], _∷_}
 use Prim.Native.Nat.{ℕ, _-_}
 use lib.Dec.{eqb}
 use lib.ListN.{length, getD, take}
-use Rattle.order.specs.declared.Place.{Place}
-use Rattle.order.specs.declared.Place.the-variants as Place
-use Rattle.order.specs.declared.Frame.the-variants as Frame
-use Rattle.order.specs.declared.Unary.the-variants as Unary
-use Rattle.order.specs.declared.Scratched.the-variants as Scratched
-use Rattle.order.specs.declared.Binary.the-variants as Binary
-use Rattle.order.specs.declared.Fused.the-variants as Fused
+use Rattle.ast.specs.declared.Place.{Place}
+use Rattle.ast.specs.declared.Place.the-variants as Place
 use Rattle.text.specs.Digits.{read-decimal, read-integer, read-word}
 use Rattle.text.specs.Fields.{split, same}
-use Rattle.form.specs.Line.{Sort, number, integer, word, place, flag, Value, Values, place-name, flag-name, name, sorts, Line}
+use Rattle.form.specs.Syntax.{Sort, number, integer, word, place, flag, Value, Values, place-name, flag-name, names, sorts, Syntax}
 use Rattle.form.specs.declared.Kind.{Kind}
-use Rattle.form.specs.declared.Kind.the-variants as Kind
 
 -- the first member whose name is s
 module _ {A : Type 0} where
@@ -29,36 +23,18 @@ module _ {A : Type 0} where
   both (some a) none = none
   both (some a) (some b) = some (a, b)
 
+-- the kind that s names in a list of names
+abbrev pub kind-in : List ℕ → List (List ℕ × Kind) → Option Kind
+kind-in s ns = Option·map (λ n. n .1) (first (λ n. n .0) s ns)
+
+abbrev pub kind-of : List ℕ → Option Kind
+kind-of s = kind-in s names
+
 abbrev pub all-places : List Place
 all-places = Place.Mem ∷ Place.Stack ∷ Place.Param ∷ []
 
 abbrev pub all-flags : List Bool
 all-flags = false ∷ true ∷ []
-
--- all kinds, by the length of their names
-abbrev pub names-two : List Kind
-names-two = (Kind.Binary Binary.Gt) ∷ (Kind.Binary Binary.Or) ∷ []
-
-abbrev pub names-three : List Kind
-names-three = (Kind.Unary Unary.Not) ∷ (Kind.Binary Binary.Neq) ∷ (Kind.Binary Binary.And) ∷ (Kind.Binary Binary.Xor) ∷ Kind.Load ∷ Kind.Save ∷ []
-
-abbrev pub names-four : List Kind
-names-four = (Kind.Head Frame.Fast) ∷ (Kind.Unary Unary.Fmov) ∷ (Kind.Scratched Scratched.Sign) ∷ (Kind.Scratched Scratched.Frac) ∷ Kind.Bits ∷ []
-
-abbrev pub names-five : List Kind
-names-five = (Kind.Unary Unary.Recip) ∷ (Kind.Unary Unary.Round) ∷ (Kind.Unary Unary.Floor) ∷ (Kind.Binary Binary.Minus) ∷ (Kind.Binary Binary.Times) ∷ Kind.SetLabel ∷ Kind.Float ∷ []
-
-abbrev pub names-six : List Kind
-names-six = (Kind.Binary Binary.Divide) ∷ (Kind.Binary Binary.Andnot) ∷ Kind.Ifelse ∷ Kind.BranchIf ∷ []
-
-abbrev pub names-longer : List Kind
-names-longer = (Kind.Head Frame.Indirect) ∷ (Kind.Fused Fused.MulAdd) ∷ (Kind.Fused Fused.MulSub) ∷ (Kind.Fused Fused.NegMulAdd) ∷ (Kind.Fused Fused.NegMulSub) ∷ Kind.LoadConst ∷ []
-
-abbrev pub kinds : List Kind
-kinds = names-two ++ (names-three ++ (names-four ++ (names-five ++ (names-six ++ names-longer))))
-
-abbrev pub kind-of : List ℕ → Option Kind
-kind-of s = first name s kinds
 
 abbrev pub read-field : (s : Sort) → List ℕ → Option (Value s)
 read-field number f = read-decimal f
@@ -73,18 +49,18 @@ read-values [] (f ∷ fs) = none
 read-values (s ∷ ss) [] = none
 read-values (s ∷ ss) (f ∷ fs) = both (read-field s f) (read-values ss fs)
 
-abbrev pub with-values : (k : Kind) → Option (Values (sorts k)) → Option Line
+abbrev pub with-values : (k : Kind) → Option (Values (sorts k)) → Option Syntax
 with-values k none = none
 with-values k (some vs) = some (record { kind = k; values = vs })
 
-abbrev pub read-kind : Option Kind → List (List ℕ) → Option Line
+abbrev pub read-kind : Option Kind → List (List ℕ) → Option Syntax
 read-kind none fs = none
 read-kind (some k) fs = with-values k (read-values (sorts k) fs)
 
-abbrev pub read-fields : List (List ℕ) → Option Line
+abbrev pub read-fields : List (List ℕ) → Option Syntax
 read-fields [] = none
 read-fields (f ∷ fs) = read-kind (kind-of f) fs
 
--- the line whose text s is
-unfoldable pub read : List ℕ → Option Line
+-- fields behind commas, and byte 10
+unfoldable pub read : List ℕ → Option Syntax
 read s = cond (eqb (getD s (length s - 1) 0) 10) (read-fields (split (take (length s - 1) s))) none

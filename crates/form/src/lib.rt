@@ -1,19 +1,21 @@
 // Document 01, "The deck file": a line's kind and fields. Ranges are judged above (`deck`).
 ghost use mathlib.Core.Path.{_≡_};
-ghost use mathlib.Core.Bool.{true, cond};
-ghost use Prim.Native.Nat.{_%_, _<_};
-ghost use lib.ListN.{take};
-ghost use Rattle.text.specs.Fields.{split, same, fields-from, next-from};
-ghost use Rattle.form.specs.Line.{name, place-name, flag-name, place, flag};
-ghost use Rattle.form.specs.Kinds.{numbered, or-number, later-at, kind-at, entry};
-ghost use Rattle.form.specs.Read.{first, names-two, names-three, names-four, names-five, names-six, names-longer, kind-of, all-places, all-flags, read-fields};
-ghost use Rattle.form.specs.Form.{form-of, formed, shaped, named, zeros, read-numbers, of-numbers, first-of, only, placed, flagged};
-use order::Binary;
-use order::Frame;
-use order::Fused;
-use order::Place;
-use order::Scratched;
-use order::Unary;
+ghost use mathlib.Core.Bool.{cond};
+ghost use mathlib.Core.Option.{some, none};
+ghost use lib.ListN.{drop};
+ghost use Rattle.text.specs.Fields.{same, split, fields-from, next-from};
+ghost use Rattle.form.specs.Syntax.{names, place-name, flag-name, place, flag};
+ghost use Rattle.form.specs.Read.{first, kind-in, kind-of, all-places, all-flags, read-fields};
+ghost use Rattle.form.specs.Form.{form-of, formed, placed, flagged};
+ghost use Rattle.form.specs.Inner.Parts.{shaped, named, or-kind};
+ghost use Rattle.form.specs.Form.{only};
+ghost use Rattle.form.specs.Inner.Parts.{zeros, read-numbers, of-numbers, first-of};
+use ast::Binary;
+use ast::Frame;
+use ast::Fused;
+use ast::Place;
+use ast::Scratched;
+use ast::Unary;
 use text::Integer;
 use text::Number;
 use text::Numeral;
@@ -82,199 +84,81 @@ pub enum Flag {
     Malformed,
 }
 
-// ---- names: each kind has a number
+// ---- names, tried one after the other
 
-const NO_KIND: u64 = 35;
-
-// A number found before, or this one if s is the name w.
-fn or_number(found: u64, s: &[u8], w: &[u8], k: u64) -> u64
-    ensures { λ r. ⌜ r ≡ or-number found (same (now (s .entry)) (now (w .entry))) k ⌝ }
+// A kind found before, or k if s is the name w.
+fn or_kind(found: Named, s: &[u8], w: &[u8], k: Kind) -> Named
+    ensures { λ r. ⌜ r ≡ or-kind found (cond (same (now (s .entry)) (now (w .entry))) (some k) none) ⌝ }
 {
-    if found != NO_KIND {
-        return found;
-    }
-    if text::same(s, w) { k } else { NO_KIND }
-}
-
-fn two(s: &[u8]) -> u64
-    ensures { λ r. ⌜ r ≡ numbered (first name (now (s .entry)) names-two) ⌝ }
-{
-    let a = or_number(NO_KIND, s, b"gt", 10);
-    or_number(a, s, b"or", 14)
-}
-
-fn three(s: &[u8]) -> u64
-    ensures { λ r. ⌜ r ≡ numbered (first name (now (s .entry)) names-three) ⌝ }
-{
-    let a = or_number(NO_KIND, s, b"not", 4);
-    let b = or_number(a, s, b"neq", 11);
-    let c = or_number(b, s, b"and", 12);
-    let d = or_number(c, s, b"xor", 15);
-    let e = or_number(d, s, b"get", 22);
-    or_number(e, s, b"put", 25)
-}
-
-fn four(s: &[u8]) -> u64
-    ensures { λ r. ⌜ r ≡ numbered (first name (now (s .entry)) names-four) ⌝ }
-{
-    let a = or_number(NO_KIND, s, b"fast", 33);
-    let b = or_number(a, s, b"fmov", 0);
-    let c = or_number(b, s, b"sign", 5);
-    let d = or_number(c, s, b"frac", 6);
-    or_number(d, s, b"bits", 32)
-}
-
-fn five(s: &[u8]) -> u64
-    ensures { λ r. ⌜ r ≡ numbered (first name (now (s .entry)) names-five) ⌝ }
-{
-    let a = or_number(NO_KIND, s, b"recip", 1);
-    let b = or_number(a, s, b"round", 2);
-    let c = or_number(b, s, b"floor", 3);
-    let d = or_number(c, s, b"minus", 7);
-    let e = or_number(d, s, b"times", 8);
-    let f = or_number(e, s, b"label", 30);
-    or_number(f, s, b"float", 31)
-}
-
-fn six(s: &[u8]) -> u64
-    ensures { λ r. ⌜ r ≡ numbered (first name (now (s .entry)) names-six) ⌝ }
-{
-    let a = or_number(NO_KIND, s, b"divide", 9);
-    let b = or_number(a, s, b"andnot", 13);
-    let c = or_number(b, s, b"ifelse", 20);
-    or_number(c, s, b"branch", 28)
-}
-
-fn longer(s: &[u8]) -> u64
-    ensures { λ r. ⌜ r ≡ numbered (first name (now (s .entry)) names-longer) ⌝ }
-{
-    let a = or_number(NO_KIND, s, b"indirect", 34);
-    let b = or_number(a, s, b"fused_mul_add", 16);
-    let c = or_number(b, s, b"fused_mul_sub", 17);
-    let d = or_number(c, s, b"fused_neg_mul_add", 18);
-    let e = or_number(d, s, b"fused_neg_mul_sub", 19);
-    or_number(e, s, b"load_const", 21)
-}
-
-// The number of the kind that s names. Names are told apart by length first.
-fn kind_number(s: &[u8]) -> u64
-    ensures { λ r. ⌜ r ≡ numbered (kind-of (now (s .entry))) ⌝ }
-{
-    let n = s.len();
-    if n == 2 {
-        return two(s);
-    }
-    if n == 3 {
-        return three(s);
-    }
-    if n == 4 {
-        return four(s);
-    }
-    if n == 5 {
-        return five(s);
-    }
-    if n == 6 {
-        return six(s);
-    }
-    longer(s)
-}
-
-// An order's name of up to six bytes with its comma, and its kind in the last byte; 0 where none is. The place is `name_place`'s.
-fn name_at(place: u64) -> u64
-    ensures { λ r. ⌜ (0 < r % 72057594037927936 → entry r ≡ true) ⌝ }
-{
-    match place {
-        0 => text::word_of(b"divide,\x09"),
-        3 => text::word_of(b"sign,\0\0\x05"),
-        4 => text::word_of(b"minus,\0\x07"),
-        5 => text::word_of(b"round,\0\x02"),
-        6 => text::word_of(b"and,\0\0\0\x0c"),
-        7 => text::word_of(b"xor,\0\0\0\x0f"),
-        8 => text::word_of(b"times,\0\x08"),
-        11 => text::word_of(b"label,\0\x1e"),
-        12 => text::word_of(b"recip,\0\x01"),
-        13 => text::word_of(b"floor,\0\x03"),
-        14 => text::word_of(b"fmov,\0\0\x00"),
-        15 => text::word_of(b"neq,\0\0\0\x0b"),
-        16 => text::word_of(b"ifelse,\x14"),
-        17 => text::word_of(b"frac,\0\0\x06"),
-        20 => text::word_of(b"get,\0\0\0\x16"),
-        21 => text::word_of(b"not,\0\0\0\x04"),
-        22 => text::word_of(b"put,\0\0\0\x19"),
-        26 => text::word_of(b"branch,\x1c"),
-        27 => text::word_of(b"or,\0\0\0\0\x0e"),
-        28 => text::word_of(b"gt,\0\0\0\0\x0a"),
-        31 => text::word_of(b"andnot,\x0d"),
-        _ => 0,
-    }
-}
-
-// Where such a name is looked for, by its first four bytes. Any place will do: what isn't found there is compared with every name.
-fn name_place(w: u64) -> u64
-    ensures { λ r. ⌜ r < 32 ⌝ }
-{
-    w % 0x100000000 * 0x16f251 / 0x100000000 % 32
-}
-
-// The number of the kind that the first e bytes of s name. A short name is compared at once with the one it can be.
-pub fn name_number(s: &[u8], e: usize) -> u64
-    ensures { λ r. ⌜ r ≡ numbered (kind-of (take e (now (s .entry)))) ⌝ }
-{
-    if s.len() < e {
-        return kind_number(s);
-    }
-    let w = text::word_to(s, e);
-    let y = name_at(name_place(w));
-    if w != 0 {
-        if y % 0x100000000000000 == w {
-            return y / 0x100000000000000;
+    match found {
+        Named::Is(_) => found,
+        Named::Unknown => {
+            if text::same(s, w) {
+                return Named::Is(k);
+            }
+            Named::Unknown
         }
     }
-    kind_number(&s[..e])
 }
 
-// The kinds from 20 on.
-fn later_at(k: u64) -> Named
-    ensures { λ r. ⌜ r ≡ named (later-at k) ⌝ }
+// The operations of two operands.
+fn binary_named(found: Named, s: &[u8]) -> Named
+    ensures { λ r. ⌜ r ≡ or-kind found (kind-in (now (s .entry)) (drop 21 names)) ⌝ }
 {
-    match k {
-        20 => Named::Is(Kind::Ifelse),
-        21 => Named::Is(Kind::LoadConst),
-        22 => Named::Is(Kind::Load),
-        25 => Named::Is(Kind::Save),
-        28 => Named::Is(Kind::BranchIf),
-        30 => Named::Is(Kind::SetLabel),
-        31 => Named::Is(Kind::Float),
-        32 => Named::Is(Kind::Bits),
-        33 => Named::Is(Kind::Head(Frame::Fast)),
-        34 => Named::Is(Kind::Head(Frame::Indirect)),
-        _ => Named::Unknown,
-    }
+    let n = or_kind(found, s, b"minus", Kind::Binary(Binary::Minus));
+    let n = or_kind(n, s, b"times", Kind::Binary(Binary::Times));
+    let n = or_kind(n, s, b"divide", Kind::Binary(Binary::Divide));
+    let n = or_kind(n, s, b"gt", Kind::Binary(Binary::Gt));
+    let n = or_kind(n, s, b"neq", Kind::Binary(Binary::Neq));
+    let n = or_kind(n, s, b"and", Kind::Binary(Binary::And));
+    let n = or_kind(n, s, b"andnot", Kind::Binary(Binary::Andnot));
+    let n = or_kind(n, s, b"or", Kind::Binary(Binary::Or));
+    or_kind(n, s, b"xor", Kind::Binary(Binary::Xor))
 }
 
-// The kind of a number.
-fn kind_at(k: u64) -> Named
-    ensures { λ r. ⌜ r ≡ named (kind-at k) ⌝ }
+// The operations: first those of one operand, with and without a scratch register, and those of three.
+fn operation_named(found: Named, s: &[u8]) -> Named
+    ensures { λ r. ⌜ r ≡ or-kind found (kind-in (now (s .entry)) (drop 10 names)) ⌝ }
 {
-    if k < 5 {
-        return Named::Is(Kind::Unary(packed::unary_at(k)));
-    }
-    if k < 7 {
-        return Named::Is(Kind::Scratched(packed::scratched_at(k)));
-    }
-    if k < 16 {
-        return Named::Is(Kind::Binary(packed::binary_at(k)));
-    }
-    if k < 20 {
-        return Named::Is(Kind::Fused(packed::fused_at(k)));
-    }
-    later_at(k)
+    let n = or_kind(found, s, b"fmov", Kind::Unary(Unary::Fmov));
+    let n = or_kind(n, s, b"recip", Kind::Unary(Unary::Recip));
+    let n = or_kind(n, s, b"round", Kind::Unary(Unary::Round));
+    let n = or_kind(n, s, b"floor", Kind::Unary(Unary::Floor));
+    let n = or_kind(n, s, b"not", Kind::Unary(Unary::Not));
+    let n = or_kind(n, s, b"sign", Kind::Scratched(Scratched::Sign));
+    let n = or_kind(n, s, b"frac", Kind::Scratched(Scratched::Frac));
+    let n = or_kind(n, s, b"fused_mul_add", Kind::Fused(Fused::MulAdd));
+    let n = or_kind(n, s, b"fused_mul_sub", Kind::Fused(Fused::MulSub));
+    let n = or_kind(n, s, b"fused_neg_mul_add", Kind::Fused(Fused::NegMulAdd));
+    let n = or_kind(n, s, b"fused_neg_mul_sub", Kind::Fused(Fused::NegMulSub));
+    binary_named(n, s)
 }
 
+// The orders: first those of a form of their own.
+fn order_named(s: &[u8]) -> Named
+    ensures { λ r. ⌜ r ≡ named (kind-in (now (s .entry)) (drop 4 names)) ⌝ }
+{
+    let n = or_kind(Named::Unknown, s, b"load_const", Kind::LoadConst);
+    let n = or_kind(n, s, b"get", Kind::Load);
+    let n = or_kind(n, s, b"put", Kind::Save);
+    let n = or_kind(n, s, b"branch", Kind::BranchIf);
+    let n = or_kind(n, s, b"label", Kind::SetLabel);
+    let n = or_kind(n, s, b"ifelse", Kind::Ifelse);
+    operation_named(n, s)
+}
+
+// What a line's first word says: a constant, line 1, or an order.
 fn kind_named(s: &[u8]) -> Named
     ensures { λ r. ⌜ r ≡ named (kind-of (now (s .entry))) ⌝ }
 {
-    kind_at(kind_number(s))
+    let n = or_kind(Named::Unknown, s, b"float", Kind::Float);
+    let n = or_kind(n, s, b"bits", Kind::Bits);
+    let n = or_kind(n, s, b"fast", Kind::Head(Frame::Fast));
+    let n = or_kind(n, s, b"indirect", Kind::Head(Frame::Indirect));
+    match n {
+        Named::Is(_) => n,
+        Named::Unknown => order_named(s),
+    }
 }
 
 // ---- forms: the fields behind the name start at a

@@ -11,8 +11,8 @@ use lib.Pow.{shr-lt}
 use lib.Arith.{lt-one}
 use lib.Count.{trailingZeros, under}
 use lib.Dec.{eqb}
-use Rattle.order.specs.Mask.{preserved, in-mask, chosen, saved, is-preserved}
-use Rattle.framing.proofs.Rows.{from}
+use Rattle.ast.specs.Mask.{preserved, in-mask, chosen, saved, is-preserved}
+use Rattle.frame_code.proofs.Rows.{from}
 
 -- i where the digit is set
 abbrev pub one : ℕ → ℕ → List ℕ → List ℕ

@@ -10,8 +10,8 @@ use lib.Count.{ones, ones-step}
 use lib.Pow.{mod-pow-add}
 use lib.Dec.{eqb}
 use lib.ListN.{length, length-append}
-use Rattle.order.specs.Mask.{in-mask, chosen, saved}
-use Rattle.framing.proofs.Rows.{from}
+use Rattle.ast.specs.Mask.{in-mask, chosen, saved}
+use Rattle.frame_code.proofs.Rows.{from}
 
 chosen-append : (p : ℕ → Bool) (rs ts : List ℕ) → chosen p (rs ++ ts) ≡ chosen p rs ++ chosen p ts
 chosen-append p [] ts = refl

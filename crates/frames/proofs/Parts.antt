@@ -9,22 +9,23 @@ use lib.ListN.{length}
 use Rattle.isa.specs.Instr.{Instr}
 use Rattle.isa.specs.Encode.{encode}
 use Rattle.refusal.specs.Answer.{accepted}
+use Rattle.assembler.specs.Limit.{label-limit}
 use Rattle.assembler.specs.Item.{Item, instr, raw, jump, label}
 use Rattle.assembler.specs.State.{State, Outcome}
 use Rattle.assembler.specs.Put.{words, jumps, labels, twice, place, placed, with-word, with-label, verdict, put-number, settled, put}
 use Rattle.assembler.specs.Plan.{label-fault, plan-fault, plan-items}
 use Rattle.assembler.specs.declared.Plan.{Plan}
 use Rattle.assembler.specs.declared.Tail.the-variants.{One}
-use Rattle.assembler.specs.declared.Kind.{Kind}
+use Rattle.assembler.specs.declared.JumpKind.{JumpKind}
 use Rattle.assembler.proofs.Tests.{no}
 use Rattle.assembler.proofs.Plans.{put-fault}
 use Rattle.accesses.specs.Fault.{stack-fault}
 use Rattle.accesses.specs.Plans.{plan-of}
 use Rattle.accesses.proofs.Collect.{AllValid}
 use Rattle.accesses.proofs.Placed.{plan-tail}
-use Rattle.laid.proofs.All.{accepts}
-use Rattle.laid.proofs.Both.{Accepts, put-split}
-use Rattle.framing.specs.Items.{code, times-over}
+use Rattle.finish.proofs.All.{accepts}
+use Rattle.finish.proofs.Both.{Accepts, put-split}
+use Rattle.frame_code.specs.Items.{code, times-over}
 use Rattle.frames.specs.Whole.{is-accepted}
 
 -- ---- code alone
@@ -60,16 +61,16 @@ module _ (t u : ℕ) where
 
 -- ---- labels
 
-label-holds : (l : ℕ) → l < 2039 → label-fault l ≡ 0
-label-holds l h = rw (lt-ltb l 2039 h)
+label-holds : (l : ℕ) → l < label-limit → label-fault l ≡ 0
+label-holds l h = rw (lt-ltb l label-limit h)
 
-module _ (tag l m : ℕ) (e : l ≡ m) (h : l < 2039) (s : State) where
+module _ (tag l m : ℕ) (e : l ≡ m) (h : l < label-limit) (s : State) where
   pub label-set : put 0 (label-fault l) (label l ∷ []) s ≡ put tag 0 (label m ∷ []) s
   unfolding jumps
   label-set = rw (label-holds l h, e) (untagged 0 tag 0 (label m ∷ []) s refl)
 
   -- a plan and a jump to the label
-  pub plan-jump : (k : Kind) (p : Plan) (is : List Instr) → p ≡ plan-of is → length is ≤ 12 → AllValid is → put tag (plan-fault p (One k l 0)) (plan-items p (One k l 0)) s ≡ put tag 0 (code is ++ (jump k m 0 ∷ [])) s
+  pub plan-jump : (k : JumpKind) (p : Plan) (is : List Instr) → p ≡ plan-of is → length is ≤ 12 → AllValid is → put tag (plan-fault p (One k l 0)) (plan-items p (One k l 0)) s ≡ put tag 0 (code is ++ (jump k m 0 ∷ [])) s
   plan-jump k p is q few v = plan-tail p is q few v tag s (One k l 0) (label-holds l h) ∙ rw e
 
 -- ---- faults and sizes
@@ -80,14 +81,22 @@ module _ (tag f want : ℕ) (is : List Item) (s : State) (o : Outcome) (e : f �
   unfolding put words jumps labels twice placed
   faulted h q = q ∙ put-fault 0 tag f [] is s h ∙ ap (λ (k : ℕ). put tag k is s) e
 
-  pub faultless : f ≡ 0 → o ≡ put tag 0 is s → o ≡ put tag want is s
-  faultless z q = q ∙ ap (λ (k : ℕ). put tag k is s) (sym z ∙ e)
-
 -- a stack size that is taken
 pub size-put : (tag : ℕ) (is : ℕ → List Instr) (n m : ℕ) (s : State) → n ≡ m → n ≤ 32784 → put 0 (stack-fault n) (code (is n)) s ≡ put tag 0 (code (is m)) s
 size-put tag is n m s e h = rw (le-leb n 0x7FFFF7FF (omega arith), e) (untagged 0 tag 0 (code (is m)) s (jumps-code (is m)))
 
 -- ---- asked, then placed
+
+-- what a function's equation is about
+abbrev pub left-of : {A : Type 0} {x y : A} → x ≡ y → A
+left-of {A} {x} e = x
+
+-- the whole checked before it is placed
+abbrev pub checked : List Item → State → Outcome
+checked is s = settled (put-number 0 is s) s s
+
+pub checks : (is : List Item) (s : State) (o : Outcome) (k : ℕ) → o ≡ settled k s s → k ≡ put-number 0 is s → o ≡ checked is s
+checks is s o k e q = e ∙ ap (λ (n : ℕ). settled n s s) q
 
 settled-as-it-was : (k : ℕ) (s t : State) (o : Outcome) → o ≡ settled k s s → is-accepted (o .answer) ≡ false → o ≡ settled k s t
 unfolding settled
@@ -101,21 +110,20 @@ settled-zero (suc k) s o e q = no (sym (ap (λ (x : Outcome). is-accepted (x .an
 
 module _ (tag : ℕ) (is : List Item) (s : State) (o : Outcome) where
   -- refused as the whole is
-  pub refuses : (f k : ℕ) → k ≡ put-number f is s → o ≡ settled k s s → is-accepted (o .answer) ≡ false → o ≡ put tag f is s
+  pub refuses : o ≡ checked is s → is-accepted (o .answer) ≡ false → o ≡ put tag 0 is s
   unfolding put
-  refuses f k e g q = settled-as-it-was k s (placed tag is s) o g q ∙ ap (λ (n : ℕ). settled n s (placed tag is s)) e
+  refuses g q = settled-as-it-was (put-number 0 is s) s (placed tag is s) o g q
 
   -- or else accepted, and nothing has changed
   pub record Open : Type 0 where
     pub goal : Accepts tag is s (placed tag is s)
     pub left : Accepts tag is (o .state) (placed tag is s)
 
-  pub opens : (k : ℕ) → k ≡ put-number 0 is s → o ≡ settled k s s → is-accepted (o .answer) ≡ true → Open
+  pub opens : o ≡ checked is s → is-accepted (o .answer) ≡ true → Open
   unfolding put settled
-  opens k e g q =
-      let z = settled-zero k s o g q in
-      let n : put-number 0 is s ≡ 0 = sym e ∙ z .0 in
-      let a : Accepts tag is s (placed tag is s) = ap (λ (m : ℕ). settled m s (placed tag is s)) n in
+  opens g q =
+      let z = settled-zero (put-number 0 is s) s o g q in
+      let a : Accepts tag is s (placed tag is s) = ap (λ (m : ℕ). settled m s (placed tag is s)) (z .0) in
       record { goal = a; left = subst (λ (x : State). Accepts tag is x (placed tag is s)) (sym (z .1)) a }
 
 module _ (tag : ℕ) where

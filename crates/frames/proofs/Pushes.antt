@@ -12,9 +12,9 @@ use Rattle.assembler.specs.Plan.{pushed, plan-fault, plan-items}
 use Rattle.assembler.specs.declared.Tail.the-variants.{Nothing}
 use Rattle.assembler.specs.declared.Plan.{Plan}
 use Rattle.accesses.specs.Plans.{answer-of, pushes-from, plan-of}
-use Rattle.order.specs.Mask.{preserved, in-mask, chosen, saved, is-preserved}
-use Rattle.framing.specs.Items.{save, saves}
-use Rattle.framing.proofs.Listed.{save-list-valid}
+use Rattle.ast.specs.Mask.{preserved, in-mask, chosen, saved, is-preserved}
+use Rattle.frame_code.specs.Items.{save, saves}
+use Rattle.frame_code.proofs.Listed.{save-list-valid}
 use Rattle.accesses.proofs.Placed.{plan-code}
 
 -- q with an instruction for each preserved register of the list

@@ -13,15 +13,15 @@ use Rattle.isa.specs.Instr.{Instr, R, ADD}
 use Rattle.assembler.specs.Item.{Item, jump, label}
 use Rattle.assembler.specs.State.{State}
 use Rattle.assembler.specs.Put.{words, jumps, labels, twice, verdict, put-number}
-use Rattle.assembler.specs.declared.Kind.the-variants.{Bne}
+use Rattle.assembler.specs.declared.JumpKind.the-variants.{Bne}
 use Rattle.assembler.proofs.Items.{words-append, jumps-append, labels-append}
 use Rattle.accesses.specs.Code.{li-code, sub-stack-code, allocate-stack-code}
 use Rattle.accesses.proofs.Collect.{li-near, li-far}
-use Rattle.order.specs.Mask.{saved}
-use Rattle.framing.specs.Items.{code, count-down, times-over, repeated, reload, reloads}
-use Rattle.framing.specs.Copies.{copy-first, copy-each, copy-label, copies}
+use Rattle.ast.specs.Mask.{saved}
+use Rattle.frame_code.specs.Items.{code, count-down, times-over, repeated, reload, reloads, at-success, at-epilogue}
+use Rattle.frame_code.specs.Copies.{copy-first, copy-each, copy-label, copies}
 use Rattle.frames.specs.Whole.{looped}
-use Rattle.framing.proofs.Count.{over-length}
+use Rattle.frame_code.proofs.Count.{over-length}
 use Rattle.frames.proofs.Parts.{words-code, jumps-code, labels-code}
 
 -- ---- li and stack sizes
@@ -139,9 +139,9 @@ module _ (out : Bool) (m n : ℕ) where
 
   -- ---- the numbers of copies
 
-  pub looped-number : (l w : ℕ) (s : State) → l ≡ copy-label out → w ≡ length (copy-first out m) + length (li-code 7 (pos n)) + 8
-      → verdict 0 (twice (s .labels) (l ∷ [])) w 1 (length (s .buf)) (s .asm) ≡ put-number 0 (looped out m n) s
-  looped-number l w s e g = rw (looped-words, looped-jumps, looped-labels, e, g)
+  pub looped-number : (l x y : ℕ) (s : State) → l ≡ copy-label out → x ≡ length (copy-first out m) → y ≡ length (li-code 7 (pos n))
+      → verdict 0 (twice (s .labels) (l ∷ [])) (x + y + 8) 1 (length (s .buf)) (s .asm) ≡ put-number 0 (looped out m n) s
+  looped-number l x y s e f g = rw (looped-words, looped-jumps, looped-labels, e, f, g)
 
 -- code alone
 pub code-number : (is : List Instr) (w : ℕ) (s : State) → w ≡ length is → verdict 0 (twice (s .labels) []) w 0 (length (s .buf)) (s .asm) ≡ put-number 0 (code is) s
@@ -156,7 +156,7 @@ module _ (out : Bool) (m n : ℕ) where
 
 -- labels, a word, and the reloads
 pub reload-number : (mask n : ℕ) (s : State) → n ≡ length (saved mask)
-    → verdict 0 (twice (s .labels) (2037 ∷ 2038 ∷ [])) (1 + n) 0 (length (s .buf)) (s .asm) ≡ put-number 0 (reloads mask) s
+    → verdict 0 (twice (s .labels) (at-success ∷ at-epilogue ∷ [])) (1 + n) 0 (length (s .buf)) (s .asm) ≡ put-number 0 (reloads mask) s
 unfolding reloads words jumps labels
 reload-number mask n s g =
     let is = map reload (saved mask) in

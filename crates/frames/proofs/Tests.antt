@@ -1,25 +1,13 @@
--- Tests of a register and its cell, by cases as the code makes them. Assumes nothing.
+-- A preserved register is at most 27.
 use mathlib.Core.Path.{_≡_, refl}
 use mathlib.Core.Bool.{Bool, true, false, _&&_, _||_}
-use Prim.Native.Nat.{ℕ, _-_, _≤_, _<_}
+use Prim.Native.Nat.{ℕ, _≤_}
 use native.Mathlib.Omega.{arith}
-use borrow.Author.Tests.{lt-ltb, le-ltb, le-leb, lt-leb, leb-true}
+use borrow.Author.Tests.{leb-true}
 use lib.Dec.{leb}
-use Rattle.order.specs.Mask.{is-preserved, save-cell}
+use Rattle.ast.specs.Mask.{is-preserved}
 
 module _ (r : ℕ) where
-  pub below : r < 8 → false ≡ is-preserved r
-  below h = rw (lt-leb 8 r h, lt-leb 18 r (omega arith))
-
-  pub low : 8 ≤ r → r ≤ 9 → true ≡ is-preserved r
-  low h l = rw (le-leb 8 r h, le-leb r 9 l)
-
-  pub between : 9 < r → r < 18 → false ≡ is-preserved r
-  between h l = rw (lt-leb r 9 h, lt-leb 18 r l, le-leb 8 r (omega arith))
-
-  pub high : 18 ≤ r → leb r 27 ≡ is-preserved r
-  high h = rw (le-leb 18 r h, lt-leb r 9 (omega arith), le-leb 8 r (omega arith))
-
   pub at-most : is-preserved r ≡ true → r ≤ 27
   at-most e = by (leb r 9) (leb r 27) refl refl e
     where
@@ -33,9 +21,3 @@ module _ (r : ℕ) where
           no true false e = let z : _≡_ {A = ℕ} 0 1 = cc in omega arith
           no false true e = let z : _≡_ {A = ℕ} 0 1 = cc in omega arith
           no false false e = let z : _≡_ {A = ℕ} 0 1 = cc in omega arith
-
-  pub cell-low : r < 18 → r - 4 ≡ save-cell r
-  cell-low h = rw (lt-ltb r 18 h)
-
-  pub cell-high : 18 ≤ r → r - 12 ≡ save-cell r
-  cell-high h = rw (le-ltb r 18 h)

@@ -8,21 +8,20 @@ use lib.Dec.{ltb}
 use lib.IntN.{pos}
 use lib.ListN.{length, length-append}
 use Rattle.isa.specs.Instr.{Instr, I, Shift, FLD, SLLI}
-use Rattle.order.specs.declared.Frame.{Frame}
-use Rattle.order.specs.declared.Frame.the-variants.{Fast, Indirect}
-use Rattle.order.specs.declared.Head.{Head}
+use Rattle.ast.specs.declared.Frame.{Frame}
+use Rattle.ast.specs.declared.Frame.the-variants.{Fast, Indirect}
+use Rattle.ast.specs.declared.Head.{Head}
 use Rattle.assembler.specs.Item.{Item, jump, label}
 use Rattle.assembler.specs.State.{State}
 use Rattle.assembler.specs.Put.{words, jumps, labels, twice, verdict, put-number, put}
-use Rattle.assembler.specs.declared.Kind.the-variants.{Beq}
+use Rattle.assembler.specs.declared.JumpKind.the-variants.{Beq}
 use Rattle.assembler.proofs.Items.{words-append, jumps-append, labels-append}
 use Rattle.accesses.specs.Code.{sub-stack-code, add-stack-code, allocate-stack-code}
-use Rattle.laid.proofs.Both.{Accepts}
-use Rattle.framing.specs.Size.{frame-size, stack-size}
-use Rattle.framing.specs.Items.{code, mv, opening, closing, states-from, prologue-fast, prologue-indirect, epilogue-fast, epilogue-indirect, prologue, epilogue, at-main, at-done}
-use Rattle.framing.specs.Fault.{prologue-fault, epilogue-fault}
-use Rattle.framing.specs.Copies.{copies}
-use Rattle.framing.proofs.Fast.{states-length}
+use Rattle.finish.proofs.Both.{Accepts}
+use Rattle.reading.specs.Size.{frame-size, stack-size}
+use Rattle.frame_code.specs.Items.{code, mv, opening, closing, states-from, prologue-fast, prologue-indirect, epilogue-fast, epilogue-indirect, prologue, epilogue, at-main, at-done, at-self, at-pro, at-epi}
+use Rattle.frame_code.specs.Copies.{copies}
+use Rattle.frame_code.proofs.Fast.{states-length}
 use Rattle.frames.specs.Whole.{entry}
 use Rattle.frames.proofs.Parts.{words-code, jumps-code, labels-code, untagged}
 use Rattle.frames.proofs.Sizes.{code-number, copies-jumps, copies-labels}
@@ -61,7 +60,7 @@ fast-number H x y s e f =
 abbrev pub arguments : List Instr
 arguments = mv 9 10 ∷ mv 18 11 ∷ mv 19 12 ∷ mv 20 13 ∷ []
 
-pub entry-number : (s : State) → verdict 0 (twice (s .labels) (2032 ∷ [])) 14 1 (length (s .buf)) (s .asm) ≡ put-number 0 entry s
+pub entry-number : (s : State) → verdict 0 (twice (s .labels) (at-self ∷ [])) 14 1 (length (s .buf)) (s .asm) ≡ put-number 0 entry s
 unfolding entry sub-stack-code words jumps labels
 entry-number s = refl
 
@@ -73,7 +72,7 @@ entry-jumps : jumps entry ≡ 1
 unfolding entry sub-stack-code jumps
 entry-jumps = refl
 
-entry-labels : labels entry ≡ 2032 ∷ []
+entry-labels : labels entry ≡ at-self ∷ []
 unfolding entry sub-stack-code labels
 entry-labels = refl
 
@@ -99,7 +98,7 @@ up H = copies false (H .states) (H .states) ++ (label at-main ∷ code (allocate
 
 start-parts : (H : Head) → prologue-indirect H ≡ entry ++ (code (down H) ++ up H)
 unfolding entry
-start-parts H = ap (λ (is : List Item). label 2032 ∷ is) (sym (append-assoc (code (opening Indirect ++ arguments)) (jump Beq at-main 0 ∷ []) (code (down H) ++ up H)))
+start-parts H = ap (λ (is : List Item). label at-self ∷ is) (sym (append-assoc (code (opening Indirect ++ arguments)) (jump Beq at-main 0 ∷ []) (code (down H) ++ up H)))
 
 pub start-left : (H : Head) (tag : ℕ) (t u : State) → Accepts tag (prologue-indirect H) t u → Accepts tag (entry ++ (code (down H) ++ up H)) t u
 start-left H tag t u a = subst (λ (is : List Item). Accepts tag is t u) (start-parts H) a
@@ -121,16 +120,17 @@ module _ (H : Head) (s : State) where
       ∙ jumps-append entry (code (down H) ++ up H)
       ∙ omega (arith, entry-jumps, jumps-append (code (down H)) (up H), jumps-code (down H), then-jumps (copies false n n) at-main (allocate-stack-code (stack-size H)), copies-jumps false n n)
 
-  start-labels : labels (prologue-indirect H) ≡ 2032 ∷ (cond (ltb 16 n) (2034 ∷ []) [] ++ (2033 ∷ []))
+  start-labels : labels (prologue-indirect H) ≡ at-self ∷ (cond (ltb 16 n) (at-pro ∷ []) [] ++ (at-main ∷ []))
   start-labels =
       ap labels (start-parts H)
       ∙ labels-append entry (code (down H) ++ up H)
       ∙ rw (entry-labels, labels-append (code (down H)) (up H), labels-code (down H), then-labels (copies false n n) at-main (allocate-stack-code (stack-size H)), copies-labels false n n)
 
-  pub start-number : (ls : List ℕ) (w j : ℕ) → ls ≡ 2032 ∷ (cond (ltb 16 n) (2034 ∷ []) [] ++ (2033 ∷ []))
-      → w ≡ 16 + length (sub-stack-code (frame-size H)) + length (words (copies false n n)) + length (allocate-stack-code (stack-size H)) → j ≡ 1 + cond (ltb 16 n) 1 0
-      → verdict 0 (twice (s .labels) ls) w j (length (s .buf)) (s .asm) ≡ put-number 0 (prologue-indirect H) s
-  start-number ls w j e f g = rw (start-words, start-jumps, start-labels, e, f, g)
+  -- x, y and z words for `mem`, the copies and `stack`; k jumps of the copies
+  pub start-number : (ls : List ℕ) (x y z k : ℕ) → ls ≡ at-self ∷ (cond (ltb 16 n) (at-pro ∷ []) [] ++ (at-main ∷ []))
+      → x ≡ length (sub-stack-code (frame-size H)) → y ≡ length (words (copies false n n)) → z ≡ length (allocate-stack-code (stack-size H)) → k ≡ cond (ltb 16 n) 1 0
+      → verdict 0 (twice (s .labels) ls) (16 + x + y + z) (1 + k) (length (s .buf)) (s .asm) ≡ put-number 0 (prologue-indirect H) s
+  start-number ls x y z k e f g h i = rw (start-words, start-jumps, start-labels, e, f, g, h, i)
 
   abbrev c : List Item
   c = copies true n (H .obs)
@@ -143,32 +143,30 @@ module _ (H : Head) (s : State) where
   unfolding jumps
   end-jumps = omega (arith, then-jumps c at-done (closing Indirect), copies-jumps true n (H .obs))
 
-  end-labels : labels (epilogue-indirect H) ≡ cond (ltb 16 (H .obs)) (2035 ∷ []) [] ++ (2036 ∷ [])
+  end-labels : labels (epilogue-indirect H) ≡ cond (ltb 16 (H .obs)) (at-epi ∷ []) [] ++ (at-done ∷ [])
   unfolding labels
   end-labels = then-labels c at-done (closing Indirect) ∙ rw (copies-labels true n (H .obs))
 
-  pub end-number : (ls : List ℕ) (w j : ℕ) → ls ≡ cond (ltb 16 (H .obs)) (2035 ∷ []) [] ++ (2036 ∷ []) → w ≡ 12 + length (words c) → j ≡ 1 + cond (ltb 16 (H .obs)) 1 0
-      → verdict 0 (twice (s .labels) ls) w j (length (s .buf)) (s .asm) ≡ put-number 0 (epilogue-indirect H) s
-  end-number ls w j e f g = rw (end-words, end-jumps, end-labels, e, f, g)
+  -- y words and k jumps of the copies
+  pub end-number : (ls : List ℕ) (y k : ℕ) → ls ≡ cond (ltb 16 (H .obs)) (at-epi ∷ []) [] ++ (at-done ∷ []) → y ≡ length (words c) → k ≡ cond (ltb 16 (H .obs)) 1 0
+      → verdict 0 (twice (s .labels) ls) (12 + y) (1 + k) (length (s .buf)) (s .asm) ≡ put-number 0 (epilogue-indirect H) s
+  end-number ls y k e f g = rw (end-words, end-jumps, end-labels, e, f, g)
 
 -- ---- by the frame
 
 module _ (H : Head) (tag : ℕ) (s : State) where
-  abbrev framed : Frame → Head
-  framed F = record { frame = F; cap = H .cap; states = H .states; obs = H .obs; last = H .last; mask = 0 }
-
-  pub prologue-is-fast : H .frame ≡ Fast → put 0 (prologue-fault (framed Fast)) (prologue (framed Fast)) s ≡ put tag (prologue-fault H) (prologue H) s
+  pub prologue-is-fast : H .frame ≡ Fast → put 0 0 (prologue-fast H) s ≡ put tag 0 (prologue H) s
   unfolding prologue
-  prologue-is-fast e = rw e (untagged 0 tag _ (prologue-fast H) s (jumps-code (start-list H)))
+  prologue-is-fast e = rw e (untagged 0 tag 0 (prologue-fast H) s (jumps-code (start-list H)))
 
-  pub prologue-is-indirect : H .frame ≡ Indirect → put tag (prologue-fault (framed Indirect)) (prologue (framed Indirect)) s ≡ put tag (prologue-fault H) (prologue H) s
+  pub prologue-is-indirect : H .frame ≡ Indirect → put tag 0 (prologue-indirect H) s ≡ put tag 0 (prologue H) s
   unfolding prologue
   prologue-is-indirect e = rw e
 
-  pub epilogue-is-fast : H .frame ≡ Fast → put 0 (epilogue-fault (framed Fast)) (epilogue (framed Fast)) s ≡ put tag (epilogue-fault H) (epilogue H) s
+  pub epilogue-is-fast : H .frame ≡ Fast → put 0 0 (epilogue-fast H) s ≡ put tag 0 (epilogue H) s
   unfolding epilogue
-  epilogue-is-fast e = rw e (untagged 0 tag _ (epilogue-fast H) s (jumps-code (I FLD 10 9 (pos (8 * H .last)) ∷ closing Fast)))
+  epilogue-is-fast e = rw e (untagged 0 tag 0 (epilogue-fast H) s (jumps-code (I FLD 10 9 (pos (8 * H .last)) ∷ closing Fast)))
 
-  pub epilogue-is-indirect : H .frame ≡ Indirect → put tag (epilogue-fault (framed Indirect)) (epilogue (framed Indirect)) s ≡ put tag (epilogue-fault H) (epilogue H) s
+  pub epilogue-is-indirect : H .frame ≡ Indirect → put tag 0 (epilogue-indirect H) s ≡ put tag 0 (epilogue H) s
   unfolding epilogue
   epilogue-is-indirect e = rw e

@@ -6,76 +6,101 @@ ghost use Prim.Native.Nat.{ℕ, _+_, _*_, _≤_, _<_};
 ghost use lib.Dec.{ltb};
 ghost use lib.IntN.{pos};
 ghost use lib.ListN.{length};
-ghost use Rattle.order.specs.Count.{cells};
+ghost use Rattle.ast.specs.Count.{cells};
+ghost use Rattle.isa.specs.Register.{sp, s1, s5, fa0};
 ghost use Rattle.isa.specs.Instr.{I, FLD};
-ghost use Rattle.assembler.specs.Constant.{align16};
-ghost use Rattle.assembler.specs.State.{state, outcome, told};
-ghost use Rattle.assembler.specs.Put.{words, jumps, twice, verdict, settled, put};
+ghost use Rattle.ast.specs.Align.{align16};
+ghost use Rattle.assembler.specs.Limit.{label-limit};
+ghost use Rattle.assembler.specs.State.{emit-answer, before, after};
+ghost use Rattle.assembler.specs.Put.{words, jumps, prechecked, put};
 ghost use Rattle.assembler.specs.Plan.{fault-number, labels-of, sets-fault};
 ghost use Rattle.accesses.specs.Code.{li-code, sub-stack-code, allocate-stack-code};
 ghost use Rattle.accesses.specs.Plans.{answer-of, pushes-from, plan-of};
-ghost use Rattle.order.specs.Mask.{is-preserved, save-cell, saved as saved-of};
-ghost use Rattle.framing.specs.Items.{code, mv, opening, closing, times-over, states-from, save, reload, saves, reloads, prologue-fast, prologue-indirect, epilogue-indirect, prologue as prologue-items, epilogue as epilogue-items};
-ghost use Rattle.framing.specs.Fault.{prologue-fault, epilogue-fault};
-ghost use Rattle.framing.specs.Copies.{copy-first, copy-each, copy-label, copies as copies-of};
-ghost use Rattle.frames.specs.Whole.{is-accepted, looped as looped-of, entry};
+ghost use Rattle.ast.specs.Counts.{count-limit, result-limit, prologue-holds, epilogue-holds};
+ghost use Rattle.ast.specs.Mask.{is-preserved, saved as saved-of};
+ghost use Rattle.frame_code.specs.Items.{at-self, at-main, at-pro, at-epi, at-done};
+ghost use Rattle.frame_code.specs.Items.{code, mv, opening, closing, times-over, states-from, save, reload, saves, reloads};
+ghost use Rattle.frame_code.specs.Items.{prologue-fast, prologue-indirect, epilogue-fast, epilogue-indirect};
+ghost use Rattle.frame_code.specs.Items.{prologue as prologue-items, epilogue as epilogue-items};
+ghost use Rattle.frame_code.specs.Fault.{prologue-fault, epilogue-fault};
+ghost use Rattle.frame_code.specs.Copies.{copy-first, copy-each, copy-label, copies as copies-of};
+ghost use Rattle.frames.specs.Whole.{is-accepted, looped as looped-of, entry, head-of, prologue-put, epilogue-put};
 use assembler::Answer;
 use assembler::Asm;
-use assembler::Done;
+use assembler::EmitResult;
 use assembler::Fault;
-use assembler::Kind;
+use assembler::JumpKind;
+use assembler::Jumps;
+use assembler::Labels;
 use assembler::Plan;
 use assembler::Sets;
 use assembler::Tail;
+use ast::Frame;
+use ast::Head;
+use encoder::A0;
+use encoder::A1;
+use encoder::A2;
+use encoder::A3;
 use encoder::Encoded;
-use order::Frame;
-use order::Head;
+use encoder::FA0;
+use encoder::RA;
+use encoder::SP;
+use encoder::T0;
+use encoder::T1;
+use encoder::T2;
+use encoder::ZERO;
 
-const RA: u32 = 1;
+// ---- registers by their part in a frame
 
-const SP: u32 = 2;
+const FP: u32 = encoder::S0;
 
-const T0: u32 = 5;
+const MEM: u32 = encoder::S1;
 
-const T1: u32 = 6;
+const STATES: u32 = encoder::S2;
 
-const T2: u32 = 7;
+const IDX: u32 = encoder::S3;
 
-const FP: u32 = 8;
+const PARAMS: u32 = encoder::S4;
 
-const MEM: u32 = 9;
+const STACK: u32 = encoder::S5;
 
-const A0: u32 = 10;
+// ---- labels: `@self`, `@main`, `@pro`, `@epi`, `@done`, `@success`, `@epilogue`
 
-const STATES: u32 = 18;
+const AT_SELF: u32 = 2032;
 
-const IDX: u32 = 19;
+const AT_MAIN: u32 = 2033;
 
-const PARAMS: u32 = 20;
+const AT_PRO: u32 = 2034;
 
-const STACK: u32 = 21;
+const AT_EPI: u32 = 2035;
+
+const AT_DONE: u32 = 2036;
+
+const AT_SUCCESS: u32 = 2037;
+
+const AT_EPILOGUE: u32 = 2038;
 
 // ---- all or nothing
 
-// Asked before a part is placed whose items have these labels and so many words and jumps; nothing changes.
-fn begin(
+// Whether a part whose items have these labels and so many words and jumps would be refused; nothing changes.
+fn precheck(
     fault: Fault,
     sets: Sets,
     words: usize,
     count: usize,
     buf: &mut [u8],
-    labels: &mut [u64; 2039],
-    jumps: &mut [u32; 20480],
+    labels: &mut Labels,
+    jumps: &mut Jumps,
     asm: Asm,
-) -> Done
+) -> EmitResult
     requires { ⌜ sets-fault (labels-of sets) ≡ 0 ⌝ }
-    ensures { λ r. ⌜ outcome r (now (labels .exit)) (now (jumps .exit)) (now (buf .exit)) ≡ settled (verdict (fault-number fault) (twice (now (labels .entry)) (labels-of sets)) words count (length (now (buf .entry))) asm) (state asm (now (labels .entry)) (now (jumps .entry)) (now (buf .entry))) (state asm (now (labels .entry)) (now (jumps .entry)) (now (buf .entry))) ⌝ }
+    ensures { λ r. ⌜ after r labels jumps buf ≡ prechecked (fault-number fault) (labels-of sets) words count (before asm labels jumps buf) ⌝ }
 {
-    assembler::ask(fault, sets, words, count, buf, labels, asm)
+    assembler::check_whole(fault, sets, words, count, buf, labels, asm)
 }
 
-fn accepted(d: Done) -> bool
-    ensures { λ b. ⌜ b ≡ is-accepted (told (d .answer)) ⌝ }
+fn accepted(d: EmitResult) -> bool
+    ensures { λ b. ⌜ b ≡ is-accepted (emit-answer (d .answer)) ⌝ }
 {
     let a = d.answer;
     match a {
@@ -86,40 +111,12 @@ fn accepted(d: Done) -> bool
 
 // ---- preserved float registers of a mask
 
-fn is_preserved(r: u32) -> bool
-    ensures { λ b. ⌜ b ≡ is-preserved r ⌝ }
-{
-    if r < 8 {
-        return false;
-    }
-    if r <= 9 {
-        return true;
-    }
-    if r < 18 {
-        return false;
-    }
-    r <= 27
-}
-
-// f8, f9 go to stack cells 4, 5 and f18..f27 to 6..15.
-fn cell_of(r: u32) -> u32
-    ensures { λ c. ⌜ (c ≡ save-cell r) × (c ≤ r) ⌝ }
-{
-    if r < 18 {
-        if r < 4 {
-            return 0;
-        }
-        return r - 4;
-    }
-    r - 12
-}
-
 // The word of a preserved register's save, or of its reload.
 fn used_word(r: u32, back: bool) -> u32
     requires { ⌜ is-preserved r ≡ true ⌝ }
     ensures { λ w. ⌜ answer-of (cond back reload save r) ≡ Encoded.Word w ⌝ }
 {
-    let n = 8 * cell_of(r);
+    let n = 8 * ast::save_cell(r);
     if back {
         return accesses::word(encoder::fld(r, STACK, n as i32));
     }
@@ -145,7 +142,7 @@ fn used_plan(mask: u32, back: bool) -> Plan
     while i < n {
         let t = u32::trailing_zeros(r);
         let k = p + t;
-        let b = is_preserved(k);
+        let b = ast::is_preserved(k);
         if b {
             w[i] = used_word(k, back);
             i += 1;
@@ -164,11 +161,11 @@ fn used_plan(mask: u32, back: bool) -> Plan
 pub fn save_used_registers(
     mask: u32,
     buf: &mut [u8],
-    labels: &mut [u64; 2039],
-    jumps: &mut [u32; 20480],
+    labels: &mut Labels,
+    jumps: &mut Jumps,
     asm: Asm,
-) -> Done
-    ensures { λ r. ⌜ outcome r (now (labels .exit)) (now (jumps .exit)) (now (buf .exit)) ≡ put 0 0 (saves mask) (state asm (now (labels .entry)) (now (jumps .entry)) (now (buf .entry))) ⌝ }
+) -> EmitResult
+    ensures { λ r. ⌜ after r labels jumps buf ≡ put 0 0 (saves mask) (before asm labels jumps buf) ⌝ }
 {
     assembler::place(
         used_plan(mask, false),
@@ -184,16 +181,16 @@ pub fn save_used_registers(
 pub fn load_used_registers(
     mask: u32,
     buf: &mut [u8],
-    labels: &mut [u64; 2039],
-    jumps: &mut [u32; 20480],
+    labels: &mut Labels,
+    jumps: &mut Jumps,
     asm: Asm,
-) -> Done
-    ensures { λ r. ⌜ outcome r (now (labels .exit)) (now (jumps .exit)) (now (buf .exit)) ≡ put 0 0 (reloads mask) (state asm (now (labels .entry)) (now (jumps .entry)) (now (buf .entry))) ⌝ }
+) -> EmitResult
+    ensures { λ r. ⌜ after r labels jumps buf ≡ put 0 0 (reloads mask) (before asm labels jumps buf) ⌝ }
 {
     let n = used_count(mask);
-    let d = begin(
+    let d = precheck(
         Fault::Nothing,
-        Sets::Two(2037, 2038),
+        Sets::Two(AT_SUCCESS, AT_EPILOGUE),
         1 + n,
         0,
         buf,
@@ -203,10 +200,10 @@ pub fn load_used_registers(
     );
     let ok = accepted(d);
     if ok {
-        let a = assembler::set_label(2037, buf, labels, jumps, d.asm);
-        let p = accesses::one(encoder::addi(A0, 0, 0));
+        let a = assembler::set_label(AT_SUCCESS, buf, labels, jumps, d.asm);
+        let p = accesses::one(encoder::addi(A0, ZERO, 0));
         let b = assembler::place(p, Tail::Nothing, 0, buf, labels, jumps, a.asm);
-        let c = assembler::set_label(2038, buf, labels, jumps, b.asm);
+        let c = assembler::set_label(AT_EPILOGUE, buf, labels, jumps, b.asm);
         let q = used_plan(mask, true);
         return assembler::place(q, Tail::Nothing, 0, buf, labels, jumps, c.asm);
     }
@@ -257,12 +254,12 @@ fn opening_indirect() -> Plan
 }
 
 // The result to fa0, registers from their places, a0 = 0, and back to ra.
-fn fast_end(last: u32) -> Plan
-    requires { ⌜ last ≤ 255 ⌝ }
-    ensures { λ p. ⌜ p ≡ plan-of (I FLD 10 9 (pos (8 * last)) ∷ closing Frame.Fast) ⌝ }
+fn fast_end_plan(last: u32) -> Plan
+    requires { ⌜ last ≤ result-limit ⌝ }
+    ensures { λ p. ⌜ p ≡ plan-of (I FLD fa0 s1 (pos (8 * last)) ∷ closing Frame.Fast) ⌝ }
 {
     let p = accesses::five(
-        encoder::fld(A0, MEM, (8 * last) as i32),
+        encoder::fld(FA0, MEM, (8 * last) as i32),
         encoder::mv(SP, FP),
         encoder::ld(RA, SP, 0),
         encoder::ld(FP, SP, 8),
@@ -305,8 +302,8 @@ fn copy_plan(out: bool) -> Plan
         let p = accesses::five(
             encoder::ld(T0, STATES, 0),
             encoder::add(T0, T0, IDX),
-            encoder::fld(A0, T1, 0),
-            encoder::fsd(A0, T0, 0),
+            encoder::fld(FA0, T1, 0),
+            encoder::fsd(FA0, T0, 0),
             encoder::addi(STATES, STATES, 16),
         );
         return assembler::push(p, encoder::addi(T1, T1, 8));
@@ -314,8 +311,8 @@ fn copy_plan(out: bool) -> Plan
     let p = accesses::five(
         encoder::ld(T0, STATES, 0),
         encoder::add(T0, T0, IDX),
-        encoder::fld(A0, T0, 0),
-        encoder::fsd(A0, T1, 0),
+        encoder::fld(FA0, T0, 0),
+        encoder::fsd(FA0, T1, 0),
         encoder::addi(STATES, STATES, 16),
     );
     assembler::push(p, encoder::addi(T1, T1, 8))
@@ -323,7 +320,7 @@ fn copy_plan(out: bool) -> Plan
 
 // t1 is the first cell.
 fn first_plan(out: bool, states: u32) -> Plan
-    requires { ⌜ states ≤ 4096 ⌝ }
+    requires { ⌜ states ≤ count-limit ⌝ }
     ensures { λ p. ⌜ p ≡ plan-of (copy-first out states) ⌝ }
 {
     if out {
@@ -336,12 +333,12 @@ fn first_plan(out: bool, states: u32) -> Plan
 // s5 is sp, and float registers f10 and up go to `mem`.
 fn states_plan(states: u32) -> Plan
     requires { ⌜ states ≤ 8 ⌝ }
-    ensures { λ p. ⌜ p ≡ plan-of (mv 21 2 ∷ states-from 0 states) ⌝ }
+    ensures { λ p. ⌜ p ≡ plan-of (mv s5 sp ∷ states-from 0 states) ⌝ }
 {
     let mut p = accesses::one(encoder::mv(STACK, SP));
     let mut i = 0;
     while i < states {
-        p = assembler::push(p, encoder::fsd(10 + i, MEM, (8 * i) as i32));
+        p = assembler::push(p, encoder::fsd(FA0 + i, MEM, (8 * i) as i32));
         i += 1;
     }
     p
@@ -371,7 +368,7 @@ fn allocate_words(n: u32) -> usize
 }
 
 fn first_words(out: bool, states: u32) -> usize
-    requires { ⌜ states ≤ 4096 ⌝ }
+    requires { ⌜ states ≤ count-limit ⌝ }
     ensures { λ r. ⌜ (r ≡ length (copy-first out states)) × (r ≤ 3) ⌝ }
 {
     if out {
@@ -381,7 +378,7 @@ fn first_words(out: bool, states: u32) -> usize
 }
 
 fn copy_words(out: bool, states: u32, n: u32) -> usize
-    requires { ⌜ states ≤ 4096 ⌝ }
+    requires { ⌜ states ≤ count-limit ⌝ }
     ensures { λ r. ⌜ (r ≡ length (words (copies-of out states n))) × (r ≤ 99) ⌝ }
 {
     if n == 0 {
@@ -401,7 +398,7 @@ fn copy_jumps(n: u32) -> usize
 
 // A size in bytes for n cells: the next multiple of 16 above them.
 fn size_of(n: u32) -> u32
-    requires { ⌜ n ≤ 4096 ⌝ }
+    requires { ⌜ n ≤ count-limit ⌝ }
     ensures { λ r. ⌜ (r ≡ align16 (8 * n)) × (r ≤ 32784) ⌝ }
 {
     8 * n + 16 - 8 * n % 16
@@ -414,16 +411,16 @@ fn copy_row(
     out: bool,
     n: u32,
     buf: &mut [u8],
-    labels: &mut [u64; 2039],
-    jumps: &mut [u32; 20480],
+    labels: &mut Labels,
+    jumps: &mut Jumps,
     asm: Asm,
-) -> Done
+) -> EmitResult
     requires { ⌜ n ≤ 16 ⌝ }
-    ensures { λ r. ⌜ outcome r (now (labels .exit)) (now (jumps .exit)) (now (buf .exit)) ≡ put 0 0 (code (times-over n (copy-each out))) (state asm (now (labels .entry)) (now (jumps .entry)) (now (buf .entry))) ⌝ }
+    ensures { λ r. ⌜ after r labels jumps buf ≡ put 0 0 (code (times-over n (copy-each out))) (before asm labels jumps buf) ⌝ }
 {
     let p = copy_plan(out);
     let m = 6 * n as usize;
-    let d = begin(Fault::Nothing, Sets::Nothing, m, 0, buf, labels, jumps, asm);
+    let d = precheck(Fault::Nothing, Sets::Nothing, m, 0, buf, labels, jumps, asm);
     let ok = accepted(d);
     if ok {
         let mut a = d.asm;
@@ -433,7 +430,7 @@ fn copy_row(
             a = e.asm;
             i += 1;
         }
-        return Done {
+        return EmitResult {
             asm: a,
             answer: Answer::Accepted,
         };
@@ -446,15 +443,15 @@ fn straight(
     states: u32,
     n: u32,
     buf: &mut [u8],
-    labels: &mut [u64; 2039],
-    jumps: &mut [u32; 20480],
+    labels: &mut Labels,
+    jumps: &mut Jumps,
     asm: Asm,
-) -> Done
-    requires { ⌜ (states ≤ 4096) × (n ≤ 16) ⌝ }
-    ensures { λ r. ⌜ outcome r (now (labels .exit)) (now (jumps .exit)) (now (buf .exit)) ≡ put 0 0 (code (copy-first out states ++ times-over n (copy-each out))) (state asm (now (labels .entry)) (now (jumps .entry)) (now (buf .entry))) ⌝ }
+) -> EmitResult
+    requires { ⌜ (states ≤ count-limit) × (n ≤ 16) ⌝ }
+    ensures { λ r. ⌜ after r labels jumps buf ≡ put 0 0 (code (copy-first out states ++ times-over n (copy-each out))) (before asm labels jumps buf) ⌝ }
 {
     let w = first_words(out, states) + 6 * n as usize;
-    let d = begin(Fault::Nothing, Sets::Nothing, w, 0, buf, labels, jumps, asm);
+    let d = precheck(Fault::Nothing, Sets::Nothing, w, 0, buf, labels, jumps, asm);
     let ok = accepted(d);
     if ok {
         let p = first_plan(out, states);
@@ -465,9 +462,9 @@ fn straight(
 }
 
 fn label_of(out: bool) -> u32
-    ensures { λ l. ⌜ (l ≡ copy-label out) × (l < 2039) ⌝ }
+    ensures { λ l. ⌜ (l ≡ copy-label out) × (l < label-limit) ⌝ }
 {
-    if out { 2035 } else { 2034 }
+    if out { AT_EPI } else { AT_PRO }
 }
 
 // By a loop that counts t2 down.
@@ -477,16 +474,16 @@ fn looped(
     n: u32,
     tag: u32,
     buf: &mut [u8],
-    labels: &mut [u64; 2039],
-    jumps: &mut [u32; 20480],
+    labels: &mut Labels,
+    jumps: &mut Jumps,
     asm: Asm,
-) -> Done
-    requires { ⌜ (states ≤ 4096) × (n ≤ 4096) ⌝ }
-    ensures { λ r. ⌜ outcome r (now (labels .exit)) (now (jumps .exit)) (now (buf .exit)) ≡ put tag 0 (looped-of out states n) (state asm (now (labels .entry)) (now (jumps .entry)) (now (buf .entry))) ⌝ }
+) -> EmitResult
+    requires { ⌜ (states ≤ count-limit) × (n ≤ count-limit) ⌝ }
+    ensures { λ r. ⌜ after r labels jumps buf ≡ put tag 0 (looped-of out states n) (before asm labels jumps buf) ⌝ }
 {
     let l = label_of(out);
     let w = first_words(out, states) + li_words(n) + 8;
-    let d = begin(Fault::Nothing, Sets::One(l), w, 1, buf, labels, jumps, asm);
+    let d = precheck(Fault::Nothing, Sets::One(l), w, 1, buf, labels, jumps, asm);
     let ok = accepted(d);
     if ok {
         let p = first_plan(out, states);
@@ -497,7 +494,7 @@ fn looped(
         let q = assembler::push(copy_plan(out), encoder::addi(T2, T2, -1));
         return assembler::place(
             q,
-            Tail::One(Kind::Bne, l, 0),
+            Tail::One(JumpKind::Bne, l, 0),
             tag,
             buf,
             labels,
@@ -515,12 +512,12 @@ fn copies(
     n: u32,
     tag: u32,
     buf: &mut [u8],
-    labels: &mut [u64; 2039],
-    jumps: &mut [u32; 20480],
+    labels: &mut Labels,
+    jumps: &mut Jumps,
     asm: Asm,
-) -> Done
-    requires { ⌜ (states ≤ 4096) × (n ≤ 4096) ⌝ }
-    ensures { λ r. ⌜ outcome r (now (labels .exit)) (now (jumps .exit)) (now (buf .exit)) ≡ put tag 0 (copies-of out states n) (state asm (now (labels .entry)) (now (jumps .entry)) (now (buf .entry))) ⌝ }
+) -> EmitResult
+    requires { ⌜ (states ≤ count-limit) × (n ≤ count-limit) ⌝ }
+    ensures { λ r. ⌜ after r labels jumps buf ≡ put tag 0 (copies-of out states n) (before asm labels jumps buf) ⌝ }
 {
     if n == 0 {
         let p = assembler::no_plan();
@@ -532,82 +529,22 @@ fn copies(
     looped(out, states, n, tag, buf, labels, jumps, asm)
 }
 
-// ---- counts
-
-fn count_fault(h: Head) -> Fault
-    ensures { λ r. ⌜ fault-number r ≡ prologue-fault h ⌝ }
-{
-    if 4096 < h.cap {
-        return Fault::Count;
-    }
-    if 4096 < h.states {
-        return Fault::Count;
-    }
-    if 4096 < h.obs {
-        return Fault::Count;
-    }
-    if 4096 < h.states + h.obs {
-        return Fault::Count;
-    }
-    let f = h.frame;
-    match f {
-        Frame::Fast => if 8 < h.states {
-            Fault::Count
-        } else {
-            Fault::Nothing
-        },
-        Frame::Indirect => if 4096 < h.last {
-            Fault::Count
-        } else {
-            Fault::Nothing
-        },
-    }
-}
-
-// A fast result cell is at most 255, and one of the cells.
-fn result_fault(h: Head) -> Fault
-    ensures { λ r. ⌜ fault-number r ≡ epilogue-fault h ⌝ }
-{
-    let c = count_fault(h);
-    let k = assembler::fault_number(c);
-    if k != 0 {
-        return c;
-    }
-    let f = h.frame;
-    match f {
-        Frame::Fast => {
-            if 255 < h.last {
-                return Fault::Count;
-            }
-            if h.last < h.states + h.obs {
-                Fault::Nothing
-            } else {
-                Fault::Count
-            }
-        }
-        Frame::Indirect => Fault::Nothing,
-    }
-}
-
 // ---- the fast frame
 
 fn fast_start(
-    cap: u32,
-    states: u32,
-    obs: u32,
-    last: u32,
+    head: Head,
     buf: &mut [u8],
-    labels: &mut [u64; 2039],
-    jumps: &mut [u32; 20480],
+    labels: &mut Labels,
+    jumps: &mut Jumps,
     asm: Asm,
-) -> Done
-    requires { ⌜ (cap ≤ 4096) × (states + obs ≤ 4096) × (states ≤ 8) ⌝ }
-    ensures { λ r. ⌜ outcome r (now (labels .exit)) (now (jumps .exit)) (now (buf .exit)) ≡ put 0 0 (prologue-fast (record { frame = Frame.Fast; cap = cap; states = states; obs = obs; last = last; mask = 0 })) (state asm (now (labels .entry)) (now (jumps .entry)) (now (buf .entry))) ⌝ }
+) -> EmitResult
+    requires { ⌜ (head .cap ≤ count-limit) × (cells head ≤ count-limit) × (head .states ≤ 8) ⌝ }
+    ensures { λ r. ⌜ after r labels jumps buf ≡ put 0 0 (prologue-fast head) (before asm labels jumps buf) ⌝ }
 {
-    let mem = size_of(states + obs);
-    let stack = size_of(cap);
-    let w = sub_words(mem) + sub_words(stack) + 8 + states as usize;
-    let d = begin(Fault::Nothing, Sets::Nothing, w, 0, buf, labels, jumps, asm);
+    let mem = size_of(head.states + head.obs);
+    let stack = size_of(head.cap);
+    let w = sub_words(mem) + sub_words(stack) + 8 + head.states as usize;
+    let d = precheck(Fault::Nothing, Sets::Nothing, w, 0, buf, labels, jumps, asm);
     let ok = accepted(d);
     if ok {
         let p = opening_fast();
@@ -616,83 +553,35 @@ fn fast_start(
         let q = accesses::one(encoder::mv(MEM, SP));
         let c = assembler::place(q, Tail::Nothing, 0, buf, labels, jumps, b.asm);
         let e = accesses::sub_stack(stack, buf, labels, jumps, c.asm);
-        let t = states_plan(states);
+        let t = states_plan(head.states);
         return assembler::place(t, Tail::Nothing, 0, buf, labels, jumps, e.asm);
     }
     d
 }
 
-pub fn prologue_fast(
-    cap: u32,
-    states: u32,
-    obs: u32,
-    last: u32,
+fn fast_end(
+    head: Head,
     buf: &mut [u8],
-    labels: &mut [u64; 2039],
-    jumps: &mut [u32; 20480],
+    labels: &mut Labels,
+    jumps: &mut Jumps,
     asm: Asm,
-) -> Done
-    ensures { λ r. ⌜ outcome r (now (labels .exit)) (now (jumps .exit)) (now (buf .exit)) ≡ put 0 (prologue-fault (record { frame = Frame.Fast; cap = cap; states = states; obs = obs; last = last; mask = 0 })) (prologue-items (record { frame = Frame.Fast; cap = cap; states = states; obs = obs; last = last; mask = 0 })) (state asm (now (labels .entry)) (now (jumps .entry)) (now (buf .entry))) ⌝ }
+) -> EmitResult
+    requires { ⌜ head .last ≤ result-limit ⌝ }
+    ensures { λ r. ⌜ after r labels jumps buf ≡ put 0 0 (epilogue-fast head) (before asm labels jumps buf) ⌝ }
 {
-    let h = Head {
-        frame: Frame::Fast,
-        cap,
-        states,
-        obs,
-        last,
-        mask: 0,
-    };
-    let f = count_fault(h);
-    let k = assembler::fault_number(f);
-    if k != 0 {
-        return begin(f, Sets::Nothing, 0, 0, buf, labels, jumps, asm);
-    }
-    fast_start(cap, states, obs, last, buf, labels, jumps, asm)
-}
-
-pub fn epilogue_fast(
-    cap: u32,
-    states: u32,
-    obs: u32,
-    last: u32,
-    buf: &mut [u8],
-    labels: &mut [u64; 2039],
-    jumps: &mut [u32; 20480],
-    asm: Asm,
-) -> Done
-    ensures { λ r. ⌜ outcome r (now (labels .exit)) (now (jumps .exit)) (now (buf .exit)) ≡ put 0 (epilogue-fault (record { frame = Frame.Fast; cap = cap; states = states; obs = obs; last = last; mask = 0 })) (epilogue-items (record { frame = Frame.Fast; cap = cap; states = states; obs = obs; last = last; mask = 0 })) (state asm (now (labels .entry)) (now (jumps .entry)) (now (buf .entry))) ⌝ }
-{
-    let h = Head {
-        frame: Frame::Fast,
-        cap,
-        states,
-        obs,
-        last,
-        mask: 0,
-    };
-    let f = result_fault(h);
-    let k = assembler::fault_number(f);
-    if k != 0 {
-        return begin(f, Sets::Nothing, 0, 0, buf, labels, jumps, asm);
-    }
-    assembler::place(fast_end(last), Tail::Nothing, 0, buf, labels, jumps, asm)
+    let p = fast_end_plan(head.last);
+    assembler::place(p, Tail::Nothing, 0, buf, labels, jumps, asm)
 }
 
 // ---- the indirect frame
 
 // Registers to their places, the arguments to theirs, and past the copies where there is no table.
-fn enter(
-    tag: u32,
-    buf: &mut [u8],
-    labels: &mut [u64; 2039],
-    jumps: &mut [u32; 20480],
-    asm: Asm,
-) -> Done
-    ensures { λ r. ⌜ outcome r (now (labels .exit)) (now (jumps .exit)) (now (buf .exit)) ≡ put tag 0 entry (state asm (now (labels .entry)) (now (jumps .entry)) (now (buf .entry))) ⌝ }
+fn enter(tag: u32, buf: &mut [u8], labels: &mut Labels, jumps: &mut Jumps, asm: Asm) -> EmitResult
+    ensures { λ r. ⌜ after r labels jumps buf ≡ put tag 0 entry (before asm labels jumps buf) ⌝ }
 {
-    let d = begin(
+    let d = precheck(
         Fault::Nothing,
-        Sets::One(2032),
+        Sets::One(AT_SELF),
         14,
         1,
         buf,
@@ -702,16 +591,16 @@ fn enter(
     );
     let ok = accepted(d);
     if ok {
-        let a = assembler::set_label(2032, buf, labels, jumps, d.asm);
+        let a = assembler::set_label(AT_SELF, buf, labels, jumps, d.asm);
         let p = opening_indirect();
         let b = assembler::place(p, Tail::Nothing, tag, buf, labels, jumps, a.asm);
         let q = accesses::four(
             encoder::mv(MEM, A0),
-            encoder::mv(STATES, 11),
-            encoder::mv(IDX, 12),
-            encoder::mv(PARAMS, 13),
+            encoder::mv(STATES, A1),
+            encoder::mv(IDX, A2),
+            encoder::mv(PARAMS, A3),
         );
-        let t = Tail::One(Kind::Beq, 2033, 0);
+        let t = Tail::One(JumpKind::Beq, AT_MAIN, 0);
         return assembler::place(q, t, tag, buf, labels, jumps, b.asm);
     }
     d
@@ -719,55 +608,210 @@ fn enter(
 
 // The labels of an indirect prologue: the loop's comes with more than 16 states.
 fn start_sets(states: u32) -> Sets
-    ensures { λ s. ⌜ (labels-of s ≡ 2032 ∷ (cond (ltb 16 states) (2034 ∷ []) [] ++ (2033 ∷ []))) × (sets-fault (labels-of s) ≡ 0) ⌝ }
+    ensures { λ s. ⌜ (labels-of s ≡ at-self ∷ (cond (ltb 16 states) (at-pro ∷ []) [] ++ (at-main ∷ []))) × (sets-fault (labels-of s) ≡ 0) ⌝ }
 {
     if 16 < states {
-        return Sets::Three(2032, 2034, 2033);
+        return Sets::Three(AT_SELF, AT_PRO, AT_MAIN);
     }
-    Sets::Two(2032, 2033)
+    Sets::Two(AT_SELF, AT_MAIN)
 }
 
 // Of its epilogue: the loop's comes with more than 16 observations.
 fn end_sets(obs: u32) -> Sets
-    ensures { λ s. ⌜ (labels-of s ≡ cond (ltb 16 obs) (2035 ∷ []) [] ++ (2036 ∷ [])) × (sets-fault (labels-of s) ≡ 0) ⌝ }
+    ensures { λ s. ⌜ (labels-of s ≡ cond (ltb 16 obs) (at-epi ∷ []) [] ++ (at-done ∷ [])) × (sets-fault (labels-of s) ≡ 0) ⌝ }
 {
     if 16 < obs {
-        return Sets::Two(2035, 2036);
+        return Sets::Two(AT_EPI, AT_DONE);
     }
-    Sets::One(2036)
+    Sets::One(AT_DONE)
 }
 
 fn indirect_start(
-    cap: u32,
-    states: u32,
-    obs: u32,
-    last: u32,
+    head: Head,
     tag: u32,
     buf: &mut [u8],
-    labels: &mut [u64; 2039],
-    jumps: &mut [u32; 20480],
+    labels: &mut Labels,
+    jumps: &mut Jumps,
     asm: Asm,
-) -> Done
-    requires { ⌜ (cap ≤ 4096) × (states + obs ≤ 4096) ⌝ }
-    ensures { λ r. ⌜ outcome r (now (labels .exit)) (now (jumps .exit)) (now (buf .exit)) ≡ put tag 0 (prologue-indirect (record { frame = Frame.Indirect; cap = cap; states = states; obs = obs; last = last; mask = 0 })) (state asm (now (labels .entry)) (now (jumps .entry)) (now (buf .entry))) ⌝ }
+) -> EmitResult
+    requires { ⌜ (head .cap ≤ count-limit) × (cells head ≤ count-limit) ⌝ }
+    ensures { λ r. ⌜ after r labels jumps buf ≡ put tag 0 (prologue-indirect head) (before asm labels jumps buf) ⌝ }
 {
-    let mem = size_of(states + obs);
-    let stack = size_of(cap);
-    let sets = start_sets(states);
-    let w = 16 + sub_words(mem) + copy_words(false, states, states) + allocate_words(stack);
-    let j = 1 + copy_jumps(states);
-    let d = begin(Fault::Nothing, sets, w, j, buf, labels, jumps, asm);
+    let mem = size_of(head.states + head.obs);
+    let stack = size_of(head.cap);
+    let sets = start_sets(head.states);
+    let w = 16
+        + sub_words(mem)
+        + copy_words(false, head.states, head.states)
+        + allocate_words(stack);
+    let j = 1 + copy_jumps(head.states);
+    let d = precheck(Fault::Nothing, sets, w, j, buf, labels, jumps, asm);
     let ok = accepted(d);
     if ok {
         let a = enter(tag, buf, labels, jumps, d.asm);
         let b = accesses::sub_stack(mem, buf, labels, jumps, a.asm);
         let p = accesses::two(encoder::mv(MEM, SP), encoder::slli(IDX, IDX, 3));
         let c = assembler::place(p, Tail::Nothing, tag, buf, labels, jumps, b.asm);
-        let e = copies(false, states, states, tag, buf, labels, jumps, c.asm);
-        let f = assembler::set_label(2033, buf, labels, jumps, e.asm);
+        let e = copies(
+            false,
+            head.states,
+            head.states,
+            tag,
+            buf,
+            labels,
+            jumps,
+            c.asm,
+        );
+        let f = assembler::set_label(AT_MAIN, buf, labels, jumps, e.asm);
         return accesses::allocate_stack(stack, buf, labels, jumps, f.asm);
     }
     d
+}
+
+fn indirect_end(
+    head: Head,
+    tag: u32,
+    buf: &mut [u8],
+    labels: &mut Labels,
+    jumps: &mut Jumps,
+    asm: Asm,
+) -> EmitResult
+    requires { ⌜ cells head ≤ count-limit ⌝ }
+    ensures { λ r. ⌜ after r labels jumps buf ≡ put tag 0 (epilogue-indirect head) (before asm labels jumps buf) ⌝ }
+{
+    let sets = end_sets(head.obs);
+    let w = 12 + copy_words(true, head.states, head.obs);
+    let j = 1 + copy_jumps(head.obs);
+    let d = precheck(Fault::Nothing, sets, w, j, buf, labels, jumps, asm);
+    let ok = accepted(d);
+    if ok {
+        let a = assembler::jump(JumpKind::Beq, AT_DONE, 0, tag, buf, labels, jumps, d.asm);
+        let b = copies(true, head.states, head.obs, tag, buf, labels, jumps, a.asm);
+        let c = assembler::set_label(AT_DONE, buf, labels, jumps, b.asm);
+        let p = closing_indirect();
+        return assembler::place(p, Tail::Nothing, tag, buf, labels, jumps, c.asm);
+    }
+    d
+}
+
+// ---- by the frame of line 1
+
+fn prologue_by_frame(
+    head: Head,
+    tag: u32,
+    buf: &mut [u8],
+    labels: &mut Labels,
+    jumps: &mut Jumps,
+    asm: Asm,
+) -> EmitResult
+    requires { ⌜ prologue-holds head ≡ true ⌝ }
+    ensures { λ r. ⌜ after r labels jumps buf ≡ put tag 0 (prologue-items head) (before asm labels jumps buf) ⌝ }
+{
+    let f = head.frame;
+    match f {
+        Frame::Fast => fast_start(head, buf, labels, jumps, asm),
+        Frame::Indirect => indirect_start(head, tag, buf, labels, jumps, asm),
+    }
+}
+
+pub fn prologue(
+    head: Head,
+    tag: u32,
+    buf: &mut [u8],
+    labels: &mut Labels,
+    jumps: &mut Jumps,
+    asm: Asm,
+) -> EmitResult
+    ensures { λ r. ⌜ after r labels jumps buf ≡ put tag (prologue-fault head) (prologue-items head) (before asm labels jumps buf) ⌝ }
+{
+    let ok = ast::prologue_holds(head);
+    if ok {
+        return prologue_by_frame(head, tag, buf, labels, jumps, asm);
+    }
+    precheck(Fault::Count, Sets::Nothing, 0, 0, buf, labels, jumps, asm)
+}
+
+fn epilogue_by_frame(
+    head: Head,
+    tag: u32,
+    buf: &mut [u8],
+    labels: &mut Labels,
+    jumps: &mut Jumps,
+    asm: Asm,
+) -> EmitResult
+    requires { ⌜ epilogue-holds head ≡ true ⌝ }
+    ensures { λ r. ⌜ after r labels jumps buf ≡ put tag 0 (epilogue-items head) (before asm labels jumps buf) ⌝ }
+{
+    let f = head.frame;
+    match f {
+        Frame::Fast => fast_end(head, buf, labels, jumps, asm),
+        Frame::Indirect => indirect_end(head, tag, buf, labels, jumps, asm),
+    }
+}
+
+pub fn epilogue(
+    head: Head,
+    tag: u32,
+    buf: &mut [u8],
+    labels: &mut Labels,
+    jumps: &mut Jumps,
+    asm: Asm,
+) -> EmitResult
+    ensures { λ r. ⌜ after r labels jumps buf ≡ put tag (epilogue-fault head) (epilogue-items head) (before asm labels jumps buf) ⌝ }
+{
+    let ok = ast::epilogue_holds(head);
+    if ok {
+        return epilogue_by_frame(head, tag, buf, labels, jumps, asm);
+    }
+    precheck(Fault::Count, Sets::Nothing, 0, 0, buf, labels, jumps, asm)
+}
+
+// ---- by the counts, as in the Rust
+
+pub fn prologue_fast(
+    cap: u32,
+    states: u32,
+    obs: u32,
+    last: u32,
+    buf: &mut [u8],
+    labels: &mut Labels,
+    jumps: &mut Jumps,
+    asm: Asm,
+) -> EmitResult
+    ensures { λ r. ⌜ after r labels jumps buf ≡ prologue-put 0 (head-of Frame.Fast cap states obs last) (before asm labels jumps buf) ⌝ }
+{
+    let head = Head {
+        frame: Frame::Fast,
+        cap,
+        states,
+        obs,
+        last,
+        mask: 0,
+    };
+    prologue(head, 0, buf, labels, jumps, asm)
+}
+
+pub fn epilogue_fast(
+    cap: u32,
+    states: u32,
+    obs: u32,
+    last: u32,
+    buf: &mut [u8],
+    labels: &mut Labels,
+    jumps: &mut Jumps,
+    asm: Asm,
+) -> EmitResult
+    ensures { λ r. ⌜ after r labels jumps buf ≡ epilogue-put 0 (head-of Frame.Fast cap states obs last) (before asm labels jumps buf) ⌝ }
+{
+    let head = Head {
+        frame: Frame::Fast,
+        cap,
+        states,
+        obs,
+        last,
+        mask: 0,
+    };
+    epilogue(head, 0, buf, labels, jumps, asm)
 }
 
 pub fn prologue_indirect(
@@ -777,13 +821,13 @@ pub fn prologue_indirect(
     last: u32,
     tag: u32,
     buf: &mut [u8],
-    labels: &mut [u64; 2039],
-    jumps: &mut [u32; 20480],
+    labels: &mut Labels,
+    jumps: &mut Jumps,
     asm: Asm,
-) -> Done
-    ensures { λ r. ⌜ outcome r (now (labels .exit)) (now (jumps .exit)) (now (buf .exit)) ≡ put tag (prologue-fault (record { frame = Frame.Indirect; cap = cap; states = states; obs = obs; last = last; mask = 0 })) (prologue-items (record { frame = Frame.Indirect; cap = cap; states = states; obs = obs; last = last; mask = 0 })) (state asm (now (labels .entry)) (now (jumps .entry)) (now (buf .entry))) ⌝ }
+) -> EmitResult
+    ensures { λ r. ⌜ after r labels jumps buf ≡ prologue-put tag (head-of Frame.Indirect cap states obs last) (before asm labels jumps buf) ⌝ }
 {
-    let h = Head {
+    let head = Head {
         frame: Frame::Indirect,
         cap,
         states,
@@ -791,41 +835,7 @@ pub fn prologue_indirect(
         last,
         mask: 0,
     };
-    let f = count_fault(h);
-    let k = assembler::fault_number(f);
-    if k != 0 {
-        return begin(f, Sets::Nothing, 0, 0, buf, labels, jumps, asm);
-    }
-    indirect_start(cap, states, obs, last, tag, buf, labels, jumps, asm)
-}
-
-fn indirect_end(
-    cap: u32,
-    states: u32,
-    obs: u32,
-    last: u32,
-    tag: u32,
-    buf: &mut [u8],
-    labels: &mut [u64; 2039],
-    jumps: &mut [u32; 20480],
-    asm: Asm,
-) -> Done
-    requires { ⌜ states + obs ≤ 4096 ⌝ }
-    ensures { λ r. ⌜ outcome r (now (labels .exit)) (now (jumps .exit)) (now (buf .exit)) ≡ put tag 0 (epilogue-indirect (record { frame = Frame.Indirect; cap = cap; states = states; obs = obs; last = last; mask = 0 })) (state asm (now (labels .entry)) (now (jumps .entry)) (now (buf .entry))) ⌝ }
-{
-    let sets = end_sets(obs);
-    let w = 12 + copy_words(true, states, obs);
-    let j = 1 + copy_jumps(obs);
-    let d = begin(Fault::Nothing, sets, w, j, buf, labels, jumps, asm);
-    let ok = accepted(d);
-    if ok {
-        let a = assembler::jump(Kind::Beq, 2036, 0, tag, buf, labels, jumps, d.asm);
-        let b = copies(true, states, obs, tag, buf, labels, jumps, a.asm);
-        let c = assembler::set_label(2036, buf, labels, jumps, b.asm);
-        let p = closing_indirect();
-        return assembler::place(p, Tail::Nothing, tag, buf, labels, jumps, c.asm);
-    }
-    d
+    prologue(head, tag, buf, labels, jumps, asm)
 }
 
 pub fn epilogue_indirect(
@@ -835,13 +845,13 @@ pub fn epilogue_indirect(
     last: u32,
     tag: u32,
     buf: &mut [u8],
-    labels: &mut [u64; 2039],
-    jumps: &mut [u32; 20480],
+    labels: &mut Labels,
+    jumps: &mut Jumps,
     asm: Asm,
-) -> Done
-    ensures { λ r. ⌜ outcome r (now (labels .exit)) (now (jumps .exit)) (now (buf .exit)) ≡ put tag (epilogue-fault (record { frame = Frame.Indirect; cap = cap; states = states; obs = obs; last = last; mask = 0 })) (epilogue-items (record { frame = Frame.Indirect; cap = cap; states = states; obs = obs; last = last; mask = 0 })) (state asm (now (labels .entry)) (now (jumps .entry)) (now (buf .entry))) ⌝ }
+) -> EmitResult
+    ensures { λ r. ⌜ after r labels jumps buf ≡ epilogue-put tag (head-of Frame.Indirect cap states obs last) (before asm labels jumps buf) ⌝ }
 {
-    let h = Head {
+    let head = Head {
         frame: Frame::Indirect,
         cap,
         states,
@@ -849,84 +859,5 @@ pub fn epilogue_indirect(
         last,
         mask: 0,
     };
-    let f = result_fault(h);
-    let k = assembler::fault_number(f);
-    if k != 0 {
-        return begin(f, Sets::Nothing, 0, 0, buf, labels, jumps, asm);
-    }
-    indirect_end(cap, states, obs, last, tag, buf, labels, jumps, asm)
-}
-
-// ---- by the frame of line 1
-
-pub fn prologue(
-    head: Head,
-    tag: u32,
-    buf: &mut [u8],
-    labels: &mut [u64; 2039],
-    jumps: &mut [u32; 20480],
-    asm: Asm,
-) -> Done
-    ensures { λ r. ⌜ outcome r (now (labels .exit)) (now (jumps .exit)) (now (buf .exit)) ≡ put tag (prologue-fault head) (prologue-items head) (state asm (now (labels .entry)) (now (jumps .entry)) (now (buf .entry))) ⌝ }
-{
-    let f = head.frame;
-    match f {
-        Frame::Fast => prologue_fast(
-            head.cap,
-            head.states,
-            head.obs,
-            head.last,
-            buf,
-            labels,
-            jumps,
-            asm,
-        ),
-        Frame::Indirect => prologue_indirect(
-            head.cap,
-            head.states,
-            head.obs,
-            head.last,
-            tag,
-            buf,
-            labels,
-            jumps,
-            asm,
-        ),
-    }
-}
-
-pub fn epilogue(
-    head: Head,
-    tag: u32,
-    buf: &mut [u8],
-    labels: &mut [u64; 2039],
-    jumps: &mut [u32; 20480],
-    asm: Asm,
-) -> Done
-    ensures { λ r. ⌜ outcome r (now (labels .exit)) (now (jumps .exit)) (now (buf .exit)) ≡ put tag (epilogue-fault head) (epilogue-items head) (state asm (now (labels .entry)) (now (jumps .entry)) (now (buf .entry))) ⌝ }
-{
-    let f = head.frame;
-    match f {
-        Frame::Fast => epilogue_fast(
-            head.cap,
-            head.states,
-            head.obs,
-            head.last,
-            buf,
-            labels,
-            jumps,
-            asm,
-        ),
-        Frame::Indirect => epilogue_indirect(
-            head.cap,
-            head.states,
-            head.obs,
-            head.last,
-            tag,
-            buf,
-            labels,
-            jumps,
-            asm,
-        ),
-    }
+    epilogue(head, tag, buf, labels, jumps, asm)
 }

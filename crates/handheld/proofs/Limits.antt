@@ -1,4 +1,4 @@
--- The limits of a single order's numbers, both sides of each; and a line that a deck takes is the same order by itself. Assumes nothing.
+-- The limits of a single order's numbers, both sides of each; and a line that a deck takes is the same order by itself.
 use mathlib.Core.Path.{_≡_, refl, ap}
 use mathlib.Core.Bool.{Bool, true, false, _&&_}
 use mathlib.Core.List.{List, [], _∷_}
@@ -10,20 +10,22 @@ use lib.ListN.{replicate}
 use Rattle.refusal.specs.Answer.{Answer, accepted, refused}
 use Rattle.refusal.specs.declared.Refusal.{Refusal}
 use Rattle.refusal.specs.declared.Refusal.the-variants.{Register, Value as Valued, Count}
-use Rattle.order.specs.declared.Head.{Head}
-use Rattle.order.specs.declared.Order.{Order}
-use Rattle.order.specs.declared.Constant.{Constant}
+use Rattle.ast.specs.declared.Head.{Head}
+use Rattle.ast.specs.declared.Order.{Order}
+use Rattle.ast.specs.declared.Constant.{Constant}
 use Rattle.text.specs.Ascii.{bytes}
 use Rattle.text.specs.Digits.{read-decimal, read-integer, read-word, read-from}
 use Rattle.text.specs.Fields.{split, same}
 use Rattle.text.specs.declared.Number.{Number}
 use Rattle.text.specs.declared.Number.the-variants.{Value, TooBig}
-use Rattle.text.proofs.Joined.{and-true}
+use Rattle.base.proofs.Bools.{both}
 use Rattle.form.specs.Read.{first, read-values, read}
 use Rattle.form.specs.Form.{form-of}
 use Rattle.form.specs.declared.Form.{Form}
 use Rattle.form.specs.declared.Form.the-variants as Form
-use Rattle.deck.specs.Judge.{Content, head, order, constant, demand, below, value, mask, count, exact, are-below, counts-hold, head-of, judged}
+use Rattle.deck.specs.Judge.{Content, head, order, constant, demand, below, value, mask, count, exact, head-of, judged}
+use Rattle.deck.specs.Inner.Parts.{are-below}
+use Rattle.ast.specs.Counts.{counts-hold}
 use Rattle.assembler.specs.State.{State, state, sound, fits}
 use Rattle.assembler.specs.Put.{words, jumps, labels, among, twice, settled, verdict, put}
 use Rattle.accesses.specs.Code.{access-code, point-code, li-code}
@@ -88,9 +90,9 @@ no-constant false c o e = let z : _≡_ {A = ℕ} 0 1 = cc in omega arith
 
 four : (a b c d : Number) → are-below 32 a b c d ≡ true → (field a ≡ value a) × (field b ≡ value b) × (field c ≡ value c) × (field d ≡ value d)
 four a b c d e =
-    let p = and-true (below 32 a) (below 32 b && (below 32 c && below 32 d)) e in
-    let q = and-true (below 32 b) (below 32 c && below 32 d) (p .1) in
-    let r = and-true (below 32 c) (below 32 d) (q .1) in
+    let p = both (below 32 a) (below 32 b && (below 32 c && below 32 d)) e in
+    let q = both (below 32 b) (below 32 c && below 32 d) (p .1) in
+    let r = both (below 32 c) (below 32 d) (q .1) in
     (field-is 32 a (omega arith) (p .0), field-is 32 b (omega arith) (q .0), field-is 32 c (omega arith) (r .0), field-is 32 d (omega arith) (r .1))
 
 -- a register, and a last field below k

@@ -1,4 +1,4 @@
--- From answers to the numbers that a caller gets, and from a line to its order. Assumes nothing.
+-- From answers to the numbers that a caller gets, and from a line to its order.
 use mathlib.Core.Path.{_≡_, refl}
 use mathlib.Core.Bool.{Bool, true, false, cond}
 use mathlib.Core.List.{List, [], _∷_}
@@ -11,32 +11,32 @@ use Rattle.refusal.specs.declared.Refusal.{Refusal}
 use Rattle.text.specs.declared.Number.{Number}
 use Rattle.text.specs.declared.Number.the-variants.{Value}
 use Rattle.form.specs.declared.Form.{Form}
-use Rattle.assembler.specs.State.{State, Outcome, state, outcome, told, sound}
+use Rattle.assembler.specs.State.{State, Outcome, state, outcome, emit-answer, sound}
 use Rattle.assembler.specs.Put.{verdict, settled, put}
 use Rattle.assembler.specs.declared.Asm.{Asm}
-use Rattle.assembler.specs.declared.Done.{Done}
+use Rattle.assembler.specs.declared.EmitResult.{EmitResult}
 use Rattle.assembler.specs.declared.Answer.the-variants.{Accepted, Refused}
-use Rattle.finish.specs.Finish.{Ending, ending}
-use Rattle.finish.specs.declared.Finished.{Finished}
-use Rattle.call.specs.Program.{Program}
-use Rattle.routine.specs.Routine.{Told, Promise, program-of, told-answer}
-use Rattle.routine.specs.Run.{Made}
-use Rattle.handheld.specs.Numbers.{number, deck-numbers, DeckIn}
+use Rattle.finish.specs.Finish.{FinishOutcome, finish-outcome}
+use Rattle.finish.specs.declared.FinishResult.{FinishResult}
+use Rattle.reading.specs.Program.{Program}
+use Rattle.routine.specs.Routine.{Summary, Promise, program-of, summary-answer}
+use Rattle.routine.specs.Run.{RunOutcome}
+use Rattle.handheld.specs.Numbers.{number, deck-numbers, RunTold}
 use Rattle.handheld.specs.Numbers as Numbers
-use Rattle.handheld.specs.Single.{field, says, order-put, line-put, as-constant, constant-put, numbers-of, record-after, left, order-left, finish-left, finish-told}
+use Rattle.handheld.specs.Single.{field, says, order-put, line-put, as-constant, constant-put, numbers-of, record-after, single, order-result, finish-result, finish-told}
 use Rattle.handheld.specs.declared.Said.{Said}
 
 -- ---- a deck file
 
-pub number-told : (a : Answer Program) → number (told-answer a) ≡ number a
+pub number-told : (a : Answer Program) → number (summary-answer a) ≡ number a
 number-told (accepted p) = refl
 number-told (refused n line) = refl
 
-module _ (t : Answer Told) (n : ℕ) (l : List ℕ) (g : n ≡ number t) (h : l ≡ deck-numbers t) where
+module _ (t : Answer Summary) (n : ℕ) (l : List ℕ) (g : n ≡ number t) (h : l ≡ deck-numbers t) where
   pub deck-told : (file buf after : List ℕ) → Promise file buf t after → Numbers.Deck file buf n l after
   deck-told file buf after p = (rw (g, p .0) (number-told (program-of (length buf) file)), rw (h, p .0), p .1)
 
-  pub deck-in-told : (m k : Made) → m ≡ k → t ≡ m .answer → DeckIn k n l (m .state .labels) (m .state .jumps) (m .state .buf)
+  pub deck-in-told : (m k : RunOutcome) → m ≡ k → t ≡ m .answer → RunTold k n l (m .state .labels) (m .state .jumps) (m .state .buf)
   deck-in-told m k e i = rw (← e, g, h, i) (refl, refl, refl, refl, refl)
 
 -- ---- a line's order or constant
@@ -74,12 +74,12 @@ module _ (a : Asm) where
 -- ---- what an order and finishing leave
 
 module _ (r : List ℕ) (ls js b : List ℕ) where
-  pub emit-left : (d : Done) (o : Outcome) → outcome d ls js b ≡ o → (n : ℕ) (l : List ℕ) → (n ≡ number (told (d .answer))) × (l ≡ record-after (told (d .answer)) (d .asm) r) → left n l ls js b ≡ order-left r o
+  pub emit-left : (d : EmitResult) (o : Outcome) → outcome d ls js b ≡ o → (n : ℕ) (l : List ℕ) → (n ≡ number (emit-answer (d .answer))) × (l ≡ record-after (emit-answer (d .answer)) (d .asm) r) → single n l ls js b ≡ order-result r o
   emit-left d o e n l k = rw (← e, k .0, k .1)
 
-  module _ (f : Finished) (x : Ending) (e : ending f ls js b ≡ x) where
-    pub finish-stops : (why : Refusal) (place n : ℕ) → f .answer ≡ Refused why place → n ≡ number-of why → (left n r ls js b ≡ finish-left r x) × ((place ∷ f .tag ∷ []) ≡ finish-told x)
+  module _ (f : FinishResult) (x : FinishOutcome) (e : finish-outcome f ls js b ≡ x) where
+    pub finish-stops : (why : Refusal) (place n : ℕ) → f .answer ≡ Refused why place → n ≡ number-of why → (single n r ls js b ≡ finish-result r x) × ((place ∷ f .tag ∷ []) ≡ finish-told x)
     finish-stops why place n h g = rw (← e, h, g) (refl, refl)
 
-    pub finish-goes : (l : List ℕ) → f .answer ≡ Accepted → l ≡ numbers-of (f .asm) → (left 0 l ls js b ≡ finish-left r x) × ((0 ∷ f .tag ∷ []) ≡ finish-told x)
+    pub finish-goes : (l : List ℕ) → f .answer ≡ Accepted → l ≡ numbers-of (f .asm) → (single 0 l ls js b ≡ finish-result r x) × ((0 ∷ f .tag ∷ []) ≡ finish-told x)
     finish-goes l h g = rw (← e, h, g) (refl, refl)

@@ -2,14 +2,16 @@
 use mathlib.Core.Path.{_≡_}
 use mathlib.Core.List.{List, [], _∷_}
 use Prim.Native.Nat.{ℕ}
+use denote.Ref.{now}
 use lib.ListN.{length}
 use Rattle.refusal.specs.Answer.{Answer, accepted, refused}
-use Rattle.order.specs.declared.Frame.{Frame}
-use Rattle.order.specs.declared.Frame.the-variants.{Fast, Indirect}
+use Rattle.ast.specs.declared.Frame.{Frame}
+use Rattle.ast.specs.declared.Frame.the-variants.{Fast, Indirect}
 use Rattle.print.specs.declared.Text.{Text}
 use Rattle.print.specs.declared.Text.the-variants as Text
-use Rattle.routine.specs.Routine.{Told, program-of, told-answer, buffer-after}
-use Rattle.routine.specs.Run.{Made}
+use Rattle.routine.specs.Routine.{Summary, program-of, summary-answer, buffer-after}
+use Rattle.assembler.specs.State.{Lent}
+use Rattle.routine.specs.Run.{RunOutcome, run}
 
 -- document 01's number; 0 where the answer is no refusal
 abbrev pub number : {A : Type 0} → Answer A → ℕ
@@ -25,7 +27,7 @@ frame-number Fast = 0
 frame-number Indirect = 1
 
 -- number, line, length, the constants' offset and count, jump count, frame; 0 what the answer hasn't
-abbrev pub deck-numbers : Answer Told → List ℕ
+abbrev pub deck-numbers : Answer Summary → List ℕ
 deck-numbers (accepted t) = 0 ∷ 0 ∷ t .length ∷ t .offset ∷ t .constants ∷ t .jumps ∷ frame-number (t .frame) ∷ []
 deck-numbers (refused n line) = n ∷ line ∷ 0 ∷ 0 ∷ 0 ∷ 0 ∷ 0 ∷ []
 
@@ -33,17 +35,23 @@ deck-numbers (refused n line) = n ∷ line ∷ 0 ∷ 0 ∷ 0 ∷ 0 ∷ 0 ∷ []
 abbrev pub Deck : (file buf : List ℕ) → (answer : ℕ) → (told after : List ℕ) → Type 0
 Deck file buf answer told after =
     (answer ≡ number (program-of (length buf) file))
-    × (told ≡ deck-numbers (told-answer (program-of (length buf) file)))
+    × (told ≡ deck-numbers (summary-answer (program-of (length buf) file)))
     × (after ≡ buffer-after (program-of (length buf) file) buf)
 
--- What `deck_emit_in` answers and leaves.
-abbrev pub DeckIn : Made → (answer : ℕ) → (told labels jumps buf : List ℕ) → Type 0
-DeckIn m answer told labels jumps buf =
+-- What `deck_emit_in` answers and leaves: what the run makes of the file
+abbrev pub RunTold : RunOutcome → (answer : ℕ) → (told labels jumps buf : List ℕ) → Type 0
+RunTold m answer told labels jumps buf =
     (answer ≡ number (m .answer))
     × (told ≡ deck-numbers (m .answer))
     × (labels ≡ m .state .labels)
     × (jumps ≡ m .state .jumps)
     × (buf ≡ m .state .buf)
+
+-- in lent memory
+abbrev pub DeckIn : (file : List ℕ) → (answer : ℕ) → (told labels jumps buf : Lent) → Type 0
+DeckIn file answer told labels jumps buf =
+    RunTold (run file (now (jumps .entry)) (now (buf .entry))) answer
+    (now (told .exit)) (now (labels .exit)) (now (jumps .exit)) (now (buf .exit))
 
 -- how long a text is that was put; 0 where it was not
 abbrev pub text-number : Text → ℕ

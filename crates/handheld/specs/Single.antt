@@ -2,12 +2,13 @@
 use mathlib.Core.Bool.{not, cond}
 use mathlib.Core.List.{List, [], _∷_}
 use Prim.Native.Nat.{ℕ}
+use denote.Ref.{now}
 use lib.Dec.{leb, eqb}
 use lib.ListN.{getD}
 use Rattle.refusal.specs.Answer.{Answer, accepted, refused}
 use Rattle.refusal.specs.Number.{number-of}
 use Rattle.refusal.specs.declared.Refusal.the-variants.{Value as Valued, Line}
-use Rattle.order.specs.declared.Order.the-variants as Order
+use Rattle.ast.specs.declared.Order.the-variants as Order
 use Rattle.text.specs.declared.Number.{Number}
 use Rattle.text.specs.declared.Number.the-variants.{Value, TooBig}
 use Rattle.form.specs.declared.Form.{Form}
@@ -16,9 +17,9 @@ use Rattle.deck.specs.Judge.{Content, judged}
 use Rattle.deck.specs.Judge as Deck
 use Rattle.assembler.specs.declared.Asm.{Asm}
 use Rattle.assembler.specs.Constant.{constant-fault, constant-items}
-use Rattle.assembler.specs.State.{State, Outcome}
+use Rattle.assembler.specs.State.{State, Outcome, Lent, before}
 use Rattle.assembler.specs.Put.{put}
-use Rattle.finish.specs.Finish.{Ending}
+use Rattle.finish.specs.Finish.{FinishOutcome}
 use Rattle.orders.specs.Emitted.{emitted}
 use Rattle.handheld.specs.Numbers.{number, place}
 use Rattle.handheld.specs.declared.Said.{Said}
@@ -98,24 +99,45 @@ record-after (refused n p) a r = r
 
 -- ---- what is answered and left
 
-pub record Left : Type 0 where
-  pub number : ℕ
-  pub numbers : List ℕ
+pub record SingleOutcome : Type 0 where
+  pub number : ℕ  -- 0, or the refusal's
+  pub numbers : List ℕ  -- the record's three
   pub labels : List ℕ
   pub jumps : List ℕ
   pub buf : List ℕ
 
-abbrev pub left : (number : ℕ) → (numbers labels jumps buf : List ℕ) → Left
-left n r ls js b = record { number = n; numbers = r; labels = ls; jumps = js; buf = b }
+abbrev pub single : (number : ℕ) → (numbers labels jumps buf : List ℕ) → SingleOutcome
+single n r ls js b = record { number = n; numbers = r; labels = ls; jumps = js; buf = b }
 
-abbrev pub order-left : (numbers : List ℕ) → Outcome → Left
-order-left r o =
-    left (number (o .answer)) (record-after (o .answer) (o .state .asm) r) (o .state .labels) (o .state .jumps) (o .state .buf)
+-- of an order or a constant, and of finishing, where the record's numbers were r
+abbrev pub order-result : (r : List ℕ) → Outcome → SingleOutcome
+order-result r o =
+    single (number (o .answer)) (record-after (o .answer) (o .state .asm) r) (o .state .labels) (o .state .jumps) (o .state .buf)
 
-abbrev pub finish-left : (numbers : List ℕ) → Ending → Left
-finish-left r e =
-    left (number (e .answer)) (record-after (e .answer) (e .state .asm) r) (e .state .labels) (e .state .jumps) (e .state .buf)
+abbrev pub finish-result : (r : List ℕ) → FinishOutcome → SingleOutcome
+finish-result r e =
+    single (number (e .answer)) (record-after (e .answer) (e .state .asm) r) (e .state .labels) (e .state .jumps) (e .state .buf)
 
 -- the place of the refusal, and the tag of the jump that it is about
-abbrev pub finish-told : Ending → List ℕ
+abbrev pub finish-told : FinishOutcome → List ℕ
 finish-told e = place (e .answer) ∷ e .tag ∷ []
+
+-- ---- the same in lent memory
+
+-- the state that a function is called in, and what it answers and leaves
+abbrev pub single-before : (rec labels jumps buf : Lent) → State
+single-before rec labels jumps buf = before (asm-of (now (rec .entry))) labels jumps buf
+
+abbrev pub single-after : (number : ℕ) → (rec labels jumps buf : Lent) → SingleOutcome
+single-after n rec labels jumps buf = single n (now (rec .exit)) (now (labels .exit)) (now (jumps .exit)) (now (buf .exit))
+
+-- finishing only reads labels and jumps
+abbrev pub finish-after : (number : ℕ) → (rec labels jumps buf : Lent) → SingleOutcome
+finish-after n rec labels jumps buf = single n (now (rec .exit)) (now (labels .entry)) (now (jumps .entry)) (now (buf .exit))
+
+-- what becomes of an order or a constant, and of finishing
+abbrev pub order-outcome : (State → Outcome) → (rec labels jumps buf : Lent) → SingleOutcome
+order-outcome put rec labels jumps buf = order-result (now (rec .entry)) (put (single-before rec labels jumps buf))
+
+abbrev pub finish-outcome : (rec : Lent) → FinishOutcome → SingleOutcome
+finish-outcome rec e = finish-result (now (rec .entry)) e

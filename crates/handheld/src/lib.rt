@@ -5,31 +5,34 @@ ghost use Prim.Native.Nat.{ℕ};
 ghost use Rattle.refusal.specs.Number.{number-of};
 ghost use Rattle.form.specs.Form.{form-of};
 ghost use Rattle.deck.specs.Judge.{judged};
-ghost use Rattle.assembler.specs.State.{state, outcome, told as told-done};
+ghost use Rattle.assembler.specs.State.{state, outcome, emit-answer, before, after};
 ghost use Rattle.assembler.specs.Put.{put};
 ghost use Rattle.finish.specs.Finish.{finish};
-ghost use Rattle.routine.specs.Told.{told as told-answer};
-ghost use Rattle.routine.specs.Run.{run};
+ghost use Rattle.routine.specs.Answer.{routine-answer};
 ghost use Rattle.print.specs.Text.{length-in, put-in};
-ghost use Rattle.answer.specs.Answer.{deck-text as text-of-deck};
-ghost use Rattle.handheld.specs.Numbers.{number, frame-number as number-of-frame, deck-numbers, Deck, DeckIn, text-number};
-ghost use Rattle.handheld.specs.Single.{field as field-of, constant-of, says as said-by, no-such as no-such-line, line-put, constant-put, asm-of as record-of, numbers-of as record-numbers, record-after, left, order-left, finish-left, finish-told};
+ghost use Rattle.answer.specs.Answer.{deck-text};
+ghost use Rattle.handheld.specs.Numbers.{number, frame-number, deck-numbers, Deck, DeckIn, text-number};
+ghost use Rattle.handheld.specs.Single.{field, constant-of, says, no-such, line-put, constant-put};
+ghost use Rattle.handheld.specs.Single.{asm-of, numbers-of, record-after, order-outcome, finish-outcome, finish-told};
+ghost use Rattle.handheld.specs.Single.{single-before, single-after, finish-after};
 use assembler::Asm;
-use assembler::Done;
+use assembler::EmitResult;
+use assembler::Jumps;
+use assembler::Labels;
+use ast::Constant;
+use ast::Frame;
+use ast::Order;
 use deck::Judged;
 use form::Form;
-use order::Constant;
-use order::Frame;
-use order::Order;
 use print::Text;
 use refusal::Refusal;
-use routine::Answer;
+use routine::RoutineAnswer;
 use text::Number;
 
 // ---- a deck file
 
 fn frame_number(f: Frame) -> u32
-    ensures { λ r. ⌜ r ≡ number-of-frame f ⌝ }
+    ensures { λ r. ⌜ r ≡ frame-number f ⌝ }
 {
     match f {
         Frame::Fast => 0,
@@ -38,27 +41,27 @@ fn frame_number(f: Frame) -> u32
 }
 
 // Number, line, length, the constants' offset and count, jump count, frame.
-fn numbers(a: Answer) -> [u32; 7]
-    ensures { λ r. ⌜ r ≡ deck-numbers (told-answer a) ⌝ }
+fn numbers(a: RoutineAnswer) -> [u32; 7]
+    ensures { λ r. ⌜ r ≡ deck-numbers (routine-answer a) ⌝ }
 {
     match a {
-        Answer::Accepted(length, offset, constants, jumps, frame) => {
+        RoutineAnswer::Accepted(length, offset, constants, jumps, frame) => {
             let f = frame_number(frame);
             [0, 0, length, offset, constants, jumps, f]
         }
-        Answer::Refused(why, line) => {
+        RoutineAnswer::Refused(why, line) => {
             let n = refusal::number(why) as u32;
             [n, line, 0, 0, 0, 0, 0]
         }
     }
 }
 
-fn answer_number(a: Answer) -> u32
-    ensures { λ r. ⌜ r ≡ number (told-answer a) ⌝ }
+fn answer_number(a: RoutineAnswer) -> u32
+    ensures { λ r. ⌜ r ≡ number (routine-answer a) ⌝ }
 {
     match a {
-        Answer::Accepted(_, _, _, _, _) => 0,
-        Answer::Refused(why, _) => refusal::number(why) as u32,
+        RoutineAnswer::Accepted(_, _, _, _, _) => 0,
+        RoutineAnswer::Refused(why, _) => refusal::number(why) as u32,
     }
 }
 
@@ -77,11 +80,11 @@ pub extern "C" fn deck_emit(file: &[u8], buf: &mut [u8], told: &mut [u32; 7]) ->
 pub extern "C" fn deck_emit_in(
     file: &[u8],
     buf: &mut [u8],
-    labels: &mut [u64; 2039],
-    jumps: &mut [u32; 20480],
+    labels: &mut Labels,
+    jumps: &mut Jumps,
     told: &mut [u32; 7],
 ) -> u32
-    ensures { λ r. ⌜ DeckIn (run (now (file .entry)) (now (jumps .entry)) (now (buf .entry))) r (now (told .exit)) (now (labels .exit)) (now (jumps .exit)) (now (buf .exit)) ⌝ }
+    ensures { λ r. ⌜ DeckIn (now (file .entry)) r told labels jumps buf ⌝ }
 {
     let e = routine::routine_in(file, buf, labels, jumps);
     let a = e.answer;
@@ -92,7 +95,8 @@ pub extern "C" fn deck_emit_in(
 // What `deckwords` prints of a file: the text's length, or 0 and nothing written where `out` is too short.
 #[no_mangle]
 pub extern "C" fn deck_text(file: &[u8], out: &mut [u8]) -> usize
-    ensures { λ r. ⌜ (r ≡ text-number (length-in (text-of-deck (now (file .entry))) 0 (now (out .entry)))) × (now (out .exit) ≡ put-in (text-of-deck (now (file .entry))) 0 (now (out .entry))) ⌝ }
+    ensures { λ r. ⌜ (r ≡ text-number (length-in (deck-text (now (file .entry))) 0 (now (out .entry))))
+        × (now (out .exit) ≡ put-in (deck-text (now (file .entry))) 0 (now (out .entry))) ⌝ }
 {
     match answer::deck_text(file, out) {
         Text::Length(n) => n,
@@ -112,7 +116,7 @@ pub enum Said {
 
 // A number in 32 bits; their largest for any larger one, since no field of an order takes that.
 fn field(n: Number) -> u32
-    ensures { λ r. ⌜ r ≡ field-of n ⌝ }
+    ensures { λ r. ⌜ r ≡ field n ⌝ }
 {
     match n {
         Number::Value(v) => {
@@ -139,7 +143,7 @@ fn constant(form: Form) -> Said
 }
 
 fn says(form: Form) -> Said
-    ensures { λ r. ⌜ r ≡ said-by form ⌝ }
+    ensures { λ r. ⌜ r ≡ says form ⌝ }
 {
     match form {
         Form::Unary(u, d, s) => Said::Order(Order::Unary(u, field(d), field(s))),
@@ -165,26 +169,26 @@ fn says(form: Form) -> Said
     }
 }
 
-fn no_such(asm: Asm) -> Done
-    ensures { λ r. ⌜ ((ls js b : List ℕ) → outcome r ls js b ≡ no-such-line (state asm ls js b)) ⌝ }
+fn no_such(asm: Asm) -> EmitResult
+    ensures { λ r. ⌜ ((ls js b : List ℕ) → outcome r ls js b ≡ no-such (state asm ls js b)) ⌝ }
 {
-    Done {
+    EmitResult {
         asm,
         answer: assembler::Answer::Refused(Refusal::Line, 0),
     }
 }
 
 // A float beyond 2^53: 8, or else 2.
-fn too_big(asm: Asm) -> Done
+fn too_big(asm: Asm) -> EmitResult
     ensures { λ r. ⌜ ((ls js b : List ℕ) → outcome r ls js b ≡ put 0 (number-of Refusal.Value) [] (state asm ls js b)) ⌝ }
 {
     if asm.closed {
-        return Done {
+        return EmitResult {
             asm,
             answer: assembler::Answer::Refused(Refusal::Closed, 0),
         };
     }
-    Done {
+    EmitResult {
         asm,
         answer: assembler::Answer::Refused(Refusal::Value, 0),
     }
@@ -195,11 +199,11 @@ fn put_line(
     line: &[u8],
     tag: u32,
     buf: &mut [u8],
-    labels: &mut [u64; 2039],
-    jumps: &mut [u32; 20480],
+    labels: &mut Labels,
+    jumps: &mut Jumps,
     asm: Asm,
-) -> Done
-    ensures { λ r. ⌜ outcome r (now (labels .exit)) (now (jumps .exit)) (now (buf .exit)) ≡ line-put tag (form-of (now (line .entry))) (state asm (now (labels .entry)) (now (jumps .entry)) (now (buf .entry))) ⌝ }
+) -> EmitResult
+    ensures { λ r. ⌜ after r labels jumps buf ≡ line-put tag (form-of (now (line .entry))) (before asm labels jumps buf) ⌝ }
 {
     let said = says(form::read_form(line));
     match said {
@@ -215,11 +219,11 @@ fn put_constant(
     line: &[u8],
     k: u32,
     buf: &mut [u8],
-    labels: &mut [u64; 2039],
-    jumps: &mut [u32; 20480],
+    labels: &mut Labels,
+    jumps: &mut Jumps,
     asm: Asm,
-) -> Done
-    ensures { λ r. ⌜ outcome r (now (labels .exit)) (now (jumps .exit)) (now (buf .exit)) ≡ constant-put k (form-of (now (line .entry))) (state asm (now (labels .entry)) (now (jumps .entry)) (now (buf .entry))) ⌝ }
+) -> EmitResult
+    ensures { λ r. ⌜ after r labels jumps buf ≡ constant-put k (form-of (now (line .entry))) (before asm labels jumps buf) ⌝ }
 {
     let said = says(form::read_form(line));
     match said {
@@ -239,7 +243,7 @@ fn size(n: u64) -> usize
 }
 
 fn asm_of(rec: &[u64; 3]) -> Asm
-    ensures { λ r. ⌜ r ≡ record-of (now (rec .entry)) ⌝ }
+    ensures { λ r. ⌜ r ≡ asm-of (now (rec .entry)) ⌝ }
 {
     Asm {
         len: size(rec[0]),
@@ -249,7 +253,7 @@ fn asm_of(rec: &[u64; 3]) -> Asm
 }
 
 fn numbers_of(asm: Asm) -> [u64; 3]
-    ensures { λ r. ⌜ r ≡ record-numbers asm ⌝ }
+    ensures { λ r. ⌜ r ≡ numbers-of asm ⌝ }
 {
     if asm.closed {
         return [asm.len as u64, asm.jumps as u64, 1];
@@ -258,8 +262,9 @@ fn numbers_of(asm: Asm) -> [u64; 3]
 }
 
 // The answer's number; the record's numbers anew, if it is no refusal.
-fn kept(d: Done, rec: &mut [u64; 3]) -> u32
-    ensures { λ r. ⌜ (r ≡ number (told-done (d .answer))) × (now (rec .exit) ≡ record-after (told-done (d .answer)) (d .asm) (now (rec .entry))) ⌝ }
+fn kept(d: EmitResult, rec: &mut [u64; 3]) -> u32
+    ensures { λ r. ⌜ (r ≡ number (emit-answer (d .answer)))
+        × (now (rec .exit) ≡ record-after (emit-answer (d .answer)) (d .asm) (now (rec .entry))) ⌝ }
 {
     let a = d.answer;
     if let assembler::Answer::Refused(why, _) = a {
@@ -275,11 +280,11 @@ pub extern "C" fn order_emit(
     line: &[u8],
     tag: u32,
     buf: &mut [u8],
-    labels: &mut [u64; 2039],
-    jumps: &mut [u32; 20480],
+    labels: &mut Labels,
+    jumps: &mut Jumps,
     rec: &mut [u64; 3],
 ) -> u32
-    ensures { λ r. ⌜ left r (now (rec .exit)) (now (labels .exit)) (now (jumps .exit)) (now (buf .exit)) ≡ order-left (now (rec .entry)) (line-put tag (form-of (now (line .entry))) (state (record-of (now (rec .entry))) (now (labels .entry)) (now (jumps .entry)) (now (buf .entry)))) ⌝ }
+    ensures { λ r. ⌜ single-after r rec labels jumps buf ≡ order-outcome (line-put tag (form-of (now (line .entry)))) rec labels jumps buf ⌝ }
 {
     let d = put_line(line, tag, buf, labels, jumps, asm_of(rec));
     kept(d, rec)
@@ -291,11 +296,11 @@ pub extern "C" fn order_constant(
     line: &[u8],
     k: u32,
     buf: &mut [u8],
-    labels: &mut [u64; 2039],
-    jumps: &mut [u32; 20480],
+    labels: &mut Labels,
+    jumps: &mut Jumps,
     rec: &mut [u64; 3],
 ) -> u32
-    ensures { λ r. ⌜ left r (now (rec .exit)) (now (labels .exit)) (now (jumps .exit)) (now (buf .exit)) ≡ order-left (now (rec .entry)) (constant-put k (form-of (now (line .entry))) (state (record-of (now (rec .entry))) (now (labels .entry)) (now (jumps .entry)) (now (buf .entry)))) ⌝ }
+    ensures { λ r. ⌜ single-after r rec labels jumps buf ≡ order-outcome (constant-put k (form-of (now (line .entry)))) rec labels jumps buf ⌝ }
 {
     let d = put_constant(line, k, buf, labels, jumps, asm_of(rec));
     kept(d, rec)
@@ -305,12 +310,13 @@ pub extern "C" fn order_constant(
 #[no_mangle]
 pub extern "C" fn order_finish(
     buf: &mut [u8],
-    labels: &[u64; 2039],
-    jumps: &[u32; 20480],
+    labels: &Labels,
+    jumps: &Jumps,
     rec: &mut [u64; 3],
     told: &mut [u32; 2],
 ) -> u32
-    ensures { λ r. ⌜ (left r (now (rec .exit)) (now (labels .entry)) (now (jumps .entry)) (now (buf .exit)) ≡ finish-left (now (rec .entry)) (finish (state (record-of (now (rec .entry))) (now (labels .entry)) (now (jumps .entry)) (now (buf .entry))))) × (now (told .exit) ≡ finish-told (finish (state (record-of (now (rec .entry))) (now (labels .entry)) (now (jumps .entry)) (now (buf .entry))))) ⌝ }
+    ensures { λ r. ⌜ (finish-after r rec labels jumps buf ≡ finish-outcome rec (finish (single-before rec labels jumps buf)))
+        × (now (told .exit) ≡ finish-told (finish (single-before rec labels jumps buf))) ⌝ }
 {
     let f = finish::apply_jumps(buf, labels, jumps, asm_of(rec));
     let a = f.answer;

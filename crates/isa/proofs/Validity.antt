@@ -7,22 +7,9 @@ use native.Mathlib.Omega.{arith}
 use borrow.Author.Tests.{ltb-true, eqb-true, lt-ltb, eq-eqb}
 use lib.Dec.{T}
 use lib.IntN.{pos, negsuc}
-use Rattle.isa.specs.Instr.{Instr, Operand, register, signed, offset, unsigned, rounding, free, fixed, Holds, holds, operands, AllHold, all-hold, registers-hold, Valid, valid}
-
-pub true-T : (b : Bool) → b ≡ true → T b
-true-T true e = tt
-true-T false e = let z : _≡_ {A = ℕ} 0 1 = cc in absurd (omega arith)
-
-pub T-true : (b : Bool) → T b → b ≡ true
-T-true true h = refl
-T-true false h = absurd h
-
-pub both : (a b : Bool) → (a && b) ≡ true → (a ≡ true) × (b ≡ true)
-both true b e = (refl, e)
-both false b e = let z : _≡_ {A = ℕ} 0 1 = cc in absurd (omega arith)
-
-join : (a b : Bool) → a ≡ true → b ≡ true → (a && b) ≡ true
-join a b p q = rw (p, q)
+use Rattle.base.proofs.Bools.{join, both, T-true, true-T}
+use Rattle.isa.specs.Instr.{Instr, Operand, register, signed, offset, unsigned, rounding, free, fixed, Holds, holds, operands, registers-hold, Valid, valid}
+use Rattle.base.specs.Tests.{all, Each}
 
 pub holds-Holds : (o : Operand) → holds o ≡ true → Holds o
 holds-Holds (register r) e = ltb-true _ _ e
@@ -42,13 +29,13 @@ Holds-holds (unsigned w (negsuc n)) h = absurd h
 Holds-holds (rounding free m) h = T-true _ h
 Holds-holds (rounding (fixed n) m) h = eq-eqb _ _ h
 
-all-to : (os : List Operand) → all-hold os ≡ true → AllHold os
+all-to : (os : List Operand) → all holds os ≡ true → Each Holds os
 all-to [] e = tt
-all-to (o ∷ os) e = let q = both (holds o) (all-hold os) e in (holds-Holds o (q .0), all-to os (q .1))
+all-to (o ∷ os) e = let q = both (holds o) (all holds os) e in (holds-Holds o (q .0), all-to os (q .1))
 
-all-from : (os : List Operand) → AllHold os → all-hold os ≡ true
+all-from : (os : List Operand) → Each Holds os → all holds os ≡ true
 all-from [] h = refl
-all-from (o ∷ os) h = join (holds o) (all-hold os) (Holds-holds o (h .0)) (all-from os (h .1))
+all-from (o ∷ os) h = join (holds o) (all holds os) (Holds-holds o (h .0)) (all-from os (h .1))
 
 pub valid-Valid : (i : Instr) → valid i ≡ true → Valid i
 valid-Valid i e = all-to (operands i) e
@@ -56,7 +43,7 @@ valid-Valid i e = all-to (operands i) e
 pub Valid-valid : (i : Instr) → Valid i → valid i ≡ true
 Valid-valid i h = all-from (operands i) h
 
-registers : (os : List Operand) → AllHold os → registers-hold os ≡ true
+registers : (os : List Operand) → Each Holds os → registers-hold os ≡ true
 registers [] h = refl
 registers (register r ∷ os) h = join _ _ (lt-ltb _ _ (h .0)) (registers os (h .1))
 registers (signed w z ∷ os) h = registers os (h .1)

@@ -6,6 +6,7 @@ use Prim.Native.Nat.{ℕ, _-_, _%_, _^_, _<_}
 use lib.Dec.{T, eqb, ltb, leb}
 use lib.IntN.{ℤ, pos, negsuc}
 use lib.Signed.{mag}
+use Rattle.base.specs.Tests.{all, Each}
 use Rattle.isa.specs.Immediate.{twos}
 
 -- ---- operations, by the shape of their operands
@@ -131,19 +132,11 @@ operands (J k rd z) = register rd ∷ offset 21 z ∷ []
 
 -- ---- validity: every operand is in its field
 
-abbrev pub AllHold : List Operand → Type 0
-AllHold [] = Unit {0}
-AllHold (o ∷ os) = Holds o × AllHold os
-
 abbrev pub Valid : Instr → Type 0
-Valid i = AllHold (operands i)
-
-abbrev pub all-hold : List Operand → Bool
-all-hold [] = true
-all-hold (o ∷ os) = holds o && all-hold os
+Valid i = Each Holds (operands i)
 
 abbrev pub valid : Instr → Bool
-valid i = all-hold (operands i)
+valid i = all holds (operands i)
 
 -- Every register operand is in its field.
 abbrev pub registers-hold : List Operand → Bool

@@ -1,3 +1,4 @@
+pub mod Register
 pub mod Immediate
 pub mod Instr
 pub mod Encode

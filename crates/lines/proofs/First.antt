@@ -1,4 +1,4 @@
--- The first line of what is left of a file, from its length alone. Assumes nothing.
+-- The first line of what is left of a file, from its length alone.
 use mathlib.Core.Bool.{Bool, true, false}
 use mathlib.Core.List.{List, [], _∷_}
 use mathlib.Core.Path.{_≡_, refl, ap, sym, subst, _∙_}

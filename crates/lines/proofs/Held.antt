@@ -1,4 +1,4 @@
--- A line reader's machine value, and what it owns: together what its fields own, which can be copied. Assumes nothing.
+-- A line reader's machine value, and what it owns: together what its fields own, which can be copied.
 use mathlib.Core.List.{List, [], _∷_}
 use mathlib.Core.Path.{_≡_}
 use Prim.Native.Nat.{ℕ, _<_, _^_}

@@ -1,9 +1,6 @@
 // Document 01, "The deck file": the line reader, which keeps the bytes of the file together with its position.
 ghost use mathlib.Core.Path.{_≡_};
-ghost use mathlib.Core.List.{_∷_};
-ghost use Prim.Native.Nat.{_+_, _-_, _≤_, _<_};
-ghost use lib.ListN.{length, take, drop};
-ghost use Rattle.text.specs.Lines.{lines-of, first-length};
+ghost use Rattle.text.specs.Lines.{Ends};
 ghost use Rattle.lines.specs.Reader.{behind};
 
 pub struct LineReader<'a> {
@@ -34,8 +31,7 @@ pub fn next_line<'s, 'a>(r: &'s mut LineReader<'a>)
 
 // Behind the line that starts at a, through a reader. It promises what text::line_end does.
 pub fn line_end(file: &[u8], a: usize) -> usize
-    ensures { λ r. ⌜ (r ≡ a + first-length (lines-of (drop a (now (file .entry)))))
-        × (a < length (now (file .entry)) → (a < r) × (r ≤ length (now (file .entry))) × (lines-of (drop a (now (file .entry))) ≡ take (r - a) (drop a (now (file .entry))) ∷ lines-of (drop r (now (file .entry))))) ⌝ }
+    ensures { λ r. ⌜ Ends (now (file .entry)) a r ⌝ }
 {
     let mut r = new(file, a);
     next_line(&mut r);

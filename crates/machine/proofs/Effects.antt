@@ -18,14 +18,6 @@ use Rattle.machine.proofs.Memory.{upd-same, upd-other, upd-twice, load8
 
 -- ---- two tests in one
 
-pub and-l : (a b : Bool) → T (a && b) → T a
-and-l true b h = tt
-and-l false b h = h
-
-pub and-r : (a b : Bool) → T (a && b) → T b
-and-r true b h = h
-and-r false b h = absurd h
-
 -- ---- tests on an effect
 
 -- no jump

@@ -14,7 +14,8 @@ use Rattle.machine.specs.State.{State, Sound, next}
 use Rattle.machine.specs.Effect.{Effect, effect, exec}
 use Rattle.machine.specs.Step.{CodeAt, words, Among, RunIn, execs, Fit}
 use Rattle.machine.specs.Ends.{Ends}
-use Rattle.machine.proofs.Effects.{and-l, and-r, flows, quiet, within, quiet-flows, apply-pc, apply-mem, apply-rm, apply-x}
+use Rattle.machine.proofs.Effects.{flows, quiet, within, quiet-flows, apply-pc, apply-mem, apply-rm, apply-x}
+use Rattle.base.proofs.Bools.{and-l, and-r}
 use Rattle.machine.proofs.Runs.{step-at, no-step, one-more, joined, wider}
 
 -- the next word of straight code is at a multiple of 4 too

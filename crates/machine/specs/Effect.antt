@@ -6,7 +6,11 @@ use lib.Dec.{eqb, ltb}
 use lib.Bits.{bitAnd, bitOr, bitXor}
 use lib.IntN.{ℤ}
 use Rattle.isa.specs.Immediate.{twos}
-use Rattle.isa.specs.Instr.{Instr, R, F, C, M, R4, I, Shift, S, B, U, J, ADD, SUB, SLL, XOR, SRL, SRA, OR, AND, FSGNJ-D, FSGNJN-D, FSGNJX-D, FMIN-D, FMAX-D, FLE-D, FLT-D, FEQ-D, FADD-D, FSUB-D, FMUL-D, FDIV-D, FSQRT-D, FCVT-W-D, FCVT-L-D, FCVT-D-W, FCVT-D-L, FMV-X-D, FMV-D-X, FMADD-D, FMSUB-D, FNMSUB-D, FNMADD-D, ADDI, XORI, ORI, ANDI, JALR, LD, FLD, SLLI, SRLI, SRAI, SD, FSD, BOp, BEQ, BNE, BLT, BGE, BLTU, BGEU, LUI, AUIPC, JAL}
+use Rattle.isa.specs.Instr.{Instr, R, F, C, M, R4, I, Shift, S, B, U, J, ADD, SUB, SLL, XOR, SRL, SRA, OR, AND, FSGNJ-D}
+use Rattle.isa.specs.Instr.{FSGNJN-D, FSGNJX-D, FMIN-D, FMAX-D, FLE-D, FLT-D, FEQ-D, FADD-D, FSUB-D, FMUL-D, FDIV-D, FSQRT-D}
+use Rattle.isa.specs.Instr.{FCVT-W-D, FCVT-L-D, FCVT-D-W, FCVT-D-L, FMV-X-D, FMV-D-X, FMADD-D, FMSUB-D, FNMSUB-D, FNMADD-D}
+use Rattle.isa.specs.Instr.{ADDI, XORI, ORI, ANDI, JALR, LD, FLD, SLLI, SRLI, SRAI, SD, FSD, BOp, BEQ, BNE, BLT, BGE, BLTU}
+use Rattle.isa.specs.Instr.{BGEU, LUI, AUIPC, JAL}
 use Rattle.machine.specs.Word.{w64, sext, upd, load8, store8}
 use Rattle.machine.specs.Floats.{Floats}
 use Rattle.machine.specs.State.{State, getx, setx, next}

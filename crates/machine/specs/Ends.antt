@@ -3,13 +3,14 @@ use mathlib.Core.Path.{_≡_}
 use mathlib.Core.Bool.{Bool, not, _||_}
 use Prim.Native.Nat.{ℕ}
 use lib.Dec.{T, eqb}
+use Rattle.isa.specs.Register.{t0, t1, t2}
 use Rattle.machine.specs.Floats.{Floats}
 use Rattle.machine.specs.State.{State}
 use Rattle.machine.specs.Step.{Among, RunIn}
 
 -- t0, t1 and t2
 unfoldable pub temporary : ℕ → Bool
-temporary r = eqb r 5 || (eqb r 6 || eqb r 7)
+temporary r = eqb r t0 || (eqb r t1 || eqb r t2)
 
 -- From s to t: pc, float registers and memory are as given; the rounding mode and each register outside W are as before.
 pub record Does (W : ℕ → Bool) (s t : State) (pc′ : ℕ) (f′ m′ : ℕ → ℕ) : Type 0 where

@@ -10,8 +10,9 @@ one = 0x3ff0000000000000
 abbrev pub minus-one : ℕ
 minus-one = 0xbff0000000000000
 
--- The first argument of each is the rounding mode (0 nearest even, 1 toward zero, 2 down, 3 up, 4 nearest away), the others are operand bits. The machine
--- cuts each result to its width. A comparison's answer is a Bool, so its register gets 0 or 1. Comparisons, minimum and maximum get the state's mode.
+-- The first argument of each is the rounding mode (0 nearest even, 1 toward zero, 2 down, 3 up, 4 nearest away),
+-- the others are operand bits. The machine cuts each result to its width. A comparison's answer is a Bool,
+-- so its register gets 0 or 1. Comparisons, minimum and maximum get the state's mode.
 pub record Floats : Type 0 where
   pub add : ℕ → ℕ → ℕ → ℕ
   pub sub : ℕ → ℕ → ℕ → ℕ

@@ -7,7 +7,8 @@ use lib.Dec.{eqb, ltb}
 abbrev pub w64 : ℕ → ℕ
 w64 n = n % 2 ^ 64
 
--- The low w bits of n as a signed number, in 64 bits (the Manual's sign extension): n moved up by 2^(w-1), cut to w bits, and moved down again.
+-- The low w bits of n as a signed number, in 64 bits (the Manual's sign extension):
+-- n moved up by 2^(w-1), cut to w bits, and moved down again.
 abbrev pub sext : ℕ → ℕ → ℕ
 sext w n = w64 ((n + 2 ^ (w - 1)) % 2 ^ w + (2 ^ 64 - 2 ^ (w - 1)))
 

@@ -16,14 +16,14 @@ use Rattle.machine.specs.Step.{execs}
 use Rattle.machine.specs.Ends.{temporary}
 use Rattle.machine.proofs.Straight.{straight}
 use Rattle.machine.proofs.Placed.{Valids}
-use Rattle.order.specs.declared.Unary as U
-use Rattle.order.specs.declared.Unary.the-variants.{Fmov, Recip, Round, Floor, Not}
-use Rattle.order.specs.declared.Scratched as S
-use Rattle.order.specs.declared.Scratched.the-variants.{Sign, Frac}
-use Rattle.order.specs.declared.Binary as Bin
-use Rattle.order.specs.declared.Binary.the-variants.{Minus, Times, Divide, Gt, Neq, And, Andnot, Or, Xor}
-use Rattle.order.specs.declared.Fused as Fu
-use Rattle.order.specs.declared.Fused.the-variants.{MulAdd, MulSub, NegMulAdd, NegMulSub}
+use Rattle.ast.specs.declared.Unary as U
+use Rattle.ast.specs.declared.Unary.the-variants.{Fmov, Recip, Round, Floor, Not}
+use Rattle.ast.specs.declared.Scratched as S
+use Rattle.ast.specs.declared.Scratched.the-variants.{Sign, Frac}
+use Rattle.ast.specs.declared.Binary as Bin
+use Rattle.ast.specs.declared.Binary.the-variants.{Minus, Times, Divide, Gt, Neq, And, Andnot, Or, Xor}
+use Rattle.ast.specs.declared.Fused as Fu
+use Rattle.ast.specs.declared.Fused.the-variants.{MulAdd, MulSub, NegMulAdd, NegMulSub}
 use Rattle.assembler.specs.Item.{instr}
 use Rattle.reading.specs.Meaning.{on, unary, scratched, binary, fused}
 use Rattle.orders.specs.Code.{unary-code, scratched-code, binary-code, fused-op}

@@ -4,20 +4,21 @@ use mathlib.Core.List.{[], _∷_}
 use Prim.Native.Nat.{ℕ, _*_}
 use Rattle.machine.specs.Floats.{Floats}
 use Rattle.machine.specs.State.{State}
-use Rattle.order.specs.declared.Order.{Order}
-use Rattle.order.specs.declared.Order.the-variants.{Unary, Scratched, Binary, Fused, Ifelse, LoadConst, Load, Save, BranchIf, SetLabel}
+use Rattle.ast.specs.Constant.{constant-label, last-constant}
+use Rattle.ast.specs.declared.Order.{Order}
+use Rattle.ast.specs.declared.Order.the-variants.{Unary, Scratched, Binary, Fused, Ifelse, LoadConst, Load, Save, BranchIf, SetLabel}
 use Rattle.accesses.specs.Fault.{offset-limit}
 use Rattle.reading.specs.Meaning.{meaning}
-use Rattle.orders.specs.Code.{const-label, code}
-use Rattle.orders.specs.Fault.{last-constant, last-user-label, fault}
-use Rattle.orders.specs.Does.{Placed, At, Does}
+use Rattle.orders.specs.Code.{code}
+use Rattle.orders.specs.Fault.{last-user-label, fault}
+use Rattle.orders.specs.Does.{Placed, At, OrderDoes}
 use Rattle.orders.proofs.Items.{registers-below, checked-below}
 use Rattle.orders.proofs.Arithmetic.{unary-does, scratched-does, binary-does, fused-does}
 use Rattle.orders.proofs.Cells.{load-does, save-does, ifelse-does}
 use Rattle.orders.proofs.Jumps.{const-does, branch-does, label-does}
 
 module _ (Q : Floats) (places : ℕ → ℕ) (g : Placed places) (start here : ℕ) (s : State) where
-  pub by-case : (o : Order) → fault o ≡ 0 → At places start here (code o) s → Does places start Q here o s
+  pub by-case : (o : Order) → fault o ≡ 0 → At places start here (code o) s → OrderDoes places start Q here o s
   unfolding fault code meaning
   by-case (Unary k d a) h o =
       let r = registers-below (d ∷ a ∷ []) h in
@@ -36,7 +37,7 @@ module _ (Q : Floats) (places : ℕ → ℕ) (g : Placed places) (start here : �
       ifelse-does places start here s Q d a b i (r .0 .0) (r .0 .1 .0) (r .0 .1 .1 .0) (r .1) o
   by-case (LoadConst d k) h o =
       let r = checked-below (d ∷ []) k last-constant 8 h in
-      const-does places start here s Q g d (const-label k) (r .0 .0) o
+      const-does places start here s Q g d (constant-label k) (r .0 .0) o
   by-case (Load d p i) h o =
       let r = checked-below (d ∷ []) (8 * i) offset-limit 1 h in
       load-does places start here s Q d p i (r .0 .0) (r .1) o

@@ -17,8 +17,8 @@ use Rattle.machine.specs.Ends.{temporary, Ends}
 use Rattle.machine.proofs.Effects.{setx-other}
 use Rattle.machine.proofs.Memory.{load8-small}
 use Rattle.machine.proofs.Straight.{by-straight, ends-join}
-use Rattle.order.specs.declared.Place.{Place}
-use Rattle.order.specs.declared.Place.the-variants.{Mem, Stack, Param}
+use Rattle.ast.specs.declared.Place.{Place}
+use Rattle.ast.specs.declared.Place.the-variants.{Mem, Stack, Param}
 use Rattle.assembler.specs.Item.{instr}
 use Rattle.accesses.specs.Code.{near-one, load-float-code, save-float-code, load-int-code}
 use Rattle.accesses.specs.Fault.{offset-limit, one-fault}

@@ -5,13 +5,13 @@ use mathlib.Core.List.{List, [], _∷_, map}
 use Prim.Native.Nat.{ℕ}
 use lib.ListN.{length}
 use Rattle.isa.specs.Encode.{encode, join, fields}
-use Rattle.order.specs.declared.Place.the-variants.{Mem, Stack, Param}
-use Rattle.order.specs.declared.Unary.the-variants.{Fmov, Recip}
-use Rattle.order.specs.declared.Scratched.the-variants.{Sign}
-use Rattle.order.specs.declared.Binary.the-variants.{Xor}
-use Rattle.order.specs.declared.Fused.the-variants.{MulAdd}
-use Rattle.order.specs.declared.Order.{Order}
-use Rattle.order.specs.declared.Order.the-variants.{Unary, Scratched, Binary, Fused, Ifelse, LoadConst, Load, Save, BranchIf, SetLabel}
+use Rattle.ast.specs.declared.Place.the-variants.{Mem, Stack, Param}
+use Rattle.ast.specs.declared.Unary.the-variants.{Fmov, Recip}
+use Rattle.ast.specs.declared.Scratched.the-variants.{Sign}
+use Rattle.ast.specs.declared.Binary.the-variants.{Xor}
+use Rattle.ast.specs.declared.Fused.the-variants.{MulAdd}
+use Rattle.ast.specs.declared.Order.{Order}
+use Rattle.ast.specs.declared.Order.the-variants.{Unary, Scratched, Binary, Fused, Ifelse, LoadConst, Load, Save, BranchIf, SetLabel}
 use Rattle.assembler.specs.Resolved.{resolved}
 use Rattle.accesses.specs.Code.{li-code, point-code, access-code}
 use Rattle.orders.specs.Code.{unary-code, scratched-code, binary-code, code}
@@ -36,7 +36,9 @@ abbrev order-words : Order → List ℕ
 order-words o = resolved (λ l. 2056) 8 (code o)
 
 -- fa0 from mem, stack and param; recip of fa1; sign of fa0 with scratch fa1; a constant; a branch
-pub order-table : map order-words (Load 10 Mem 0 ∷ Load 10 Stack 0 ∷ Load 10 Param 0 ∷ Unary Recip 12 11 ∷ Scratched Sign 12 10 11 ∷ LoadConst 10 0 ∷ BranchIf 10 0 true ∷ []) ≡ (0x0004b507 ∷ []) ∷ (0x000ab507 ∷ []) ∷ (0x000a3507 ∷ []) ∷ (0x00100293 ∷ 0xd2028553 ∷ 0x1ab57653 ∷ []) ∷ (0xf20005d3 ∷ 0xa2a592d3 ∷ 0xa2b51353 ∷ 0x406282b3 ∷ 0xd2028653 ∷ []) ∷ (0x00001297 ∷ 0x8002b507 ∷ []) ∷ (0xe20502d3 ∷ 0x00028663 ∷ 0x00000297 ∷ 0x7f828067 ∷ []) ∷ []
+pub order-table : map order-words (Load 10 Mem 0 ∷ Load 10 Stack 0 ∷ Load 10 Param 0 ∷ Unary Recip 12 11 ∷ Scratched Sign 12 10 11 ∷ LoadConst 10 0 ∷ BranchIf 10 0 true ∷ [])
+    ≡ (0x0004b507 ∷ []) ∷ (0x000ab507 ∷ []) ∷ (0x000a3507 ∷ []) ∷ (0x00100293 ∷ 0xd2028553 ∷ 0x1ab57653 ∷ [])
+    ∷ (0xf20005d3 ∷ 0xa2a592d3 ∷ 0xa2b51353 ∷ 0x406282b3 ∷ 0xd2028653 ∷ []) ∷ (0x00001297 ∷ 0x8002b507 ∷ []) ∷ (0xe20502d3 ∷ 0x00028663 ∷ 0x00000297 ∷ 0x7f828067 ∷ []) ∷ []
 unfolding resolved code unary-code scratched-code access-code encode join fields
 order-table = refl
 

@@ -14,17 +14,17 @@ use Rattle.machine.specs.Floats.{Floats}
 use Rattle.machine.specs.State.{State}
 use Rattle.machine.specs.Step.{execs}
 use Rattle.machine.specs.Ends.{temporary, Ends}
-use Rattle.machine.proofs.Effects.{and-l, and-r}
+use Rattle.base.proofs.Bools.{and-l, and-r, passed}
 use Rattle.machine.proofs.Straight.{straight, by-straight}
 use Rattle.machine.proofs.Placed.{Valids}
 use Rattle.assembler.specs.Item.{Item, instr}
 use Rattle.assembler.specs.Resolved.{resolved}
 pub use Rattle.assembler.proofs.Items.{resolved-instrs}
 use Rattle.accesses.specs.Stands.{Stands}
-use Rattle.accesses.proofs.Then.{passed, fits}
+use Rattle.accesses.proofs.Then.{fits}
 use Rattle.reading.specs.Meaning.{on}
 use Rattle.orders.specs.Code.{resolve}
-use Rattle.orders.specs.Fault.{registers-fit, checked}
+use Rattle.ast.specs.Uses.{registers-fit}
 use Rattle.orders.specs.Does.{At, Done}
 
 -- ---- instructions as items
@@ -50,7 +50,7 @@ below (r ∷ rs) h = (ltb→lt r 32 (and-l (ltb r 32) (registers-fit rs) h), bel
 pub registers-below : (rs : List ℕ) → _≡_ {A = ℕ} (cond (registers-fit rs) 0 1) 0 → Below rs
 registers-below rs e = below rs ((passed (registers-fit rs) 0 0 e) .0)
 
-pub checked-below : (rs : List ℕ) (n last k : ℕ) → checked rs n last (suc k) ≡ 0 → Below rs × (n ≤ last)
+pub checked-below : (rs : List ℕ) (n last k : ℕ) → _≡_ {A = ℕ} (cond (registers-fit rs) (cond (leb n last) 0 (suc k)) 1) 0 → Below rs × (n ≤ last)
 checked-below rs n last k e =
     let p = passed (registers-fit rs) _ _ e in
     (below rs (p .0), leb→le n last ((passed (leb n last) 0 k (p .1)) .0))

@@ -19,7 +19,7 @@ use Rattle.machine.proofs.Straight.{at-first, by-straight, by-path}
 use Rattle.machine.proofs.Placed.{Valids}
 use Rattle.assembler.specs.Item.{Item, instr, jump, label}
 use Rattle.assembler.specs.Resolved.{resolved}
-use Rattle.assembler.specs.declared.Kind.the-variants.{Auipc, Jalr, Fld}
+use Rattle.assembler.specs.declared.JumpKind.the-variants.{Auipc, Jalr, Fld}
 use Rattle.accesses.proofs.Parts.{pair-reaches}
 use Rattle.accesses.proofs.Then.{fits}
 use Rattle.reading.specs.Meaning.{on, to, jumps}

@@ -10,24 +10,26 @@ use lib.ListN.{length, length-append}
 use Rattle.isa.specs.Instr.{Instr, M, R, R4, I, S, LD, FLD, FSD, FSGNJ-D, FMV-X-D, FMV-D-X, XOR}
 use Rattle.machine.specs.Step.{words}
 use Rattle.machine.proofs.Placed.{Valids}
-use Rattle.order.specs.declared.Order.{Order}
-use Rattle.order.specs.declared.Order.the-variants.{Unary, Scratched, Binary, Fused, Ifelse, LoadConst, Load, Save, BranchIf, SetLabel}
-use Rattle.order.specs.declared.Place.the-variants.{Stack}
-use Rattle.order.specs.declared.Unary as U
-use Rattle.order.specs.declared.Unary.the-variants.{Fmov, Recip, Round, Floor, Not}
-use Rattle.order.specs.declared.Scratched as Sc
-use Rattle.order.specs.declared.Scratched.the-variants.{Sign, Frac}
-use Rattle.order.specs.declared.Binary as Bin
-use Rattle.order.specs.declared.Binary.the-variants.{Minus, Times, Divide, Gt, Neq, And, Andnot, Or, Xor}
+use Rattle.ast.specs.Constant.{constant-label, last-constant}
+use Rattle.ast.specs.declared.Order.{Order}
+use Rattle.ast.specs.declared.Order.the-variants.{Unary, Scratched, Binary, Fused, Ifelse, LoadConst, Load, Save, BranchIf, SetLabel}
+use Rattle.ast.specs.declared.Place.the-variants.{Stack}
+use Rattle.ast.specs.declared.Unary as U
+use Rattle.ast.specs.declared.Unary.the-variants.{Fmov, Recip, Round, Floor, Not}
+use Rattle.ast.specs.declared.Scratched as Sc
+use Rattle.ast.specs.declared.Scratched.the-variants.{Sign, Frac}
+use Rattle.ast.specs.declared.Binary as Bin
+use Rattle.ast.specs.declared.Binary.the-variants.{Minus, Times, Divide, Gt, Neq, And, Andnot, Or, Xor}
 use Rattle.assembler.specs.Item.{instr}
 use Rattle.assembler.specs.Resolved.{resolved}
 use Rattle.accesses.specs.Code.{near-one, load-float-code, save-float-code, load-int-code}
 use Rattle.accesses.specs.Fault.{offset-limit}
 use Rattle.accesses.proofs.Then.{valids-join}
 use Rattle.accesses.proofs.Runs.{access-length, load-float-valid, save-float-valid, load-int-valid}
-use Rattle.reading.specs.Line.{Line, order, constant, order-weight, weight}
-use Rattle.orders.specs.Code.{base, unary-code, scratched-code, binary-code, fused-op, choose-code, const-label, skip, code, line-code, resolve}
-use Rattle.orders.specs.Fault.{fault, last-constant, last-user-label}
+use Rattle.reading.specs.Line.{Line, order, constant, weight}
+use Rattle.ast.specs.Uses.{order-weight}
+use Rattle.orders.specs.Code.{base, unary-code, scratched-code, binary-code, fused-op, choose-code, skip, code, line-code, resolve}
+use Rattle.orders.specs.Fault.{fault, last-user-label}
 use Rattle.orders.proofs.Items.{resolve-instrs, resolved-instrs, resolved-length, registers-below, checked-below}
 use Rattle.orders.proofs.Arithmetic.{unary-valid, scratched-valid, binary-valid}
 use Rattle.orders.proofs.Cells.{cell-accepted}
@@ -78,7 +80,7 @@ module _ (places : ℕ → ℕ) (here : ℕ) where
       (valids-join is (choose-code d a b) (load-int-valid 5 (base Stack) (8 * i) (cell-accepted 5 Stack (8 * i) (omega arith) (r .1))) (omega arith))
   code-valid (LoadConst d k) h =
       let r = checked-below (d ∷ []) k last-constant 8 h in
-      const-valid places here d (const-label k) (r .0 .0)
+      const-valid places here d (constant-label k) (r .0 .0)
   code-valid (Load d p i) h =
       let r = checked-below (d ∷ []) (8 * i) offset-limit 1 h in
       instrs-valid (load-float-code d (base p) (8 * i)) (load-float-valid d (base p) (8 * i) (cell-accepted d p (8 * i) (r .0 .0) (r .1)))

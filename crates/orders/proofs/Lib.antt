@@ -8,5 +8,4 @@ pub mod Does
 pub mod Laws
 pub mod Whole
 pub mod Examples
-pub mod ReadBack
 pub mod Wrote

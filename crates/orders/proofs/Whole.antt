@@ -1,39 +1,56 @@
--- An order placed whole: its plan's words are those of its items, and a refusal asks nothing of them. Assumes nothing.
-use mathlib.Core.Path.{_≡_, refl, sym, ap, ap₂, _∙_}
-use mathlib.Core.Bool.{Bool, true, false}
+-- An order placed whole: asked for, its instructions written, then the jumps behind them; or refused. Assumes nothing.
+use mathlib.Core.Path.{_≡_, refl, sym, ap, ap₂, subst, _∙_}
+use mathlib.Core.Bool.{Bool, true, false, _&&_, cond}
 use mathlib.Core.List.{List, [], _∷_, _++_, map, append-nil}
-use Prim.Native.Nat.{ℕ, _+_, _*_, _≤_, _<_}
+use mathlib.Core.Option.{Option, some, none}
+use Prim.Native.Nat.{ℕ, zero, suc, _+_, _*_, _%_, _≤_, _<_}
+use native.Mathlib.Nat.{zero-add}
 use native.Mathlib.Omega.{arith}
-use borrow.Author.Tests.{lt-ltb, le-leb, lt-leb, leb-true, leb-false}
-use lib.Dec.{leb}
-use lib.IntN.{pos}
-use lib.ListN.{length}
-use Rattle.isa.specs.Instr.{Instr, M, R4, B, FMV-X-D}
+use borrow.Author.Tests.{lt-ltb, le-leb, lt-leb, leb-true, leb-false, eq-eqb, eqb-true}
+use lib.Dec.{T, leb, eqb, leb→le}
+use lib.ListN.{length, length-append, length-map, getD}
+use Rattle.isa.specs.Instr.{Instr}
+use Rattle.isa.specs.Encode.{encode}
 use Rattle.machine.proofs.Placed.{Valids}
-use Rattle.assembler.specs.Item.{Item, instr, raw, jump, label}
-use Rattle.assembler.specs.State.{State}
-use Rattle.assembler.specs.Put.{place, placed, put}
-use Rattle.assembler.specs.Plan.{label-fault, jump-fault, tail-items, tail-fault, plan-items, plan-fault}
+use Rattle.refusal.specs.Answer.{Answer, accepted, refused}
+use Rattle.refusal.specs.declared.Refusal.the-variants.{Count, Unsaved}
+use Rattle.assembler.specs.Bytes.{room}
+use Rattle.assembler.specs.Item.{Item, instr, raw, label}
+use Rattle.assembler.specs.State.{State, Outcome, state, sound, fits}
+use Rattle.assembler.specs.Put.{words, jumps, labels, twice, place, placed, verdict, put-number, settled, put}
+use Rattle.assembler.specs.Plan.{earlier, fault-number, label-fault, jump-fault, tail-items, tail-fault, plan-items, plan-fault, no-words}
 use Rattle.assembler.specs.Resolved.{resolved}
+use Rattle.assembler.specs.declared.Asm.{Asm}
+use Rattle.assembler.specs.declared.Fault.{Fault}
 use Rattle.assembler.specs.declared.Plan.{Plan}
 use Rattle.assembler.specs.declared.Tail.{Tail}
-use Rattle.assembler.specs.declared.Tail.the-variants.{Nothing}
-use Rattle.assembler.proofs.Plans.{put-fault, put-same}
-use Rattle.accesses.specs.Code.{load-float-code, save-float-code, load-int-code}
+use Rattle.assembler.proofs.Checks.{v-good}
+use Rattle.assembler.proofs.Items.{with-words, placed-append, placed-raw, words-append, jumps-append, labels-append, words-raw, jumps-raw, labels-raw, words-tail, jumps-tail, labels-tail}
+use Rattle.assembler.proofs.Plans.{put-fault, put-same, earlier-none}
+use Rattle.assembler.proofs.Steps.{put-done}
+use Rattle.assembler.proofs.Writes.{length-written}
 use Rattle.accesses.specs.Fault.{offset-limit}
-use Rattle.accesses.specs.Plans.{Built}
-use Rattle.accesses.proofs.Collect.{AllValid}
-use Rattle.order.specs.declared.Place.the-variants.{Stack}
-use Rattle.order.specs.declared.Order.{Order}
-use Rattle.order.specs.declared.Order.the-variants.{Unary, Scratched, Binary, Fused, Ifelse, LoadConst, Load, Save, BranchIf, SetLabel}
-use Rattle.reading.specs.Line.{order-weight}
-use Rattle.orders.specs.Code.{base, unary-code, scratched-code, binary-code, fused-op, choose-code, skip, code, resolve}
-use Rattle.orders.specs.Fault.{fault, last-constant, last-user-label}
-use Rattle.orders.specs.Parts.{instrs-of}
-use Rattle.orders.proofs.Items.{checked-below}
+use Rattle.base.proofs.Bools.{passed}
+use Rattle.ast.specs.Uses.{uses, padded, index-holds, saves-hold, sets, weighs, order-weight, registers-fit}
+use Rattle.ast.specs.declared.Operand.{Operand}
+use Rattle.ast.specs.declared.Operand.the-variants.{Nothing, Loaded, Stored, Constant, GoneTo, Set}
+use Rattle.ast.specs.declared.View.{View}
+use Rattle.ast.specs.declared.Head.{Head}
+use Rattle.ast.specs.declared.Order.{Order}
+use Rattle.ast.specs.declared.Order.the-variants.{Unary, Scratched, Binary, Fused, Ifelse, LoadConst, Load, Save, BranchIf, SetLabel}
+use Rattle.orders.specs.Code.{code, resolve}
+use Rattle.orders.specs.Emitted.{emitted, turned-down, emitted-in}
+use Rattle.orders.specs.Fault.{operand-fault, fault, last-user-label}
+use Rattle.ast.specs.Constant.{last-constant}
+use Rattle.orders.specs.Parts.{instrs, rest-items, behind-operand, rest-of, rest-fault}
+use Rattle.orders.specs.declared.Rest.{Rest}
+use Rattle.orders.specs.declared.Rest.the-variants.{Jumps, Label}
+use Rattle.orders.specs.Wrote.{word, Puts}
+use Rattle.orders.proofs.Wrote.{words-valid}
+use Rattle.orders.proofs.Items.{below}
 use Rattle.orders.proofs.Laws.{code-valid, code-length}
 
--- ---- a refusal
+-- ---- refusals
 
 -- eight times an index
 pub cell-limit : (i : ℕ) → leb i 0xFFFFEFF ≡ leb (8 * i) offset-limit
@@ -43,42 +60,52 @@ cell-limit i = by (leb i 0xFFFFEFF) refl
     by true e = let l : i ≤ 0xFFFFEFF = leb-true i 0xFFFFEFF e in sym (le-leb (8 * i) offset-limit (omega arith))
     by false e = let l : 0xFFFFEFF < i = leb-false i 0xFFFFEFF e in sym (lt-leb (8 * i) offset-limit (omega arith))
 
-pub order-refused : (o : Order) (tag : ℕ) (s : State) (p : Plan) (k : ℕ) → k ≡ fault o → (k ≡ 0 → ⊥) → plan-fault p Nothing ≡ k → put tag (plan-fault p Nothing) (plan-items p Nothing) s ≡ put tag (fault o) (code o) s
-order-refused o tag s p k e h g =
-    ap (λ (f : ℕ). put tag f (plan-items p Nothing) s) g
-    ∙ put-fault tag tag k (plan-items p Nothing) (code o) s h
-    ∙ ap (λ (f : ℕ). put tag f (code o) s) e
-
--- what an order that is not refused has
-abbrev pub Taken : Order → Type 0
-Taken (Unary k d s) = Unit {0}
-Taken (Scratched k d s t) = Unit {0}
-Taken (Binary k d a b) = Unit {0}
-Taken (Fused k d a b c) = Unit {0}
-Taken (Ifelse d a b i) = 8 * i ≤ offset-limit
-Taken (LoadConst d k) = (d < 32) × (k ≤ last-constant)
-Taken (Load d p i) = 8 * i ≤ offset-limit
-Taken (Save s p i) = 8 * i ≤ offset-limit
-Taken (BranchIf c l e) = l ≤ last-user-label
-Taken (SetLabel l) = l ≤ last-user-label
-
-pub taken : (o : Order) → fault o ≡ 0 → Taken o
+-- by the view that the code has
+pub fault-right : (o : Order) (u : View) {t : Bool} {f : ℕ} → t ≡ registers-fit (uses o .registers) → t ≡ true → u ≡ padded (uses o) → f ≡ operand-fault (u .operand) → f ≡ fault o
 unfolding fault
-taken (Unary k d s) h = tt
-taken (Scratched k d s t) h = tt
-taken (Binary k d a b) h = tt
-taken (Fused k d a b c) h = tt
-taken (Ifelse d a b i) h = (checked-below (d ∷ a ∷ b ∷ []) (8 * i) offset-limit 1 h) .1
-taken (LoadConst d k) h = let r = checked-below (d ∷ []) k last-constant 8 h in (r .0 .0, r .1)
-taken (Load d p i) h = (checked-below (d ∷ []) (8 * i) offset-limit 1 h) .1
-taken (Save s p i) h = (checked-below (s ∷ []) (8 * i) offset-limit 1 h) .1
-taken (BranchIf c l e) h = (checked-below (c ∷ []) l last-user-label 2 h) .1
-taken (SetLabel l) h = (checked-below [] l last-user-label 2 h) .1
+fault-right o u r t e h = rw (sym r ∙ t) (h ∙ ap (λ (v : View). operand-fault (v .operand)) e)
+
+pub fault-registers : (o : Order) {t : Bool} → t ≡ registers-fit (uses o .registers) → t ≡ false → 1 ≡ fault o
+unfolding fault
+fault-registers o r t = rw (sym r ∙ t)
+
+pub rest-view : (o : Order) (u : View) {x : Operand} → u ≡ padded (uses o) → u .operand ≡ x → behind-operand x (u .a) ≡ rest-of o
+rest-view o u e h = ap (λ (x : Operand). behind-operand x (u .a)) (sym h) ∙ ap (λ (v : View). behind-operand (v .operand) (v .a)) e
+
+-- the operand of an order that is not refused
+abbrev pub Small : Operand → Type 0
+Small Nothing = Unit {0}
+Small (Loaded p i) = 8 * i ≤ offset-limit
+Small (Stored p i) = 8 * i ≤ offset-limit
+Small (Constant k) = k ≤ last-constant
+Small (GoneTo l) = l ≤ last-user-label
+Small (Set l) = l ≤ last-user-label
+
+within : (n last k : ℕ) → _≡_ {A = ℕ} (cond (leb n last) 0 (suc k)) 0 → n ≤ last
+within n last k h = leb→le n last ((passed (leb n last) 0 k h) .0)
+
+small : (x : Operand) → operand-fault x ≡ 0 → Small x
+small Nothing h = tt
+small (Loaded p i) h = within (8 * i) offset-limit 1 h
+small (Stored p i) h = within (8 * i) offset-limit 1 h
+small (Constant k) h = within k last-constant 8 h
+small (GoneTo l) h = within l last-user-label 2 h
+small (Set l) h = within l last-user-label 2 h
+
+operands-fit : (o : Order) → fault o ≡ 0 → T (registers-fit (uses o .registers)) × (operand-fault (uses o .operand) ≡ 0)
+unfolding fault
+operands-fit o h = passed (registers-fit (uses o .registers)) _ _ h
+
+pub order-small : (o : Order) {x : Operand} → fault o ≡ 0 → uses o .operand ≡ x → Small x
+order-small o {x} h e = small x (ap operand-fault (sym e) ∙ (operands-fit o h) .1)
 
 pub const-fits : (d k : ℕ) → (d < 32) × (k ≤ last-constant) → jump-fault (1024 + k) d ≡ 0
 const-fits d k h =
     let l : 1024 + k < 2039 = omega (arith, h .1) in
     rw (lt-ltb d 32 (h .0), lt-ltb (1024 + k) 2039 l)
+
+pub const-small : (o : Order) (u : View) {k : ℕ} → fault o ≡ 0 → u ≡ padded (uses o) → u .operand ≡ Constant k → k ≤ last-constant
+const-small o u {k} h e x = order-small o {x = Constant k} h (sym (ap (λ (v : View). v .operand) e) ∙ x)
 
 pub label-fits : (l : ℕ) → l ≤ last-user-label → label-fault l ≡ 0
 label-fits l h = rw (lt-ltb l 2039 (omega arith))
@@ -88,119 +115,230 @@ pub put-label : (t u f l : ℕ) (s : State) → put t f (label l ∷ []) s ≡ p
 unfolding put placed place
 put-label t u f l s = refl
 
--- ---- the instructions among items
+-- ---- the instructions of an order, and what stands behind them
 
-instrs-alone : (is : List Instr) → instrs-of (map instr is) ≡ is
-unfolding instrs-of
-instrs-alone [] = refl
-instrs-alone (i ∷ is) = ap (λ (l : List Instr). i ∷ l) (instrs-alone is)
-
--- an order's instructions, by its shape
-abbrev pub instrs : Order → List Instr
-instrs (Unary k d s) = unary-code k d s
-instrs (Scratched k d s t) = scratched-code k d s t
-instrs (Binary k d a b) = binary-code k d a b
-instrs (Fused k d a b c) = R4 (fused-op k) d a b c 7 ∷ []
-instrs (Ifelse d a b i) = load-int-code 5 (base Stack) (8 * i) ++ choose-code d a b
-instrs (LoadConst d k) = []
-instrs (Load d p i) = load-float-code d (base p) (8 * i)
-instrs (Save s p i) = save-float-code s (base p) (8 * i)
-instrs (BranchIf c l e) = M FMV-X-D 5 c ∷ B (skip e) 5 0 (pos 12) ∷ []
-instrs (SetLabel l) = []
-
-pub instrs-right : (o : Order) → instrs o ≡ instrs-of (code o)
-unfolding code instrs-of
-instrs-right (Unary k d s) = sym (instrs-alone (unary-code k d s))
-instrs-right (Scratched k d s t) = sym (instrs-alone (scratched-code k d s t))
-instrs-right (Binary k d a b) = sym (instrs-alone (binary-code k d a b))
-instrs-right (Fused k d a b c) = refl
-instrs-right (Ifelse d a b i) = sym (instrs-alone (load-int-code 5 (base Stack) (8 * i) ++ choose-code d a b))
-instrs-right (LoadConst d k) = refl
-instrs-right (Load d p i) = sym (instrs-alone (load-float-code d (base p) (8 * i)))
-instrs-right (Save s p i) = sym (instrs-alone (save-float-code s (base p) (8 * i)))
-instrs-right (BranchIf c l e) = refl
-instrs-right (SetLabel l) = refl
-
--- orders of instructions alone
-abbrev pub Straight : Order → Type 0
-Straight (Unary k d s) = Unit {0}
-Straight (Scratched k d s t) = Unit {0}
-Straight (Binary k d a b) = Unit {0}
-Straight (Fused k d a b c) = Unit {0}
-Straight (Ifelse d a b i) = Unit {0}
-Straight (LoadConst d k) = ⊥
-Straight (Load d p i) = Unit {0}
-Straight (Save s p i) = Unit {0}
-Straight (BranchIf c l e) = ⊥
-Straight (SetLabel l) = ⊥
-
-straight-code : (o : Order) → Straight o → code o ≡ map instr (instrs o)
+pub rest-right : (o : Order) → code o ≡ map instr (instrs o) ++ rest-items (rest-of o)
 unfolding code
-straight-code (Unary k d s) h = refl
-straight-code (Scratched k d s t) h = refl
-straight-code (Binary k d a b) h = refl
-straight-code (Fused k d a b c) h = refl
-straight-code (Ifelse d a b i) h = refl
-straight-code (LoadConst d k) h = absurd h
-straight-code (Load d p i) h = refl
-straight-code (Save s p i) h = refl
-straight-code (BranchIf c l e) h = absurd h
-straight-code (SetLabel l) h = absurd h
+rest-right (Unary k d s) = sym (append-nil _)
+rest-right (Scratched k d s t) = sym (append-nil _)
+rest-right (Binary k d a b) = sym (append-nil _)
+rest-right (Fused k d a b c) = refl
+rest-right (Ifelse d a b i) = sym (append-nil _)
+rest-right (LoadConst d k) = refl
+rest-right (Load d p i) = sym (append-nil _)
+rest-right (Save s p i) = sym (append-nil _)
+rest-right (BranchIf c l e) = refl
+rest-right (SetLabel l) = refl
 
-pub alone : (o p : Order) → o ≡ p → Straight p → code o ≡ map instr (instrs-of (code o))
-alone o p e h = rw e (straight-code p h ∙ ap (map instr) (instrs-right p))
+-- a label has no instructions
+abbrev pub Alone : Rest → List Instr → Type 0
+Alone (Jumps t) is = Unit {0}
+Alone (Label l) is = is ≡ []
 
-pub no-tail : (o p : Order) → o ≡ p → Straight p → code o ≡ map instr (instrs-of (code o)) ++ []
-no-tail o p e h = rw append-nil (alone o p e h)
+rest-alone : (o : Order) → Alone (rest-of o) (instrs o)
+rest-alone (Unary k d s) = tt
+rest-alone (Scratched k d s t) = tt
+rest-alone (Binary k d a b) = tt
+rest-alone (Fused k d a b c) = tt
+rest-alone (Ifelse d a b i) = tt
+rest-alone (LoadConst d k) = tt
+rest-alone (Load d p i) = tt
+rest-alone (Save s p i) = tt
+rest-alone (BranchIf c l e) = tt
+rest-alone (SetLabel l) = refl
 
-module _ (places : ℕ → ℕ) where
-  instrs-valid : (here : ℕ) (is : List Item) → Valids (resolve places here is) → AllValid (instrs-of is)
-  unfolding resolve instrs-of
-  instrs-valid here [] v = tt
-  instrs-valid here (instr i ∷ is) v = (v .0, instrs-valid (here + 4) is (v .1))
-  instrs-valid here (raw w ∷ is) v = instrs-valid (here + 4) is v
-  instrs-valid here (jump k l r ∷ is) v = instrs-valid (here + 4) is (v .1)
-  instrs-valid here (label l ∷ is) v = instrs-valid here is v
+first-below : (rs : List ℕ) → T (registers-fit rs) → getD rs 0 0 < 32
+first-below [] h = omega arith
+first-below (r ∷ rs) h = (below (r ∷ rs) h) .0
 
-  instrs-length : (here : ℕ) (is : List Item) → length (instrs-of is) ≤ length (resolved places here is)
-  unfolding resolved instrs-of
-  instrs-length here [] = omega arith
-  instrs-length here (instr i ∷ is) = omega (arith, instrs-length (here + 4) is)
-  instrs-length here (raw w ∷ is) = omega (arith, instrs-length (here + 4) is)
-  instrs-length here (jump k l r ∷ is) = omega (arith, instrs-length (here + 4) is)
-  instrs-length here (label l ∷ is) = instrs-length here is
+behind-fits : (x : Operand) (d : ℕ) → d < 32 → Small x → rest-fault (behind-operand x d) ≡ 0
+behind-fits Nothing d h s = refl
+behind-fits (Loaded p i) d h s = refl
+behind-fits (Stored p i) d h s = refl
+behind-fits (Constant k) d h s = const-fits d k (h, s)
+behind-fits (GoneTo l) d h s = label-fits l s
+behind-fits (Set l) d h s = label-fits l s
 
-light : (o : Order) → order-weight o ≤ 1
-light (Unary k d s) = omega arith
-light (Scratched k d s t) = omega arith
-light (Binary k d a b) = omega arith
-light (Fused k d a b c) = omega arith
-light (Ifelse d a b i) = omega arith
-light (LoadConst d k) = omega arith
-light (Load d p i) = omega arith
-light (Save s p i) = omega arith
-light (BranchIf c l e) = omega arith
-light (SetLabel l) = omega arith
+rest-fits : (o : Order) → fault o ≡ 0 → rest-fault (rest-of o) ≡ 0
+rest-fits o h =
+    let p = operands-fit o h in
+    behind-fits (uses o .operand) _ (first-below (uses o .registers) (p .0)) (small (uses o .operand) (p .1))
 
-pub order-short : (o : Order) → length (instrs-of (code o)) ≤ 11
+-- the first of items
+module _ (places : ℕ → ℕ) (js : List Item) where
+  front-valid : (here : ℕ) (is : List Instr) → Valids (resolve places here (map instr is ++ js)) → Valids is
+  unfolding resolve
+  front-valid here [] v = tt
+  front-valid here (i ∷ is) v = (v .0, front-valid (here + 4) is (v .1))
+
+  front-length : (here : ℕ) (is : List Instr) → length is ≤ length (resolved places here (map instr is ++ js))
+  unfolding resolved
+  front-length here [] = omega arith
+  front-length here (i ∷ is) = omega (arith, front-length (here + 4) is)
+
+nowhere : ℕ → ℕ
+nowhere l = 0
+
+pub order-valid : (o : Order) → fault o ≡ 0 → Valids (instrs o)
+order-valid o z =
+    front-valid nowhere (rest-items (rest-of o)) 0 (instrs o)
+    (subst (λ (is : List Item). Valids (resolve nowhere 0 is)) (rest-right o) (code-valid nowhere 0 o z))
+
+light : (s : Option ℕ) → weighs s ≤ 1
+light none = omega arith
+light (some l) = omega arith
+
+pub order-short : (o : Order) → length (instrs o) ≤ 11
 order-short o =
-    let p : ℕ → ℕ = λ l. 0 in
-    omega (arith, instrs-length p 0 (code o), code-length p 0 o, light o)
+    let e : length (resolved nowhere 0 (map instr (instrs o) ++ rest-items (rest-of o))) ≤ 11 * order-weight o = rw (rest-right o) at (code-length nowhere 0 o) in
+    omega (arith, e, front-length nowhere (rest-items (rest-of o)) 0 (instrs o), light (sets o))
 
-pub order-valid : (o : Order) → fault o ≡ 0 → AllValid (instrs-of (code o))
-order-valid o h =
-    let p : ℕ → ℕ = λ l. 0 in
-    instrs-valid p 0 (code o) (code-valid p 0 o h)
+-- ---- asked for
 
--- ---- an order that is not refused
+abbrev pub mark : Answer (Unit {0}) → ℕ
+mark (accepted x) = 0
+mark (refused n place) = 1
 
-pub order-placed : (o : Order) (tag : ℕ) (s : State) (p : Plan) (t : Tail) → fault o ≡ 0 → Built p (instrs-of (code o)) → code o ≡ map instr (instrs-of (code o)) ++ tail-items t → tail-fault t ≡ 0 → put tag (plan-fault p t) (plan-items p t) s ≡ put tag (fault o) (code o) s
-order-placed o tag s p t h b g z =
-    let f : plan-fault p t ≡ 0 = rw (b .fault, z) in
-    ap₂ (λ (k : ℕ) (l : List Item). put tag k l s) f (ap (λ (ws : List ℕ). map raw ws ++ tail-items t) (b .words))
-    ∙ put-same (tail-items t) tag 0 (instrs-of (code o)) s
-    ∙ ap₂ (λ (k : ℕ) (l : List Item). put tag k l s) (sym h) (sym g)
+-- refused: nothing has changed, whatever would be placed
+kept : (k : ℕ) (s t : State) (o : Outcome) → o ≡ settled k s s → mark (o .answer) ≡ 1 → o ≡ settled k s t
+unfolding settled
+kept zero s t o e q = absurd (omega (arith, q, ap (λ (x : Outcome). mark (x .answer)) e))
+kept (suc k) s t o e q = e
 
-pub order-label : (o : Order) (tag : ℕ) (s : State) (l : ℕ) → fault o ≡ 0 → code o ≡ label l ∷ [] → label-fault l ≡ 0 → put 0 (label-fault l) (label l ∷ []) s ≡ put tag (fault o) (code o) s
-order-label o tag s l h g z =
-    put-label 0 tag (label-fault l) l s ∙ ap₂ (λ (k : ℕ) (is : List Item). put tag k is s) (z ∙ sym h) (sym g)
+-- accepted: the number is 0
+agreed : (k : ℕ) (s : State) (o : Outcome) → o ≡ settled k s s → mark (o .answer) ≡ 0 → k ≡ 0
+unfolding settled
+agreed zero s o e q = refl
+agreed (suc k) s o e q = absurd (omega (arith, q, ap (λ (x : Outcome). mark (x .answer)) e))
+
+both : (x y : Bool) → x && y ≡ true → (x ≡ true) × (y ≡ true)
+both true true e = (refl, refl)
+both true false e = (refl, e)
+both false y e = absurd (no e)
+  where
+    no : false ≡ true → ⊥
+    no e = let z : _≡_ {A = ℕ} 0 1 = cc in omega arith
+
+-- a record that takes w words and j jumps is open and sound, and has room
+record Takes (w j n : ℕ) (a : Asm) : Type 0 where
+  open-still : a .closed ≡ false
+  within : a .len ≤ room n
+  aligned : a .len % 4 ≡ 0
+  room-for : a .len + 4 * w ≤ room n
+  jumps-for : a .jumps + j ≤ 4096
+
+takes : (w j n : ℕ) (a : Asm) → verdict 0 false w j n a ≡ 0 → Takes w j n a
+unfolding verdict sound fits
+takes w j n a e = by (a .closed) (sound n a) (fits n a w j) refl refl refl e
+  where
+    by : (c s f : Bool) → a .closed ≡ c → sound n a ≡ s → fits n a w j ≡ f → _≡_ {A = ℕ} (cond c 8 (cond s (cond f 0 7) 2)) 0 → Takes w j n a
+    by true s f p q r e = absurd (omega arith)
+    by false false f p q r e = absurd (omega arith)
+    by false true false p q r e = absurd (omega arith)
+    by false true true p q r e =
+        let x = both _ _ q in
+        let y = both _ _ (x .1) in
+        let z = both _ _ r in
+        record {
+          open-still = p;
+          within = leb-true _ _ (x .0);
+          aligned = eqb-true _ _ (y .0);
+          room-for = leb-true _ _ (z .0);
+          jumps-for = leb-true _ _ (z .1);
+        }
+
+-- w words on, it takes the jumps still
+rest-taken : (w j n : ℕ) (a : Asm) → Takes (w + j) j n a → verdict 0 false j j n (record { len = a .len + 4 * w; jumps = a .jumps; closed = a .closed }) ≡ 0
+unfolding sound fits
+rest-taken w j n a t =
+    let b : Asm = record { len = a .len + 4 * w; jumps = a .jumps; closed = a .closed } in
+    let g : sound n b ≡ true = rw (le-leb (a .len + 4 * w) (room n) (omega (arith, t .room-for)), eq-eqb ((a .len + 4 * w) % 4) 0 (omega (arith, t .aligned)), le-leb (a .jumps) 4096 (omega (arith, t .jumps-for))) in
+    let f : fits n b j j ≡ true = rw (le-leb (a .len + 4 * w + 4 * j) (room n) (omega (arith, t .room-for)), le-leb (a .jumps + j) 4096 (t .jumps-for)) in
+    sym (v-good 0 false j j n b (t .open-still) (λ z. omega arith) (λ z. omega arith) g refl refl f)
+
+-- ---- words and the jumps of a tail
+
+module _ (ws : List ℕ) (t : Tail) (tag : ℕ) (s : State) where
+  whole-number : put-number 0 (map raw ws ++ tail-items t) s ≡ verdict 0 false (length ws + length (tail-items t)) (length (tail-items t)) (length (s .buf)) (s .asm)
+  unfolding twice
+  whole-number = rw (words-append, jumps-append, labels-append, words-raw, jumps-raw, labels-raw, labels-tail, jumps-tail, length-append, words-tail, zero-add)
+
+  tail-number : put-number 0 (tail-items t) s ≡ verdict 0 false (length (tail-items t)) (length (tail-items t)) (length (s .buf)) (s .asm)
+  unfolding twice
+  tail-number = rw (labels-tail, jumps-tail, words-tail)
+
+module _ (ws : List ℕ) (t : Tail) (tag : ℕ) (s : State) where
+  rest-placed : verdict 0 false (length ws + length (tail-items t)) (length (tail-items t)) (length (s .buf)) (s .asm) ≡ 0 → put tag 0 (tail-items t) (with-words ws s) ≡ put tag 0 (map raw ws ++ tail-items t) s
+  rest-placed v =
+      let u : State = with-words ws s in
+      let j : ℕ = length (tail-items t) in
+      let n : put-number 0 (tail-items t) u ≡ 0 = tail-number ws t tag u ∙ rw (length-written (s .buf) (s .asm .len) ws) (rest-taken (length ws) j (length (s .buf)) (s .asm) (takes _ j _ _ v)) in
+      let e : placed tag (tail-items t) u ≡ placed tag (map raw ws ++ tail-items t) s = sym (placed-append tag (map raw ws) (tail-items t) s ∙ ap (placed tag (tail-items t)) (placed-raw tag ws s)) in
+      sym (put-done tag 0 (tail-items t) u (placed tag (map raw ws ++ tail-items t) s) n (sym e))
+      ∙ put-done tag 0 (map raw ws ++ tail-items t) s (placed tag (map raw ws ++ tail-items t) s) (whole-number ws t tag s ∙ v) refl
+
+-- ---- an order
+
+-- what stands behind the instructions, by its case
+pub behind-as : (o : Order) → fault o ≡ 0 → (r : Rest) → rest-of o ≡ r → (code o ≡ map instr (instrs o) ++ rest-items r) × (rest-fault r ≡ 0) × Alone r (instrs o)
+behind-as o h r e =
+    subst (λ (q : Rest). (code o ≡ map instr (instrs o) ++ rest-items q) × (rest-fault q ≡ 0) × Alone q (instrs o)) e (rest-right o, rest-fits o h, rest-alone o)
+
+-- refused for an operand
+pub order-refused : (o : Order) (tag : ℕ) (s : State) (f : Fault) (x : Outcome) → fault-number f ≡ fault o → (fault-number f ≡ 0 → ⊥) → x ≡ settled (verdict (earlier (fault-number f) 0) (twice (s .labels) []) 0 0 (length (s .buf)) (s .asm)) s s → x ≡ put tag (fault o) (code o) s
+unfolding put words jumps labels placed
+order-refused o tag s f x e h q =
+    q
+    ∙ ap (λ (k : ℕ). settled (verdict k (twice (s .labels) []) 0 0 (length (s .buf)) (s .asm)) s s) (earlier-none f)
+    ∙ put-fault 0 tag (fault-number f) [] (code o) s h
+    ∙ ap (λ (k : ℕ). put tag k (code o) s) e
+
+module _ (o : Order) (t : Tail) (tag : ℕ) (s : State) (z : fault o ≡ 0) (g : code o ≡ map instr (instrs o) ++ tail-items t) where
+  abbrev pub ws : List ℕ
+  ws = map encode (instrs o)
+
+  as-words : put tag 0 (map raw ws ++ tail-items t) s ≡ put tag (fault o) (code o) s
+  as-words = put-same (tail-items t) tag 0 (instrs o) s ∙ ap₂ (λ (k : ℕ) (l : List Item). put tag k l s) (sym z) (sym g)
+
+  -- asked for n words and j jumps
+  module _ (n j : ℕ) (x : Outcome) (en : n ≡ length (instrs o)) (ej : j ≡ length (tail-items t)) (q : x ≡ settled (verdict 0 (twice (s .labels) []) (n + j) j (length (s .buf)) (s .asm)) s s) where
+    number : verdict 0 (twice (s .labels) []) (n + j) j (length (s .buf)) (s .asm) ≡ verdict 0 false (length ws + length (tail-items t)) (length (tail-items t)) (length (s .buf)) (s .asm)
+    unfolding twice
+    number = rw (en, ej, length-map (instrs o) encode)
+
+    pub order-full : mark (x .answer) ≡ 1 → x ≡ put tag (fault o) (code o) s
+    unfolding put
+    order-full r =
+        kept _ s (placed tag (map raw ws ++ tail-items t) s) x q r
+        ∙ ap (λ (k : ℕ). settled k s (placed tag (map raw ws ++ tail-items t) s)) (number ∙ sym (whole-number ws t tag s))
+        ∙ as-words
+
+    pub order-room : mark (x .answer) ≡ 0 → s .asm .len + 4 * length (instrs o) ≤ room (length (s .buf))
+    order-room r =
+        let k = takes _ _ _ _ (sym number ∙ agreed _ s x q r) in
+        omega (arith, k .room-for, length-map (instrs o) encode)
+
+    pub order-placed : mark (x .answer) ≡ 0 → put tag 0 (tail-items t) (with-words ws s) ≡ put tag (fault o) (code o) s
+    order-placed r = rest-placed ws t tag s (sym number ∙ agreed _ s x q r) ∙ as-words
+
+    -- the words written and the jumps placed
+    pub order-done : (p : Plan) (r : ℕ) (d : List ℕ) → p ≡ no-words → tail-fault t ≡ 0 → Puts (map word (instrs o)) (s .buf) (s .asm .len) d r → mark (x .answer) ≡ 0 → put tag (plan-fault p t) (plan-items p t) (state (record { len = r; jumps = s .asm .jumps; closed = s .asm .closed }) (s .labels) (s .jumps) d) ≡ put tag (fault o) (code o) s
+    order-done p r d e f w m =
+        rw (e, f, w .0, w .1, words-valid (instrs o) (order-valid o z)) (order-placed m)
+
+pub order-label : (o : Order) (tag : ℕ) (s : State) (l : ℕ) → fault o ≡ 0 → code o ≡ map instr (instrs o) ++ (label l ∷ []) → label-fault l ≡ 0 → instrs o ≡ [] → put 0 (label-fault l) (label l ∷ []) s ≡ put tag (fault o) (code o) s
+order-label o tag s l h g z n =
+    let e : code o ≡ label l ∷ [] = g ∙ ap (λ (is : List Instr). map instr is ++ (label l ∷ [])) n in
+    put-label 0 tag (label-fault l) l s ∙ ap₂ (λ (k : ℕ) (is : List Item). put tag k is s) (z ∙ sym h) (sym e)
+
+-- ---- an order of a deck
+
+module _ (H : Head) (tag : ℕ) (o : Order) (s : State) where
+  pub order-counted : index-holds H o ≡ false → turned-down Count s ≡ emitted-in H tag o s
+  order-counted e = rw e
+
+  pub order-unsaved : index-holds H o ≡ true → saves-hold (H .mask) o ≡ false → turned-down Unsaved s ≡ emitted-in H tag o s
+  order-unsaved e f = rw (e, f)
+
+  pub order-goes : index-holds H o ≡ true → saves-hold (H .mask) o ≡ true → emitted tag o s ≡ emitted-in H tag o s
+  order-goes e f = rw (e, f)

@@ -8,13 +8,14 @@ use Rattle.machine.specs.Floats.{Floats}
 use Rattle.machine.specs.State.{State, Sound}
 use Rattle.machine.specs.Step.{CodeAt}
 use Rattle.machine.specs.Ends.{temporary, Ends}
-use Rattle.order.specs.declared.Place.{Place}
-use Rattle.order.specs.declared.Order.{Order}
+use Rattle.ast.specs.Constant.{constant-label}
+use Rattle.ast.specs.declared.Place.{Place}
+use Rattle.ast.specs.declared.Order.{Order}
 use Rattle.assembler.specs.Item.{Item}
 use Rattle.assembler.specs.Resolved.{resolved}
 use Rattle.accesses.specs.Stands.{cell-at}
 use Rattle.reading.specs.Meaning.{Exit, on, to, Written, meaning}
-use Rattle.orders.specs.Code.{base, const-label, code}
+use Rattle.orders.specs.Code.{base, code}
 
 -- ---- cells by address: s1, s4 and s5 are arbitrary, and cells may alias
 
@@ -39,7 +40,7 @@ pub record Placed (places : ℕ → ℕ) : Type 0 where
 module _ (places : ℕ → ℕ) (start : ℕ) where
   -- the constant's cell stands at its label
   abbrev pub const-value : State → ℕ → ℕ
-  const-value s k = load8 (s .mem) (w64 (start + places (const-label k)))
+  const-value s k = load8 (s .mem) (w64 (start + places (constant-label k)))
 
   -- s stands at the items' words, as finishing leaves them, `here` bytes from the start
   pub record At (here : ℕ) (is : List Item) (s : State) : Type 0 where
@@ -63,7 +64,7 @@ module _ (places : ℕ → ℕ) (start : ℕ) where
     pub ends : Ends Q temporary s (length (resolved places here is)) count (exit-address s (length (resolved places here is)) exit) f m
 
   -- the same of what an order means
-  abbrev pub Does : Floats → (here : ℕ) → Order → State → Type 0
-  Does Q here o s =
+  abbrev pub OrderDoes : Floats → (here : ℕ) → Order → State → Type 0
+  OrderDoes Q here o s =
       let M = meaning Q (s .f) (s .rm) (cell-value s) (const-value s) o in
       Done Q here (code o) s (M .f) (written s (M .cells) (s .mem)) (M .exit)

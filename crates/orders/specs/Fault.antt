@@ -1,36 +1,29 @@
 -- What the orders refuse (document 01, "Numbers of refusal"): the number, or 0.
-use mathlib.Core.Bool.{Bool, true, _&&_, cond}
-use mathlib.Core.List.{List, [], _∷_}
+use mathlib.Core.Bool.{cond}
 use Prim.Native.Nat.{ℕ, _*_}
-use lib.Dec.{ltb, leb}
+use lib.Dec.{leb}
 use Rattle.refusal.specs.Number.{number-of}
 use Rattle.refusal.specs.declared.Refusal.the-variants.{Register, Value, Label, Count}
-use Rattle.order.specs.declared.Order.{Order}
-use Rattle.order.specs.declared.Order.the-variants.{Unary, Scratched, Binary, Fused, Ifelse, LoadConst, Load, Save, BranchIf, SetLabel}
+use Rattle.ast.specs.declared.Order.{Order}
+use Rattle.ast.specs.declared.Operand.{Operand}
+use Rattle.ast.specs.declared.Operand.the-variants.{Nothing, Loaded, Stored, Constant, GoneTo, Set}
+use Rattle.ast.specs.Constant.{last-constant}
+use Rattle.ast.specs.Uses.{registers-fit}
+use Rattle.ast.specs.Uses.{uses}
 use Rattle.accesses.specs.Fault.{offset-limit}
 
 abbrev pub last-user-label : ℕ
 last-user-label = 1023
 
-abbrev pub last-constant : ℕ
-last-constant = 1007
+-- an operand that is no register: the offset of a cell, a constant's number, a label
+abbrev pub operand-fault : Operand → ℕ
+operand-fault Nothing = 0
+operand-fault (Loaded p i) = cond (leb (8 * i) offset-limit) 0 (number-of Value)
+operand-fault (Stored p i) = cond (leb (8 * i) offset-limit) 0 (number-of Value)
+operand-fault (Constant k) = cond (leb k last-constant) 0 (number-of Count)
+operand-fault (GoneTo l) = cond (leb l last-user-label) 0 (number-of Label)
+operand-fault (Set l) = cond (leb l last-user-label) 0 (number-of Label)
 
-abbrev pub registers-fit : List ℕ → Bool
-registers-fit [] = true
-registers-fit (r ∷ rs) = ltb r 32 && registers-fit rs
-
--- registers, and then a number that has a last
-abbrev pub checked : List ℕ → (n last number : ℕ) → ℕ
-checked rs n last number = cond (registers-fit rs) (cond (leb n last) 0 number) (number-of Register)
-
+-- registers, and then the other operand
 unfoldable pub fault : Order → ℕ
-fault (Unary k d s) = cond (registers-fit (d ∷ s ∷ [])) 0 (number-of Register)
-fault (Scratched k d s t) = cond (registers-fit (d ∷ s ∷ t ∷ [])) 0 (number-of Register)
-fault (Binary k d a b) = cond (registers-fit (d ∷ a ∷ b ∷ [])) 0 (number-of Register)
-fault (Fused k d a b c) = cond (registers-fit (d ∷ a ∷ b ∷ c ∷ [])) 0 (number-of Register)
-fault (Ifelse d a b i) = checked (d ∷ a ∷ b ∷ []) (8 * i) offset-limit (number-of Value)
-fault (LoadConst d k) = checked (d ∷ []) k last-constant (number-of Count)
-fault (Load d p i) = checked (d ∷ []) (8 * i) offset-limit (number-of Value)
-fault (Save s p i) = checked (s ∷ []) (8 * i) offset-limit (number-of Value)
-fault (BranchIf c l e) = checked (c ∷ []) l last-user-label (number-of Label)
-fault (SetLabel l) = checked [] l last-user-label (number-of Label)
+fault o = cond (registers-fit (uses o .registers)) (operand-fault (uses o .operand)) (number-of Register)

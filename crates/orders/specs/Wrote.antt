@@ -1,34 +1,63 @@
--- What writing an order's words at once leaves: the buffer and the new length.
+-- What writing an order's words leaves: the buffer and the length behind them.
 use mathlib.Core.Path.{_≡_}
-use mathlib.Core.List.{List, [], _∷_, _++_, map}
-use Prim.Native.Nat.{ℕ, zero, suc, _+_, _*_}
-use lib.ListN.{length, getD}
-use Rattle.isa.specs.Instr.{Instr}
-use Rattle.order.specs.declared.Order.{Order}
-use Rattle.assembler.specs.Item.{instr}
-use Rattle.assembler.specs.Bytes.{written}
+use mathlib.Core.Bool.{Bool, cond}
+use mathlib.Core.List.{List, [], _∷_, map}
+use Prim.Native.Nat.{ℕ, _+_, _*_, _%_, _^_, _≤_}
+use denote.Ref.{now}
+use lib.Dec.{leb}
+use lib.IntN.{pos}
+use lib.ListN.{length}
+use Rattle.isa.specs.Register.{t0, t1}
+use Rattle.isa.specs.Immediate.{hi, lo}
+use Rattle.isa.specs.Instr.{Instr, R, M, I, U, ADD, FMV-X-D, FMV-D-X, ADDI, LUI}
+use Rattle.assembler.specs.Bytes.{written, room}
+use Rattle.assembler.specs.State.{Lent}
 use Rattle.accesses.specs.Plans.{answer-of, word-of}
-use Rattle.orders.specs.Code.{code}
-use Rattle.orders.specs.Fault.{fault}
-use Rattle.orders.specs.Parts.{instrs-of}
 
 -- the word that the encoder answers, 0 where it refuses
 abbrev pub word : Instr → ℕ
 word i = word-of (answer-of i)
 
--- from a buffer and a length to those behind the words
-abbrev pub Wrote : List Instr → (before : List ℕ) → (len : ℕ) → (after : List ℕ) → (r : ℕ) → Type 0
-Wrote is before len after r = (after ≡ written before len (map word is)) × (r ≡ len + 4 * length is)
+-- ---- the orders of instructions alone
 
--- the same of an order that is not refused and has instructions alone
-abbrev pub Wrote-order : Order → (before : List ℕ) → (len : ℕ) → (after : List ℕ) → (r : ℕ) → Type 0
-Wrote-order o before len after r =
-    (fault o ≡ 0) × (code o ≡ map instr (instrs-of (code o))) × Wrote (instrs-of (code o)) before len after r
+-- what a writer answers where there is no room
+abbrev pub no-room : ℕ
+no-room = 0x100000000
 
--- words read back from bytes: the one at i, and the first k
-unfoldable pub word-in : List ℕ → (i : ℕ) → ℕ
-word-in bs i = getD bs i 0 + 256 * getD bs (i + 1) 0 + 65536 * getD bs (i + 2) 0 + 16777216 * getD bs (i + 3) 0
+-- the longest order, of eleven words, has room behind len
+abbrev pub roomy : (len : ℕ) → (buf : List ℕ) → Bool
+roomy len buf = leb (len + 44) (room (length buf))
 
-unfoldable pub words-in : List ℕ → (k : ℕ) → List ℕ
-words-in bs zero = []
-words-in bs (suc k) = words-in bs k ++ (word-in bs (4 * k) ∷ [])
+-- where there is room the words stand at len, and the answer is the length behind them; elsewhere nothing changes
+abbrev pub Wrote : List Instr → (len : ℕ) → (buf : Lent) → (r : ℕ) → Type 0
+Wrote is len buf r =
+    (now (buf .exit) ≡ cond (roomy len (now (buf .entry))) (written (now (buf .entry)) len (map word is)) (now (buf .entry)))
+    × (r ≡ cond (roomy len (now (buf .entry))) (len + 4 * length is) no-room)
+
+-- the offset of the cell with index i, in 32 bits: 8 * i below 2^29
+abbrev pub offset : (i : ℕ) → ℕ
+offset i = 8 * (i % 2 ^ 29)
+
+-- ---- what private functions promise
+
+-- the words written from a buffer and a length on, and those behind them
+abbrev pub Puts : (ws before : List ℕ) → (len : ℕ) → (after : List ℕ) → (r : ℕ) → Type 0
+Puts ws before len after r = (after ≡ written before len ws) × (r ≡ len + 4 * length ws)
+
+abbrev pub Put : (ws : List ℕ) → (len : ℕ) → (buf : Lent) → (r : ℕ) → Type 0
+Put ws len buf r = Puts ws (now (buf .entry)) len (now (buf .exit)) r
+
+abbrev pub Put-code : List Instr → (len : ℕ) → (buf : Lent) → (r : ℕ) → Type 0
+Put-code is = Put (map word is)
+
+-- the instructions have room
+abbrev pub Fits : List Instr → (len : ℕ) → (buf : List ℕ) → Type 0
+Fits is len buf = len + 4 * length is ≤ length buf
+
+-- the bits of a and b through t0 and t1, and the word `op` on them
+abbrev pub bits-words : (op d a b : ℕ) → List ℕ
+bits-words op d a b = word (M FMV-X-D t0 a) ∷ word (M FMV-X-D t1 b) ∷ op ∷ word (M FMV-D-X d t0) ∷ []
+
+-- the word `last` through t0 = base + n
+abbrev pub far-words : (last base n : ℕ) → List ℕ
+far-words last base n = word (U LUI t0 (pos (hi n))) ∷ word (I ADDI t0 t0 (lo n)) ∷ word (R ADD t0 t0 base) ∷ last ∷ []

@@ -1,4 +1,4 @@
--- How many digits a number has, and the tests for room. Assumes nothing.
+-- How many digits a number has, and the tests for room.
 use mathlib.Core.Path.{_≡_, refl, sym, ap, _∙_}
 use mathlib.Core.Bool.{Bool, true, false, cond}
 use mathlib.Core.List.{List}

@@ -1,5 +1,5 @@
 pub mod Counts
 pub mod Stores
 pub mod Lines
-pub mod Whole
+pub mod Fitting
 pub mod Short

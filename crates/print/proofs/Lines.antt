@@ -1,4 +1,4 @@
--- The printed lines, stored part by part. Assumes nothing.
+-- The printed lines, stored part by part.
 use mathlib.Core.Path.{_≡_, refl, sym, ap, _∙_}
 use mathlib.Core.List.{List, [], _∷_, _++_}
 use Prim.Native.Nat.{ℕ, suc, _+_, _<_, _≤_}
@@ -8,7 +8,7 @@ use lib.ListN.{length, drop, getD, set, length-append, length-drop}
 use lib.Seq.{sets, drop-cons}
 use Rattle.text.specs.Ascii.{bytes}
 use Rattle.text.specs.Digits.{decimal, digits}
-use Rattle.print.specs.Text.{le-word, words-of, hex, word-line, word-lines, refusal-line}
+use Rattle.print.specs.Text.{le-word, word-in, words-of, hex, word-line, word-lines, refusal-line}
 use Rattle.text.proofs.Numerals.{length-digits}
 use Rattle.print.proofs.Stores.{sets-append}
 
@@ -83,9 +83,6 @@ unfolding word-lines words-of
 one-word s i h = ap (λ (l : List ℕ). word-lines i (words-of l)) (four s i h)
 
 -- ---- a turn of the loops over the words
-
-abbrev pub word-in : List ℕ → ℕ → ℕ
-word-in s i = le-word (getD s i 0) (getD s (i + 1) 0) (getD s (i + 2) 0) (getD s (i + 3) 0)
 
 pub length-word : (s : List ℕ) (i w : ℕ) → i + 4 ≤ length s → w ≡ word-in s i → length (rest-of s i) ≡ length (word-line i w) + length (rest-of s (i + 4))
 length-word s i w h e =

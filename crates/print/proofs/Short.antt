@@ -1,4 +1,4 @@
--- No answer is longer than 245,760 bytes: 16,384 lines of 15. Assumes nothing.
+-- No answer is longer than 245,760 bytes: 16,384 lines of 15.
 use mathlib.Core.List.{List, [], _∷_}
 use Prim.Native.Nat.{ℕ, _+_, _*_, _^_, _<_, _≤_}
 use native.Mathlib.Omega.{arith}

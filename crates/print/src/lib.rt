@@ -2,10 +2,10 @@
 ghost use mathlib.Core.Path.{_≡_};
 ghost use Prim.Native.Nat.{_+_, _≤_, _<_};
 ghost use lib.Dec.{leb};
-ghost use lib.ListN.{length, getD};
+ghost use lib.ListN.{length};
 ghost use lib.Seq.{sets};
-ghost use Rattle.text.specs.Digits.{digit-byte, digits as digits-of, decimal as decimal-of};
-ghost use Rattle.print.specs.Text.{Puts, le-word, words-of, hex as hex-of, word-line, word-lines, refusal-line};
+ghost use Rattle.text.specs.Digits.{digit-byte, digits, decimal};
+ghost use Rattle.print.specs.Text.{Puts, word-in, hex, word-line, code-lines, refusal-line};
 
 // How long a text is that was put into a buffer; nothing is put where it does not fit.
 pub enum Text {
@@ -22,7 +22,7 @@ fn glyph(d: u64) -> u8
 
 // How many decimal digits n has.
 fn decimal_length(n: u64) -> usize
-    ensures { λ r. ⌜ (r ≡ length (decimal-of n)) × (r ≤ n + 1) ⌝ }
+    ensures { λ r. ⌜ (r ≡ length (decimal n)) × (r ≤ n + 1) ⌝ }
 {
     let mut k = 1;
     let mut rest = n;
@@ -36,7 +36,7 @@ fn decimal_length(n: u64) -> usize
 // The lowest k digits of n, from byte at on.
 fn put_digits(n: u64, base: u64, k: usize, out: &mut [u8], at: usize)
     requires { ⌜ (0 < base) × (base ≤ 16) × (at + k ≤ length (now out)) ⌝ }
-    ensures { λ _. ⌜ now (out .exit) ≡ sets (now (out .entry)) at (digits-of base k n) ⌝ }
+    ensures { λ _. ⌜ now (out .exit) ≡ sets (now (out .entry)) at (digits base k n) ⌝ }
 {
     let mut e = at + k;
     let mut rest = n;
@@ -59,7 +59,7 @@ fn has_room(out: &[u8], at: usize, n: usize) -> bool
 
 // n in decimal, from byte at on.
 pub fn decimal(n: u64, out: &mut [u8], at: usize) -> Text
-    ensures { λ r. ⌜ Puts (decimal-of n) at (now (out .entry)) r (now (out .exit)) ⌝ }
+    ensures { λ r. ⌜ Puts (decimal n) at (now (out .entry)) r (now (out .exit)) ⌝ }
 {
     let k = decimal_length(n);
     if !has_room(out, at, k) {
@@ -71,7 +71,7 @@ pub fn decimal(n: u64, out: &mut [u8], at: usize) -> Text
 
 // A word in 8 hexadecimal digits, from byte at on.
 pub fn hex(word: u32, out: &mut [u8], at: usize) -> Text
-    ensures { λ r. ⌜ Puts (hex-of word) at (now (out .entry)) r (now (out .exit)) ⌝ }
+    ensures { λ r. ⌜ Puts (hex word) at (now (out .entry)) r (now (out .exit)) ⌝ }
 {
     if !has_room(out, at, 8) {
         return Text::TooLong;
@@ -84,8 +84,8 @@ pub fn hex(word: u32, out: &mut [u8], at: usize) -> Text
 
 // n in decimal; answers the byte behind it.
 fn put_decimal(n: u64, out: &mut [u8], at: usize) -> usize
-    requires { ⌜ at + length (decimal-of n) ≤ length (now out) ⌝ }
-    ensures { λ r. ⌜ (now (out .exit) ≡ sets (now (out .entry)) at (decimal-of n)) × (r ≡ at + length (decimal-of n)) ⌝ }
+    requires { ⌜ at + length (decimal n) ≤ length (now out) ⌝ }
+    ensures { λ r. ⌜ (now (out .exit) ≡ sets (now (out .entry)) at (decimal n)) × (r ≡ at + length (decimal n)) ⌝ }
 {
     let k = decimal_length(n);
     put_digits(n, 10, k, out, at);
@@ -113,7 +113,7 @@ fn wide(b: u8) -> u64
 
 fn word_at(code: &[u8], i: usize) -> u64
     requires { ⌜ i + 4 ≤ length (now code) ⌝ }
-    ensures { λ r. ⌜ r ≡ le-word (getD (now (code .entry)) i 0) (getD (now (code .entry)) (i + 1) 0) (getD (now (code .entry)) (i + 2) 0) (getD (now (code .entry)) (i + 3) 0) ⌝ }
+    ensures { λ r. ⌜ r ≡ word-in (now (code .entry)) i ⌝ }
 {
     wide(code[i])
         + wide(code[i + 1]) * 256
@@ -123,7 +123,7 @@ fn word_at(code: &[u8], i: usize) -> u64
 
 // Whether the words' lines fit into room bytes.
 fn words_fit(code: &[u8], room: usize) -> bool
-    ensures { λ r. ⌜ r ≡ leb (length (word-lines 0 (words-of (now (code .entry))))) room ⌝ }
+    ensures { λ r. ⌜ r ≡ leb (length (code-lines (now (code .entry)))) room ⌝ }
 {
     let mut left = room;
     let mut i = 0;
@@ -139,8 +139,8 @@ fn words_fit(code: &[u8], room: usize) -> bool
 }
 
 fn put_words(code: &[u8], out: &mut [u8]) -> usize
-    requires { ⌜ length (word-lines 0 (words-of (now code))) ≤ length (now out) ⌝ }
-    ensures { λ r. ⌜ (now (out .exit) ≡ sets (now (out .entry)) 0 (word-lines 0 (words-of (now (code .entry))))) × (r ≡ length (word-lines 0 (words-of (now (code .entry))))) ⌝ }
+    requires { ⌜ length (code-lines (now code)) ≤ length (now out) ⌝ }
+    ensures { λ r. ⌜ (now (out .exit) ≡ sets (now (out .entry)) 0 (code-lines (now (code .entry)))) × (r ≡ length (code-lines (now (code .entry)))) ⌝ }
 {
     let mut at = 0;
     let mut i = 0;
@@ -154,7 +154,7 @@ fn put_words(code: &[u8], out: &mut [u8]) -> usize
 
 // A line for each word of the code: its byte offset and the word.
 pub fn words_text(code: &[u8], out: &mut [u8]) -> Text
-    ensures { λ r. ⌜ Puts (word-lines 0 (words-of (now (code .entry)))) 0 (now (out .entry)) r (now (out .exit)) ⌝ }
+    ensures { λ r. ⌜ Puts (code-lines (now (code .entry))) 0 (now (out .entry)) r (now (out .exit)) ⌝ }
 {
     if !words_fit(code, out.len()) {
         return Text::TooLong;

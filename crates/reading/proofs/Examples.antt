@@ -7,15 +7,15 @@ use lib.ListN.{getD}
 use Rattle.machine.specs.Word.{upd}
 use Rattle.machine.specs.Floats.{one, minus-one}
 use Rattle.machine.specs.Binary64.{binary64}
-use Rattle.order.specs.declared.Place.{Place}
-use Rattle.order.specs.declared.Place.the-variants.{Mem, Stack, Param}
-use Rattle.order.specs.declared.Unary.the-variants.{Fmov, Recip, Round, Floor, Not}
-use Rattle.order.specs.declared.Scratched.the-variants.{Sign, Frac}
-use Rattle.order.specs.declared.Binary.the-variants.{Minus, Times, Divide, Gt, Neq, And, Andnot, Or, Xor}
-use Rattle.order.specs.declared.Fused.the-variants.{MulAdd, MulSub, NegMulAdd, NegMulSub}
-use Rattle.order.specs.declared.Order.{Order}
-use Rattle.order.specs.declared.Order.the-variants.{Unary, Scratched, Binary, Fused, Ifelse, LoadConst, Load, Save, BranchIf, SetLabel}
-use Rattle.order.specs.declared.Constant.the-variants.{Bits}
+use Rattle.ast.specs.declared.Place.{Place}
+use Rattle.ast.specs.declared.Place.the-variants.{Mem, Stack, Param}
+use Rattle.ast.specs.declared.Unary.the-variants.{Fmov, Recip, Round, Floor, Not}
+use Rattle.ast.specs.declared.Scratched.the-variants.{Sign, Frac}
+use Rattle.ast.specs.declared.Binary.the-variants.{Minus, Times, Divide, Gt, Neq, And, Andnot, Or, Xor}
+use Rattle.ast.specs.declared.Fused.the-variants.{MulAdd, MulSub, NegMulAdd, NegMulSub}
+use Rattle.ast.specs.declared.Order.{Order}
+use Rattle.ast.specs.declared.Order.the-variants.{Unary, Scratched, Binary, Fused, Ifelse, LoadConst, Load, Save, BranchIf, SetLabel}
+use Rattle.ast.specs.declared.Constant.the-variants.{Bits}
 use Rattle.reading.specs.Line.{order, constant, weight}
 use Rattle.reading.specs.Meaning.{on, to, Meaning, all-ones, choose, unary, scratched, binary, fused, meaning}
 

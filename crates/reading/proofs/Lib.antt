@@ -1,1 +1,5 @@
 pub mod Examples
+pub mod Decks
+pub mod One
+pub mod Start
+pub mod Closed

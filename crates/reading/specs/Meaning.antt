@@ -6,18 +6,18 @@ use lib.Dec.{eqb}
 use lib.Bits.{bitAnd, bitOr, bitXor}
 use Rattle.machine.specs.Word.{w64, upd}
 use Rattle.machine.specs.Floats.{Floats, one, minus-one}
-use Rattle.order.specs.declared.Place.{Place}
-use Rattle.order.specs.declared.Place.the-variants.{Stack}
-use Rattle.order.specs.declared.Unary as U
-use Rattle.order.specs.declared.Unary.the-variants.{Fmov, Recip, Round, Floor, Not}
-use Rattle.order.specs.declared.Scratched as S
-use Rattle.order.specs.declared.Scratched.the-variants.{Sign, Frac}
-use Rattle.order.specs.declared.Binary as B
-use Rattle.order.specs.declared.Binary.the-variants.{Minus, Times, Divide, Gt, Neq, And, Andnot, Or, Xor}
-use Rattle.order.specs.declared.Fused as F
-use Rattle.order.specs.declared.Fused.the-variants.{MulAdd, MulSub, NegMulAdd, NegMulSub}
-use Rattle.order.specs.declared.Order.{Order}
-use Rattle.order.specs.declared.Order.the-variants.{Unary, Scratched, Binary, Fused, Ifelse, LoadConst, Load, Save, BranchIf, SetLabel}
+use Rattle.ast.specs.declared.Place.{Place}
+use Rattle.ast.specs.declared.Place.the-variants.{Stack}
+use Rattle.ast.specs.declared.Unary as U
+use Rattle.ast.specs.declared.Unary.the-variants.{Fmov, Recip, Round, Floor, Not}
+use Rattle.ast.specs.declared.Scratched as S
+use Rattle.ast.specs.declared.Scratched.the-variants.{Sign, Frac}
+use Rattle.ast.specs.declared.Binary as B
+use Rattle.ast.specs.declared.Binary.the-variants.{Minus, Times, Divide, Gt, Neq, And, Andnot, Or, Xor}
+use Rattle.ast.specs.declared.Fused as F
+use Rattle.ast.specs.declared.Fused.the-variants.{MulAdd, MulSub, NegMulAdd, NegMulSub}
+use Rattle.ast.specs.declared.Order.{Order}
+use Rattle.ast.specs.declared.Order.the-variants.{Unary, Scratched, Binary, Fused, Ifelse, LoadConst, Load, Save, BranchIf, SetLabel}
 
 -- Where a line goes on: behind it, or at a label.
 pub data Exit : Type 0 where

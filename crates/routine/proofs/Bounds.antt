@@ -7,20 +7,20 @@ use native.Mathlib.Omega.{arith}
 use borrow.Author.Tests.{leb-true}
 use lib.Dec.{leb, eqb}
 use lib.ListN.{length}
-use Rattle.isa.proofs.Validity.{both}
+use Rattle.base.proofs.Bools.{both}
 use Rattle.refusal.specs.Answer.{accepted}
 use Rattle.assembler.specs.Item.{Item}
 use Rattle.assembler.specs.Bytes.{room}
 use Rattle.assembler.specs.Put.{put}
-use Rattle.assembler.specs.State.{State, state, outcome, told, sound}
+use Rattle.assembler.specs.State.{State, state, outcome, emit-answer, sound}
 use Rattle.assembler.specs.declared.Asm.{Asm}
-use Rattle.assembler.specs.declared.Done.{Done}
+use Rattle.assembler.specs.declared.EmitResult.{EmitResult}
 use Rattle.assembler.specs.declared.Answer.the-variants.{Accepted}
-use Rattle.finish.specs.Finish.{Ending, finish, finish-number, finished, ending}
-use Rattle.finish.specs.declared.Finished.{Finished}
-use Rattle.laid.proofs.All.{accepts, zero-then, zero-else}
-use Rattle.laid.proofs.Both.{moved}
-use Rattle.laid.proofs.Finished.{finish-accepts}
+use Rattle.finish.specs.Finish.{FinishOutcome, finish, finish-number, finished, finish-outcome}
+use Rattle.finish.specs.declared.FinishResult.{FinishResult}
+use Rattle.finish.proofs.All.{accepts, zero-then, zero-else}
+use Rattle.finish.proofs.Both.{moved}
+use Rattle.finish.proofs.Resolves.{finish-accepts}
 
 pub sound-bounds : (n : ℕ) (a : Asm) → sound n a ≡ true → (a .len ≤ 65536) × (a .jumps ≤ 4096)
 unfolding sound
@@ -33,13 +33,13 @@ finish-sound : (s : State) → finish-number s ≡ 0 → sound (length (s .buf))
 unfolding finish-number
 finish-sound s e = zero-else (sound (length (s .buf)) (s .asm)) _ 1 (zero-then (s .asm .closed) 7 _ e .1) .0
 
-pub finish-bounds : (s : State) (x : Finished) (ls js b : List ℕ) → ending x ls js b ≡ finish s → x .answer ≡ Accepted → (x .asm .len ≤ 65536) × (x .asm .jumps ≤ 4096)
+pub finish-bounds : (s : State) (x : FinishResult) (ls js b : List ℕ) → finish-outcome x ls js b ≡ finish s → x .answer ≡ Accepted → (x .asm .len ≤ 65536) × (x .asm .jumps ≤ 4096)
 finish-bounds s x ls js b e h =
-    let p = finish-accepts s (sym (ap (λ (r : Ending). r .answer) e) ∙ ap told h) in
-    let q : x .asm ≡ finished s .asm = ap (λ (r : Ending). r .state .asm) e ∙ ap (λ (t : State). t .asm) (p .1) in
+    let p = finish-accepts s (sym (ap (λ (r : FinishOutcome). r .answer) e) ∙ ap emit-answer h) in
+    let q : x .asm ≡ finished s .asm = ap (λ (r : FinishOutcome). r .state .asm) e ∙ ap (λ (t : State). t .asm) (p .1) in
     rw q (sound-bounds (length (s .buf)) (s .asm) (finish-sound s (p .0)))
 
-pub put-bound : (tag fault : ℕ) (is : List Item) (s : State) (d : Done) (ls js b : List ℕ) → outcome d ls js b ≡ put tag fault is s → d .answer ≡ Accepted → d .asm .len ≤ 65536
+pub put-bound : (tag fault : ℕ) (is : List Item) (s : State) (d : EmitResult) (ls js b : List ℕ) → outcome d ls js b ≡ put tag fault is s → d .answer ≡ Accepted → d .asm .len ≤ 65536
 put-bound tag fault is s d ls js b e h =
     let t : State = state (d .asm) ls js b in
     let a : put tag fault is s ≡ record { answer = accepted tt; state = t } = sym e ∙ rw h in

@@ -8,9 +8,9 @@ use native.Mathlib.Omega.{arith}
 use lib.Dec.{leb}
 use lib.ListN.{length, drop, replicate, length-append, length-replicate, length-drop}
 use lib.Seq.{drop-append-le, drop-at}
-use Rattle.isa.proofs.Validity.{both}
+use Rattle.base.proofs.Bools.{both}
 use Rattle.refusal.specs.Answer.{Answer, accepted, refused}
-use Rattle.order.specs.declared.Head.{Head}
+use Rattle.ast.specs.declared.Head.{Head}
 use Rattle.text.specs.Lines.{lines-of}
 use Rattle.form.specs.Form.{form-of}
 use Rattle.deck.specs.Judge.{Content, line-judged}
@@ -20,17 +20,19 @@ use Rattle.assembler.specs.State.{State}
 use Rattle.assembler.specs.Put.{jumps, labels, put}
 use Rattle.assembler.proofs.Items.{jumps-append}
 use Rattle.assembler.proofs.Writes.{written-is, length-bytes}
-use Rattle.framing.specs.Items.{prologue, saves}
-use Rattle.framing.specs.Fault.{prologue-holds, epilogue-holds, prologue-fault, result-holds}
-use Rattle.laid.specs.Laid.{Laid}
-use Rattle.laid.proofs.All.{fresh-laid}
-use Rattle.call.specs.Program.{Program, constants}
+use Rattle.frame_code.specs.Items.{prologue, saves}
+use Rattle.frame_code.specs.Fault.{prologue-fault}
+use Rattle.ast.specs.Counts.{prologue-holds, epilogue-holds, result-holds}
+use Rattle.finish.proofs.Represents.{Represents}
+use Rattle.finish.proofs.All.{fresh-represents}
+use Rattle.reading.specs.Program.{Program, constants}
 use Rattle.call.specs.Layout.{body, routine-words}
 use Rattle.call.proofs.Labels.{Early}
-use Rattle.routine.specs.Routine.{then, unless, shared, room-number, only, placed-at, as-head, head-read, lines-read, file-read, program-of, body-lines, told-answer, buffer-after, Promise}
-use Rattle.routine.specs.Run.{Made, refused-at, next, enter-run, head-run, first-run, file-run, lines-run, cleared, fresh, blanked, run}
+use Rattle.routine.specs.Routine.{then, unless, shared, room-number, only, placed-at, as-head, head-read, lines-read, file-read, program-of, body-lines, summary-answer, buffer-after, Promise}
+use Rattle.routine.specs.Run.{RunOutcome, refused-at, next, enter-run, head-run, first-run, file-run, lines-run, cleared, fresh, blanked, run}
 use Rattle.routine.proofs.LawRoom.{space-number, room-space}
-use Rattle.routine.proofs.LawFit.{fit-append, fit-labelled, prologue-fit, saves-fit, each-weaker, shared-none, prologue-once, entry-early, saves-labels, saves-jumps}
+use Rattle.routine.proofs.LawFit.{fit-append, fit-labelled, prologue-fit, saves-fit, shared-none, prologue-once, entry-early, saves-labels, saves-jumps}
+use Rattle.base.proofs.Each.{each-map}
 use Rattle.routine.proofs.LawJudged.{Said, line-said}
 use Rattle.routine.proofs.LawParts.{Left, Unmade, Agrees, then-then, laid-refuses, put-agrees, part-agrees}
 use Rattle.routine.proofs.LawLeave.{Before, tags-so-far}
@@ -48,20 +50,20 @@ module _ (b : List ℕ) (H : Head) (g : epilogue-holds H ≡ true) where
       let n : jumps (prologue H ++ saves (H .mask)) ≡ jumps (prologue H) = jumps-append (prologue H) (saves (H .mask)) ∙ ap (λ (k : ℕ). jumps (prologue H) + k) (saves-jumps (H .mask)) ∙ add-zero (jumps (prologue H)) in
       rw (n, saves-jumps (H .mask))
 
-  entered : (u : State) → Laid b (prologue H ++ saves (H .mask)) (replicate (jumps (prologue H)) 1 ++ replicate (jumps (saves (H .mask))) 0) u → Going b (only H) [] u
+  entered : (u : State) → Represents b (prologue H ++ saves (H .mask)) (replicate (jumps (prologue H)) 1 ++ replicate (jumps (saves (H .mask))) 0) u → Going b (only H) [] u
   unfolding body constants
   entered u l =
       record {
         laid = rw (append-nil (prologue H ++ saves (H .mask)), ← tags-first) l;
         fit = rw (append-nil (prologue H ++ saves (H .mask))) (fit-append (prologue H) (saves (H .mask)) (prologue-fit H) (saves-fit (H .mask)));
-        before = rw (append-nil (prologue H ++ saves (H .mask))) (each-weaker Early Before (λ l q. (λ x. omega arith, omega arith)) (labels (prologue H ++ saves (H .mask))) (entry-early H));
+        before = rw (append-nil (prologue H ++ saves (H .mask))) (each-map Early Before (λ l q. (λ x. omega arith, omega arith)) (labels (prologue H ++ saves (H .mask))) (entry-early H));
         bits = refl;
         few = omega arith;
         holds = g;
       }
 
-  module _ (f : State → Made) (K : Program → Answer Program) (more : (u : State) → Going b (only H) [] u → Agrees b (K (only H)) (f u)) where
-    saved : (t : State) → Laid b (prologue H) (replicate (jumps (prologue H)) 1) t
+  module _ (f : State → RunOutcome) (K : Program → Answer Program) (more : (u : State) → Going b (only H) [] u → Agrees b (K (only H)) (f u)) where
+    saved : (t : State) → Represents b (prologue H) (replicate (jumps (prologue H)) 1) t
         → Agrees b (then (unless (space-number (length b) (prologue H) (saves (H .mask))) 1 (only H)) K) (next (put 0 0 (saves (H .mask)) t) 1 f)
     saved t l =
         let new : shared (labels (saves (H .mask))) (labels (prologue H)) ≡ false = rw (saves-labels (H .mask)) in
@@ -69,7 +71,7 @@ module _ (b : List ℕ) (H : Head) (g : epilogue-holds H ≡ true) where
         (put-agrees b (prologue H) (replicate (jumps (prologue H)) 1) t l (saves (H .mask)) 0 0 (fit-labelled (saves (H .mask)) (saves-fit (H .mask))) (rw (saves-labels (H .mask)) tt) refl 1 f Program (only H) K
         (λ u m. more u (entered u m)))
 
-    pub enter-agrees : (s : State) → Laid b [] [] s → Agrees b (then (unless (room-number (length b) [] (prologue H ++ saves (H .mask))) 1 (only H)) K) (enter-run H s f)
+    pub enter-agrees : (s : State) → Represents b [] [] s → Agrees b (then (unless (room-number (length b) [] (prologue H ++ saves (H .mask))) 1 (only H)) K) (enter-run H s f)
     unfolding enter-run labels
     enter-agrees s a =
         subst (λ (k : ℕ). Agrees b (then (unless k 1 (only H)) K) (next (put 1 (prologue-fault H) (prologue H) s) 1 (λ (t : State). next (put 0 0 (saves (H .mask)) t) 1 f))) (sym (room-space (length b) [] (prologue H ++ saves (H .mask)) (shared-none (labels (prologue H ++ saves (H .mask))))))
@@ -78,7 +80,7 @@ module _ (b : List ℕ) (H : Head) (g : epilogue-holds H ≡ true) where
 
 -- ---- the file
 
-module _ (b : List ℕ) (s : State) (a : Laid b [] [] s) where
+module _ (b : List ℕ) (s : State) (a : Represents b [] [] s) where
   refuses : (n line : ℕ) → Agrees b (refused n line) (refused-at n line s)
   refuses = laid-refuses b [] [] s a
 
@@ -151,19 +153,19 @@ module _ (b : List ℕ) where
       ∙ ap (λ (x : List ℕ). bytes (routine-words p) ++ x) (ap (λ (k : ℕ). drop k (cleared b)) z ∙ cleared-from (length (bytes (routine-words p))) (omega arith))
 
   -- the answer, and the buffer
-  promised : (x : Answer Program) (m : Made) → Agrees (cleared b) x m
-      → (blanked (m .answer) (m .state) .answer ≡ told-answer x) × (blanked (m .answer) (m .state) .state .buf ≡ buffer-after x b)
+  promised : (x : Answer Program) (m : RunOutcome) → Agrees (cleared b) x m
+      → (blanked (m .answer) (m .state) .answer ≡ summary-answer x) × (blanked (m .answer) (m .state) .state .buf ≡ buffer-after x b)
   promised (refused n line) m a = rw (a .0) (refl, blank-after n line (m .state) (a .1))
   promised (accepted p) m a = rw (a .0) (refl, code-after p (m .state) (a .1))
 
-kept : (b : List ℕ) (p : Program) (m : Made) → Agrees b (accepted p) m → Left b p (blanked (m .answer) (m .state) .state)
+kept : (b : List ℕ) (p : Program) (m : RunOutcome) → Agrees b (accepted p) m → Left b p (blanked (m .answer) (m .state) .state)
 kept b p m a = rw (a .0) (a .1)
 
 -- ---- the laws
 
 module _ (file js b : List ℕ) (n : length js ≡ 20480) where
   made : Agrees (cleared b) (program-of (length b) file) (file-run file (fresh js b))
-  made = rw (cleared-length b) at (file-agrees (cleared b) (fresh js b) (fresh-laid (cleared b) js n) file)
+  made = rw (cleared-length b) at (file-agrees (cleared b) (fresh js b) (fresh-represents (cleared b) js n) file)
 
   -- The run is the plain definition, whatever the jump memory held.
   pub run-promise : Promise file b (run file js b .answer) (run file js b .state .buf)

@@ -9,6 +9,8 @@ use native.Mathlib.Omega.{arith}
 use borrow.Author.Tests.{le-leb, lt-ltb, le-ltb, eq-eqb, ltb-true, ltb-false}
 use lib.Dec.{eqb, ltb}
 use lib.ListN.{length, getD}
+use Rattle.base.specs.Tests.{Each}
+use Rattle.base.proofs.Each.{each-both, each-map}
 use Rattle.refusal.specs.Answer.{accepted, refused}
 use Rattle.assembler.specs.Item.{Item, instr, raw, jump, label}
 use Rattle.assembler.specs.Jump.{kind-number}
@@ -16,14 +18,14 @@ use Rattle.assembler.specs.Label.{is-set}
 use Rattle.assembler.specs.Memory.{Jump, jump-at, tag-at, jumps-of, tags-of}
 use Rattle.assembler.specs.State.{State}
 use Rattle.assembler.specs.Put.{jumps, labels}
-use Rattle.assembler.specs.Resolved.{label-place}
-use Rattle.assembler.specs.declared.Kind.{Kind}
-use Rattle.assembler.specs.declared.Kind.the-variants.{Auipc, Ld, Jalr, Fld, Beq, Bne}
+use Rattle.assembler.specs.Resolved.{label-place, jumps-in}
+use Rattle.assembler.specs.declared.JumpKind.{JumpKind}
+use Rattle.assembler.specs.declared.JumpKind.the-variants.{Auipc, Ld, Jalr, Fld, Beq, Bne}
 use Rattle.finish.specs.Finish as Finish
-use Rattle.finish.specs.Finish.{Ending, first, label-good, labels-good, jump-good, jump-number, first-with, finish-number, about, finish}
-use Rattle.laid.specs.Laid.{Laid, jumps-in, entry}
-use Rattle.laid.proofs.Finished.{place-known, finish-laid}
-use Rattle.call.specs.Program.{Program, constants}
+use Rattle.finish.specs.Finish.{FinishOutcome, first, label-good, labels-good, jump-good, jump-number, first-with, finish-number, about, finish}
+use Rattle.finish.proofs.Represents.{Represents, entry}
+use Rattle.finish.proofs.Resolves.{place-known, finish-represents}
+use Rattle.reading.specs.Program.{Program, constants}
 use Rattle.call.specs.Layout.{span, items, place, constants-offset}
 use Rattle.call.proofs.Items.{within, resolved-length}
 use Rattle.routine.specs.Routine.{unset, far, first-line, jump-lines, finished, refused-at}
@@ -60,38 +62,26 @@ first-told t m i (suc n) = by (t (jump-at m i)) (first (λ k. t (jump-at m k)) (
         test true q = q ∙ sym (lt-ltb (1 + f) (suc n) (omega (arith, ltb-true f n q)))
         test false q = q ∙ sym (le-ltb (1 + f) (suc n) (omega (arith, ltb-false f n q)))
 
-abbrev All : (Jump → Type 0) → List Jump → Type 0
-All P [] = Unit {0}
-All P (j ∷ js) = P j × All P js
-
-all-map : (P Q : Jump → Type 0) → ((j : Jump) → P j → Q j) → (js : List Jump) → All P js → All Q js
-all-map P Q f [] a = tt
-all-map P Q f (j ∷ js) a = (f j (a .0), all-map P Q f js (a .1))
-
-all-both : (P Q : Jump → Type 0) → (js : List Jump) → All P js → All Q js → All (λ j. P j × Q j) js
-all-both P Q [] a b = tt
-all-both P Q (j ∷ js) a b = ((a .0, b .0), all-both P Q js (a .1) (b .1))
-
-first-same : (t u : Jump → Bool) (js : List Jump) (ns : List ℕ) → All (λ j. t j ≡ u j) js → first-line t js ns ≡ first-line u js ns
+first-same : (t u : Jump → Bool) (js : List Jump) (ns : List ℕ) → Each (λ j. t j ≡ u j) js → first-line t js ns ≡ first-line u js ns
 unfolding first-line
 first-same t u [] ns a = refl
 first-same t u (j ∷ js) [] a = refl
 first-same t u (j ∷ js) (n ∷ ns) a = rw (a .0, first-same t u js ns (a .1))
 
-first-never : (t : Jump → Bool) (js : List Jump) (ns : List ℕ) → All (λ j. t j ≡ false) js → first-line t js ns ≡ none
+first-never : (t : Jump → Bool) (js : List Jump) (ns : List ℕ) → Each (λ j. t j ≡ false) js → first-line t js ns ≡ none
 unfolding first-line
 first-never t [] ns a = refl
 first-never t (j ∷ js) [] a = refl
 first-never t (j ∷ js) (n ∷ ns) a = rw (a .0) (first-never t js ns (a .1))
 
 -- where none is found none passes
-none-passes : (t : Jump → Bool) (m : List ℕ) (i n : ℕ) → first-line t (jumps-of m i n) (tags-of m i n) ≡ none → All (λ j. t j ≡ false) (jumps-of m i n)
+none-passes : (t : Jump → Bool) (m : List ℕ) (i n : ℕ) → first-line t (jumps-of m i n) (tags-of m i n) ≡ none → Each (λ j. t j ≡ false) (jumps-of m i n)
 unfolding first-line jumps-of tags-of
 none-passes t m i zero e = tt
 none-passes t m i (suc n) e = by (t (jump-at m i)) refl (λ q. none-passes t m (i + 1) n q) e
   where
-    by : (c : Bool) → t (jump-at m i) ≡ c → (first-line t (jumps-of m (i + 1) n) (tags-of m (i + 1) n) ≡ none → All (λ j. t j ≡ false) (jumps-of m (i + 1) n))
-        → cond c (some (tag-at m i)) (first-line t (jumps-of m (i + 1) n) (tags-of m (i + 1) n)) ≡ none → (t (jump-at m i) ≡ false) × All (λ j. t j ≡ false) (jumps-of m (i + 1) n)
+    by : (c : Bool) → t (jump-at m i) ≡ c → (first-line t (jumps-of m (i + 1) n) (tags-of m (i + 1) n) ≡ none → Each (λ j. t j ≡ false) (jumps-of m (i + 1) n))
+        → cond c (some (tag-at m i)) (first-line t (jumps-of m (i + 1) n) (tags-of m (i + 1) n)) ≡ none → (t (jump-at m i) ≡ false) × Each (λ j. t j ≡ false) (jumps-of m (i + 1) n)
     by true q r e = let z : _≡_ {A = ℕ} 0 1 = cc in absurd (omega arith)
     by false q r e = (q, r e)
 
@@ -109,7 +99,7 @@ entry-good len (some p) h l =
     or-true true = refl
     or-true false = refl
 
-kind-small : (k : Kind) → ltb (kind-number k) 6 ≡ true
+kind-small : (k : JumpKind) → ltb (kind-number k) 6 ≡ true
 kind-small Auipc = refl
 kind-small Ld = refl
 kind-small Jalr = refl
@@ -120,7 +110,7 @@ kind-small Bne = refl
 abbrev Sound : ℕ → Jump → Type 0
 Sound len j = (jump-good len j ≡ true) × (j .label < 2039)
 
-jumps-sound : (len here : ℕ) (is : List Item) → Fit is → here % 4 ≡ 0 → here + span is ≤ len → All (Sound len) (jumps-in here is)
+jumps-sound : (len here : ℕ) (is : List Item) → Fit is → here % 4 ≡ 0 → here + span is ≤ len → Each (Sound len) (jumps-in here is)
 unfolding jumps-in span
 jumps-sound len here [] f e h = tt
 jumps-sound len here (instr i ∷ is) f e h = jumps-sound len (here + 4) is f (omega arith) (omega arith)
@@ -153,7 +143,7 @@ tests-six : (f : Bool) → eqb (by-tests false f) 6 ≡ f
 tests-six true = refl
 tests-six false = refl
 
-module _ (b : List ℕ) (is : List Item) (ts : List ℕ) (s : State) (a : Laid b is ts s) (f : Fit is) where
+module _ (b : List ℕ) (is : List Item) (ts : List ℕ) (s : State) (a : Represents b is ts s) (f : Fit is) where
   len-span : s .asm .len ≡ span is
   len-span = a .len ∙ span-words is
 
@@ -173,7 +163,7 @@ module _ (b : List ℕ) (is : List Item) (ts : List ℕ) (s : State) (a : Laid b
       let u : not (is-set (getD (s .labels) (j .label) 0)) ≡ unset is j = ap not (set-among b is ts s a (j .label) (g .1) ∙ sym (place-among (j .label) 0 is)) ∙ not-not (unset is j) in
       rw (g .0, u, place-known b is ts s a (j .label) (g .1))
 
-  all-sound : All (Sound (s .asm .len)) (jumps-in 0 is)
+  all-sound : Each (Sound (s .asm .len)) (jumps-in 0 is)
   all-sound = jumps-sound (s .asm .len) 0 is f refl (omega (arith, len-span))
 
   -- a jump has this number
@@ -193,19 +183,19 @@ module _ (b : List ℕ) (is : List Item) (ts : List ℕ) (s : State) (a : Laid b
       ∙ rw (zero-add (first (λ i. has k (jump-at (s .jumps) i)) 0 (s .asm .jumps))))
 
   no-two : first-line (has 2) (jumps-in 0 is) ts ≡ none
-  no-two = first-never (has 2) (jumps-in 0 is) ts (all-map (Sound (s .asm .len)) (λ j. has 2 j ≡ false) (λ j g. rw (jump-is j g) (tests-two (unset is j) (far is j))) (jumps-in 0 is) all-sound)
+  no-two = first-never (has 2) (jumps-in 0 is) ts (each-map (Sound (s .asm .len)) (λ j. has 2 j ≡ false) (λ j g. rw (jump-is j g) (tests-two (unset is j) (far is j))) (jumps-in 0 is) all-sound)
 
   five : first-line (has 5) (jumps-in 0 is) ts ≡ first-line (unset is) (jumps-in 0 is) ts
-  five = first-same (has 5) (unset is) (jumps-in 0 is) ts (all-map (Sound (s .asm .len)) (λ j. has 5 j ≡ unset is j) (λ j g. rw (jump-is j g) (tests-five (unset is j) (far is j))) (jumps-in 0 is) all-sound)
+  five = first-same (has 5) (unset is) (jumps-in 0 is) ts (each-map (Sound (s .asm .len)) (λ j. has 5 j ≡ unset is j) (λ j g. rw (jump-is j g) (tests-five (unset is j) (far is j))) (jumps-in 0 is) all-sound)
 
-  all-set : first-line (unset is) (jumps-in 0 is) ts ≡ none → All (λ j. unset is j ≡ false) (jumps-in 0 is)
-  all-set e = subst (All (λ j. unset is j ≡ false)) memory-jumps (none-passes (unset is) (s .jumps) 0 (s .asm .jumps) (rw (memory-jumps, memory-tags) e))
+  all-set : first-line (unset is) (jumps-in 0 is) ts ≡ none → Each (λ j. unset is j ≡ false) (jumps-in 0 is)
+  all-set e = subst (Each (λ j. unset is j ≡ false)) memory-jumps (none-passes (unset is) (s .jumps) 0 (s .asm .jumps) (rw (memory-jumps, memory-tags) e))
 
   six : first-line (unset is) (jumps-in 0 is) ts ≡ none → first-line (has 6) (jumps-in 0 is) ts ≡ first-line (far is) (jumps-in 0 is) ts
   six e =
       first-same (has 6) (far is) (jumps-in 0 is) ts
-      (all-map (λ j. Sound (s .asm .len) j × (unset is j ≡ false)) (λ j. has 6 j ≡ far is j) (λ j g. rw (jump-is j (g .0), g .1) (tests-six (far is j))) (jumps-in 0 is)
-      (all-both (Sound (s .asm .len)) (λ j. unset is j ≡ false) (jumps-in 0 is) all-sound (all-set e)))
+      (each-map (λ j. Sound (s .asm .len) j × (unset is j ≡ false)) (λ j. has 6 j ≡ far is j) (λ j g. rw (jump-is j (g .0), g .1) (tests-six (far is j))) (jumps-in 0 is)
+      (each-both (Sound (s .asm .len)) (λ j. unset is j ≡ false) (jumps-in 0 is) all-sound (all-set e)))
 
   not-found : (k : ℕ) → first-line (has k) (jumps-in 0 is) ts ≡ none → ltb (first-with k s) (s .asm .jumps) ≡ false
   not-found k e = by (ltb (first-with k s) (s .asm .jumps)) (sym (line-with k) ∙ e)
@@ -250,7 +240,7 @@ module _ (b : List ℕ) (is : List Item) (ts : List ℕ) (s : State) (a : Laid b
 
 -- ---- the routine's
 
-module _ (b : List ℕ) (p : Program) (s : State) (a : Laid b (items p) (jump-lines p) s) (f : Fit (items p)) where
+module _ (b : List ℕ) (p : Program) (s : State) (a : Represents b (items p) (jump-lines p) s) (f : Fit (items p)) where
   left : finish s .answer ≡ accepted tt → finish s .state ≡ Finish.finished s → Left b p (Finish.finished s)
   unfolding place
   left e g =
@@ -258,7 +248,7 @@ module _ (b : List ℕ) (p : Program) (s : State) (a : Laid b (items p) (jump-li
       record {
         asm = rw (a .len, span-words (items p), a .count);
         within = omega (arith, resolved-length (place p) 0 (items p), span-words (items p));
-        buf = ap (λ (t : State). t .buf) (sym g) ∙ finish-laid b (items p) (jump-lines p) s a (fit-labelled (items p) f) e;
+        buf = ap (λ (t : State). t .buf) (sym g) ∙ finish-represents b (items p) (jump-lines p) s a (fit-labelled (items p) f) e;
         set-labels = a .set-labels;
         noted = a .noted;
         tagged = a .tagged;
@@ -278,4 +268,4 @@ module _ (b : List ℕ) (p : Program) (s : State) (a : Laid b (items p) (jump-li
           rw (r .0) (ap (refused 6) (r .1), laid-unmade b (items p) (jump-lines p) s a)
       by none none e g =
           let r = ends-well b (items p) (jump-lines p) s a f e g in
-          rw r (rw (x, y, a .len, span-words (items p), a .count), left (ap (λ (t : Ending). t .answer) r) (ap (λ (t : Ending). t .state) r))
+          rw r (rw (x, y, a .len, span-words (items p), a .count), left (ap (λ (t : FinishOutcome). t .answer) r) (ap (λ (t : FinishOutcome). t .state) r))

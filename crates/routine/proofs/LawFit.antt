@@ -8,30 +8,32 @@ use borrow.Author.Tests.{ne-eqb, leb-true, ltb-true}
 use lib.Dec.{eqb, ltb, leb}
 use lib.IntN.{pos}
 use lib.ListN.{length}
+use Rattle.base.specs.Tests.{Each}
+use Rattle.base.proofs.Each.{each-map}
 use Rattle.isa.specs.Instr.{Instr, R, I, Shift, ADD, FLD, SLLI}
-use Rattle.isa.proofs.Validity.{both}
-use Rattle.order.specs.declared.Frame.{Frame}
-use Rattle.order.specs.declared.Frame.the-variants.{Fast, Indirect}
-use Rattle.order.specs.declared.Head.{Head}
-use Rattle.order.specs.declared.Order.{Order}
-use Rattle.order.specs.declared.Order.the-variants.{Unary, Scratched, Binary, Fused, Ifelse, LoadConst, Load, Save, BranchIf, SetLabel}
+use Rattle.base.proofs.Bools.{both}
+use Rattle.ast.specs.declared.Frame.{Frame}
+use Rattle.ast.specs.declared.Frame.the-variants.{Fast, Indirect}
+use Rattle.ast.specs.declared.Head.{Head}
+use Rattle.ast.specs.declared.Order.{Order}
+use Rattle.ast.specs.declared.Order.the-variants.{Unary, Scratched, Binary, Fused, Ifelse, LoadConst, Load, Save, BranchIf, SetLabel}
 use Rattle.assembler.specs.Item.{Item, instr, raw, jump, label}
 use Rattle.assembler.specs.Put.{jumps, labels, among}
-use Rattle.assembler.specs.declared.Kind.the-variants.{Bne}
+use Rattle.assembler.specs.declared.JumpKind.the-variants.{Bne}
 use Rattle.accesses.specs.Code.{li-code, sub-stack-code, allocate-stack-code, load-int-code, load-float-code, save-float-code}
-use Rattle.framing.specs.Size.{frame-size, stack-size}
-use Rattle.order.specs.Mask.{saved}
-use Rattle.framing.specs.Items as F
-use Rattle.framing.specs.Items.{mv, opening, closing, times-over, states-from, state-copy, obs-copy, count-down, at-pro, at-epi, save, reload, by-frame, repeated, prologue, prologue-fast, prologue-indirect, epilogue, epilogue-fast, epilogue-indirect, saves, reloads}
+use Rattle.reading.specs.Size.{frame-size, stack-size}
+use Rattle.ast.specs.Mask.{saved}
+use Rattle.frame_code.specs.Items as F
+use Rattle.frame_code.specs.Items.{mv, opening, closing, times-over, states-from, state-copy, obs-copy, count-down, at-pro, at-epi, save, reload, by-frame, repeated, prologue, prologue-fast, prologue-indirect, epilogue, epilogue-fast, epilogue-indirect, saves, reloads}
 use Rattle.orders.specs.Code.{base, unary-code, scratched-code, binary-code, choose-code, code}
 use Rattle.orders.specs.Fault.{fault}
-use Rattle.laid.specs.Laid.{Labelled}
-use Rattle.laid.proofs.All.{zero-else}
+use Rattle.finish.proofs.Represents.{Labelled}
+use Rattle.finish.proofs.All.{zero-else}
 use Rattle.call.specs.Layout.{constants-from}
 use Rattle.call.proofs.Items.{Fresh}
 use Rattle.call.proofs.Labels.{Early, Late, entry-fresh, exit-fresh}
 use Rattle.routine.specs.Routine.{shared}
-use Rattle.routine.proofs.LawRoom.{Each, Once}
+use Rattle.routine.proofs.LawRoom.{Once}
 
 -- ---- registers and labels that there are
 
@@ -141,10 +143,6 @@ code-fit (SetLabel l) e =
 
 -- ---- lists of labels
 
-pub each-weaker : (P Q : ℕ → Type 0) → ((l : ℕ) → P l → Q l) → (ls : List ℕ) → Each P ls → Each Q ls
-each-weaker P Q f [] e = tt
-each-weaker P Q f (l ∷ ls) e = (f l (e .0), each-weaker P Q f ls (e .1))
-
 pub each-append : (P : ℕ → Type 0) (xs ys : List ℕ) → Each P xs → Each P ys → Each P (xs ++ ys)
 each-append P [] ys e f = f
 each-append P (x ∷ xs) ys e f = (e .0, each-append P xs ys (e .1) f)
@@ -163,7 +161,7 @@ shared-none (l ∷ ls) = shared-none ls
 pub shared-not : (P Q : ℕ → Type 0) → ((l : ℕ) → P l → Q l → ⊥) → (ls ms : List ℕ) → Each P ls → Each Q ms → shared ls ms ≡ false
 shared-not P Q f [] ms e g = refl
 shared-not P Q f (l ∷ ls) ms e g =
-    rw (not-among l ms (each-weaker Q (λ m. l ≡ m → ⊥) (λ m q z. f m (subst P z (e .0)) q) ms g)) (shared-not P Q f ls ms (e .1) g)
+    rw (not-among l ms (each-map Q (λ m. l ≡ m → ⊥) (λ m q z. f m (subst P z (e .0)) q) ms g)) (shared-not P Q f ls ms (e .1) g)
 
 pub fresh-each : (xs : List Item) (K : ℕ → Type 0) → Fresh xs K → Each K (labels xs)
 unfolding labels
@@ -171,7 +169,7 @@ fresh-each [] K f = tt
 fresh-each (instr i ∷ xs) K f = fresh-each xs K f
 fresh-each (raw w ∷ xs) K f = absurd f
 fresh-each (jump k m r ∷ xs) K f = fresh-each xs K f
-fresh-each (label m ∷ xs) K f = (f .0, each-weaker (λ l. K l × (m ≡ l → ⊥)) K (λ l v. v .0) (labels xs) (fresh-each xs (λ l. K l × (m ≡ l → ⊥)) (f .1)))
+fresh-each (label m ∷ xs) K f = (f .0, each-map (λ l. K l × (m ≡ l → ⊥)) K (λ l v. v .0) (labels xs) (fresh-each xs (λ l. K l × (m ≡ l → ⊥)) (f .1)))
 
 fresh-once : (xs : List Item) (K : ℕ → Type 0) → Fresh xs K → Once (labels xs)
 unfolding labels
@@ -180,7 +178,7 @@ fresh-once (instr i ∷ xs) K f = fresh-once xs K f
 fresh-once (raw w ∷ xs) K f = absurd f
 fresh-once (jump k m r ∷ xs) K f = fresh-once xs K f
 fresh-once (label m ∷ xs) K f = (
-  not-among m (labels xs) (each-weaker (λ l. K l × (m ≡ l → ⊥)) (λ l. m ≡ l → ⊥) (λ l v. v .1) (labels xs) (fresh-each xs (λ l. K l × (m ≡ l → ⊥)) (f .1))),
+  not-among m (labels xs) (each-map (λ l. K l × (m ≡ l → ⊥)) (λ l. m ≡ l → ⊥) (λ l v. v .1) (labels xs) (fresh-each xs (λ l. K l × (m ≡ l → ⊥)) (f .1))),
   fresh-once xs (λ l. K l × (m ≡ l → ⊥)) (f .1),
 )
 
@@ -229,7 +227,7 @@ module _ (H : Head) where
   epilogue-once = fresh-once (epilogue H) Last epilogue-fresh
 
   pub epilogue-labels : Each (λ l. (2035 ≤ l) × (l ≤ 2036)) (labels (epilogue H))
-  epilogue-labels = each-weaker Last (λ l. (2035 ≤ l) × (l ≤ 2036)) (λ l v. omega arith) (labels (epilogue H)) (fresh-each (epilogue H) Last epilogue-fresh)
+  epilogue-labels = each-map Last (λ l. (2035 ≤ l) × (l ≤ 2036)) (λ l v. omega arith) (labels (epilogue H)) (fresh-each (epilogue H) Last epilogue-fresh)
 
 pub saves-labels : (mask : ℕ) → labels (saves mask) ≡ []
 unfolding saves

@@ -1,27 +1,24 @@
 -- A line that is judged good has no fault left for what is placed. Assumes nothing.
 use mathlib.Core.Path.{_≡_, refl}
-use mathlib.Core.Bool.{Bool, true, false, _&&_, _||_, not, cond, Bool·beq}
+use mathlib.Core.Bool.{Bool, true, false, _&&_, cond, Bool·beq}
 use Prim.Native.Nat.{ℕ, suc, _*_, _<_, _≤_}
 use native.Mathlib.Omega.{arith}
 use borrow.Author.Tests.{lt-ltb, le-leb, ltb-true}
 use lib.Dec.{ltb, leb}
-use Rattle.order.specs.Count.{cells}
-use Rattle.isa.proofs.Validity.{both}
+use Rattle.base.proofs.Bools.{both}
 use Rattle.refusal.specs.Answer.{Answer, accepted, refused}
 use Rattle.refusal.specs.declared.Refusal.{Refusal}
 use Rattle.refusal.specs.declared.Refusal.the-variants as Refusal
-use Rattle.order.specs.declared.Frame.{Frame}
-use Rattle.order.specs.declared.Frame.the-variants.{Fast, Indirect}
-use Rattle.order.specs.declared.Head.{Head}
-use Rattle.order.specs.declared.Order.{Order}
-use Rattle.order.specs.declared.Order.the-variants as Order
+use Rattle.ast.specs.declared.Head.{Head}
+use Rattle.ast.specs.declared.Order.{Order}
+use Rattle.ast.specs.declared.Order.the-variants as Order
 use Rattle.text.specs.declared.Number.{Number}
 use Rattle.text.specs.declared.Number.the-variants.{Value, TooBig}
 use Rattle.form.specs.declared.Form.{Form}
 use Rattle.form.specs.declared.Form.the-variants as Form
-use Rattle.deck.specs.Judge.{Content, demand, below, value, register, index, constant-index, mask, count, counts-hold, frame-holds, head-of, judged, line-judged, heads}
+use Rattle.deck.specs.Judge.{Content, demand, below, value, register, index, constant-index, mask, count, head-of, judged, line-judged, is-head}
+use Rattle.ast.specs.Counts.{counts-hold, epilogue-holds, cap-holds}
 use Rattle.deck.specs.Judge as Deck
-use Rattle.framing.specs.Fault.{epilogue-holds, counts-hold as frame-counts, result-holds}
 use Rattle.orders.specs.Fault.{fault}
 
 small : (k : ℕ) (n : Number) → below k n ≡ true → value n < k
@@ -62,19 +59,9 @@ module _ (r : Refusal) where
       let w = both (register s) (register t) (q .1) in
       f (passes 32 d (q .0)) (passes 32 s (w .0)) (passes 32 t (w .1)))
 
--- deck's counts are those of the frames
-head-said : (h : Head) → h .cap ≤ 4096 → h .last ≤ 4096 → counts-hold h ≡ true → epilogue-holds h ≡ true
+head-said : (h : Head) → counts-hold h ≡ true → epilogue-holds h ≡ true
 unfolding counts-hold
-head-said h c l e =
-    let p = both (leb (cells h) 4096) _ e in
-    let q = both (leb 16 (h .cap) || not (Deck.saves (h .mask))) (frame-holds h (h .frame)) (p .1) in
-    rw (le-leb (h .cap) 4096 c, p .0) (by (h .frame) (q .1))
-  where
-    by : (f : Frame) → frame-holds h f ≡ true → (frame-counts h f && result-holds h f) ≡ true
-    by Fast g =
-        let w = both (leb (h .states) 8) (leb (h .last) 255 && ltb (h .last) (cells h)) g in
-        rw (w .0) (w .1)
-    by Indirect g = rw (le-leb (h .last) 4096 l)
+head-said h e = both (epilogue-holds h) (cap-holds h) e .0
 
 pub judged-said : (f : Form) → Said (judged f)
 unfolding judged fault
@@ -86,7 +73,7 @@ judged-said (Form.Head f c s n l m) =
     let b = both (count s) (count n && (count l && counts-hold (head-of f c s n l m))) (a .1) in
     let d = both (count n) (count l && counts-hold (head-of f c s n l m)) (b .1) in
     let g = both (count l) (counts-hold (head-of f c s n l m)) (d .1) in
-    head-said (head-of f c s n l m) (omega (arith, small 4097 c (a .0))) (omega (arith, small 4097 l (g .0))) (g .1)))
+    head-said (head-of f c s n l m) (g .1)))
 judged-said (Form.Unary u d s) =
     demanded (register d && register s) Refusal.Register (accepted (Deck.order (Order.Unary u (value d) (value s))))
     (λ p. let q = both (register d) (register s) p in rw (passes 32 d (q .0), passes 32 s (q .1)))
@@ -122,7 +109,7 @@ judged-said (Form.Bits n) = tt
 
 pub line-said : (first : Bool) (f : Form) → Said (line-judged first f)
 unfolding line-judged
-line-said first f = by (Bool·beq (heads f) first)
+line-said first f = by (Bool·beq (is-head f) first)
   where
     by : (t : Bool) → Said (cond t (judged f) (refused 12 0))
     by true = judged-said f

@@ -8,24 +8,28 @@ use native.Mathlib.Omega.{arith}
 use borrow.Author.Tests.{le-leb}
 use lib.ListN.{length, replicate, length-map}
 use Rattle.refusal.specs.Answer.{Answer}
-use Rattle.order.specs.declared.Head.{Head}
-use Rattle.order.specs.declared.Constant.{Constant}
+use Rattle.ast.specs.declared.Head.{Head}
+use Rattle.ast.specs.declared.Constant.{Constant}
 use Rattle.assembler.specs.Item.{Item}
 use Rattle.assembler.specs.Bytes.{room}
-use Rattle.assembler.specs.Constant.{constant-bits, constant-items, constant-fault}
+use Rattle.assembler.specs.Constant.{constant-items, constant-fault}
+use Rattle.ast.specs.Constant.{constant-bits}
 use Rattle.assembler.specs.State.{State}
 use Rattle.assembler.specs.Put.{jumps, labels, among, put}
 use Rattle.assembler.proofs.Items.{jumps-append, labels-append}
-use Rattle.framing.specs.Items.{epilogue, reloads}
-use Rattle.framing.specs.Fault.{epilogue-holds, epilogue-fault}
-use Rattle.laid.specs.Laid.{Laid}
-use Rattle.call.specs.Program.{Program, constants}
+use Rattle.frame_code.specs.Items.{epilogue, reloads}
+use Rattle.frame_code.specs.Fault.{epilogue-fault}
+use Rattle.ast.specs.Counts.{epilogue-holds}
+use Rattle.finish.proofs.Represents.{Represents}
+use Rattle.reading.specs.Program.{Program, constants}
 use Rattle.call.specs.Layout.{span, body, constants-from, entry, exit, data-items, items, constants-offset}
 use Rattle.call.proofs.Labels.{Late}
 use Rattle.routine.specs.Routine.{then, unless, shared, room-number, last-line, closed-off, finished, body-lines, jump-lines}
-use Rattle.routine.specs.Run.{Made, next, finish-run, constants-run, leave-run}
-use Rattle.routine.proofs.LawRoom.{Each, Once, span-words, space-number, room-space}
-use Rattle.routine.proofs.LawFit.{Fit, fit-append, fit-labelled, epilogue-fit, reloads-fit, data-fit, each-weaker, each-append, shared-not, exit-late, epilogue-once, epilogue-labels, reloads-labels, reloads-jumps, data-labels}
+use Rattle.routine.specs.Run.{RunOutcome, next, finish-run, constants-run, leave-run}
+use Rattle.routine.proofs.LawRoom.{Once, span-words, space-number, room-space}
+use Rattle.base.specs.Tests.{Each}
+use Rattle.base.proofs.Each.{each-map}
+use Rattle.routine.proofs.LawFit.{Fit, fit-append, fit-labelled, epilogue-fit, reloads-fit, data-fit, each-append, shared-not, exit-late, epilogue-once, epilogue-labels, reloads-labels, reloads-jumps, data-labels}
 use Rattle.routine.proofs.LawParts.{Agrees, part-agrees}
 use Rattle.routine.proofs.LawFinish.{finish-agrees}
 
@@ -36,7 +40,7 @@ abbrev Unused : ℕ → ℕ → Type 0
 Unused k l = 1024 + k ≤ l → l ≤ 2031 → ⊥
 
 -- what was placed has room
-space-left : (b : List ℕ) (is : List Item) (ts : List ℕ) (s : State) → Laid b is ts s → space-number (length b) is [] ≡ 0
+space-left : (b : List ℕ) (is : List Item) (ts : List ℕ) (s : State) → Represents b is ts s → space-number (length b) is [] ≡ 0
 unfolding span jumps
 space-left b is ts s a =
     let w = a .within in
@@ -46,11 +50,11 @@ unused-next : (k : ℕ) (c : Constant) (is : List Item) → Each (Unused k) (lab
 unfolding labels
 unused-next k c is e =
     rw (labels-append is (constant-items k c))
-    (each-append (Unused (suc k)) (labels is) ((1024 + k) ∷ []) (each-weaker (Unused k) (Unused (suc k)) (λ l u x y. u (omega arith) y) (labels is) e) (λ x y. omega arith, tt))
+    (each-append (Unused (suc k)) (labels is) ((1024 + k) ∷ []) (each-map (Unused k) (Unused (suc k)) (λ l u x y. u (omega arith) y) (labels is) e) (λ x y. omega arith, tt))
 
-module _ (b : List ℕ) (line : ℕ) (x : Program) (g : Program → Answer Program) (f : State → Made) where
-  constants-agrees : (cs : List Constant) (k : ℕ) (is : List Item) (ts : List ℕ) (s : State) → Laid b is ts s → Each (Unused k) (labels is) → k + length cs ≤ 1008
-      → ((t : State) → Laid b (is ++ constants-from k (map constant-bits cs)) ts t → Agrees b (g x) (f t))
+module _ (b : List ℕ) (line : ℕ) (x : Program) (g : Program → Answer Program) (f : State → RunOutcome) where
+  constants-agrees : (cs : List Constant) (k : ℕ) (is : List Item) (ts : List ℕ) (s : State) → Represents b is ts s → Each (Unused k) (labels is) → k + length cs ≤ 1008
+      → ((t : State) → Represents b (is ++ constants-from k (map constant-bits cs)) ts t → Agrees b (g x) (f t))
       → Agrees b (then (unless (space-number (length b) is (constants-from k (map constant-bits cs))) line x) g) (constants-run line k cs s f)
   unfolding constants-from constants-run jumps labels among
   constants-agrees [] k is ts s a u h more = rw (space-left b is ts s a) (more s (rw (append-nil is) a))
@@ -90,16 +94,16 @@ module _ (p : Program) (B : List Item) (e : Each Before (labels B)) where
   epilogue-new =
       shared-not (λ l. (2035 ≤ l) × (l ≤ 2036)) NotEpi (λ l x y. y (x .0) (x .1)) (labels Y) (labels (B ++ X)) (epilogue-labels H)
       (rw (labels-append B X)
-      (each-append NotEpi (labels B) (labels X) (each-weaker Before NotEpi (λ l q x y. omega (arith, q .1)) (labels B) e)
+      (each-append NotEpi (labels B) (labels X) (each-map Before NotEpi (λ l q x y. omega (arith, q .1)) (labels B) e)
       (rw (reloads-labels (H .mask)) (λ x y. omega arith, (λ x y. omega arith, tt)))))
 
   data-new : Each (Unused 0) (labels ((B ++ X) ++ Y))
   data-new =
       rw (labels-append (B ++ X) Y, labels-append B X)
       (each-append (Unused 0) (labels B ++ labels X) (labels Y)
-      (each-append (Unused 0) (labels B) (labels X) (each-weaker Before (Unused 0) (λ l q x y. omega (arith, q .0 (omega arith))) (labels B) e)
+      (each-append (Unused 0) (labels B) (labels X) (each-map Before (Unused 0) (λ l q x y. omega (arith, q .0 (omega arith))) (labels B) e)
       (rw (reloads-labels (H .mask)) (λ x y. omega arith, (λ x y. omega arith, tt))))
-      (each-weaker (λ l. (2035 ≤ l) × (l ≤ 2036)) (Unused 0) (λ l q x y. omega arith) (labels Y) (epilogue-labels H)))
+      (each-map (λ l. (2035 ≤ l) × (l ≤ 2036)) (Unused 0) (λ l q x y. omega arith) (labels Y) (epilogue-labels H)))
 
   -- none of the prologue's labels, and no user's
   abbrev Behind : ℕ → Type 0
@@ -110,8 +114,8 @@ module _ (p : Program) (B : List Item) (e : Each Before (labels B)) where
       shared-not Behind Before (λ l x y. x .0 (y .0 (x .1)) (y .1)) (labels ((X ++ Y) ++ constants-from 0 bs)) (labels B)
       (rw (labels-append (X ++ Y) (constants-from 0 bs))
       (each-append Behind (labels (X ++ Y)) (labels (constants-from 0 bs))
-      (each-weaker Late Behind (λ l q. (λ x y. omega arith, omega arith)) (labels (X ++ Y)) (exit-late H))
-      (each-weaker (λ l. (1024 ≤ l) × (l ≤ 2031)) Behind (λ l q. (λ x y. omega arith, omega arith)) (labels (constants-from 0 bs)) (data-labels 0 bs (omega arith))))) e
+      (each-map Late Behind (λ l q. (λ x y. omega arith, omega arith)) (labels (X ++ Y)) (exit-late H))
+      (each-map (λ l. (1024 ≤ l) × (l ≤ 2031)) Behind (λ l q. (λ x y. omega arith, omega arith)) (labels (constants-from 0 bs)) (data-labels 0 bs (omega arith))))) e
 
 -- joined in another order
 regroup : {A : Type 0} (e b x y d : List A) → (((e ++ b) ++ x) ++ y) ++ d ≡ (e ++ (b ++ (x ++ y))) ++ d
@@ -126,7 +130,7 @@ tags-all p =
     let n : jumps (exit p) ≡ jumps (epilogue (p .head)) = jumps-append (reloads (p .head .mask)) (epilogue (p .head)) ∙ ap (λ (k : ℕ). k + jumps (epilogue (p .head))) (reloads-jumps (p .head .mask)) ∙ zero-add (jumps (epilogue (p .head))) in
     rw (reloads-jumps (p .head .mask), n, append-nil (tags-so-far p)) (append-assoc (replicate (jumps (entry p)) 1) (body-lines 2 (p .lines)) (replicate (jumps (epilogue (p .head))) (last-line p)))
 
-module _ (b : List ℕ) (p : Program) (cs : List Constant) (s : State) (a : Laid b (entry p ++ body (p .lines)) (tags-so-far p) s) (f : Fit (entry p ++ body (p .lines))) (e : Each Before (labels (entry p ++ body (p .lines))))
+module _ (b : List ℕ) (p : Program) (cs : List Constant) (s : State) (a : Represents b (entry p ++ body (p .lines)) (tags-so-far p) s) (f : Fit (entry p ++ body (p .lines))) (e : Each Before (labels (entry p ++ body (p .lines))))
     (c : map constant-bits cs ≡ constants (p .lines)) (h : length cs ≤ 1008) (g : epilogue-holds (p .head) ≡ true) where
   abbrev B : List Item
   B = entry p ++ body (p .lines)
@@ -145,36 +149,36 @@ module _ (b : List ℕ) (p : Program) (cs : List Constant) (s : State) (a : Laid
       (fit-append (B ++ reloads (p .head .mask)) (epilogue (p .head)) (fit-append B (reloads (p .head .mask)) f (reloads-fit (p .head .mask))) (epilogue-fit (p .head)))
       (data-fit 0 (constants (p .lines)) (omega (arith, few))))
 
-  offset-is : (t : State) (ts : List ℕ) → Laid b ((B ++ reloads (p .head .mask)) ++ epilogue (p .head)) ts t → t .asm .len ≡ constants-offset p
+  offset-is : (t : State) (ts : List ℕ) → Represents b ((B ++ reloads (p .head .mask)) ++ epilogue (p .head)) ts t → t .asm .len ≡ constants-offset p
   offset-is t ts l =
       l .len ∙ span-words ((B ++ reloads (p .head .mask)) ++ epilogue (p .head))
       ∙ ap span (simp append-assoc)
 
-  finishes : (u t : State) → Laid b ((B ++ reloads (p .head .mask)) ++ epilogue (p .head)) (jump-lines p) u → Laid b (((B ++ reloads (p .head .mask)) ++ epilogue (p .head)) ++ data-items p) (jump-lines p) t
+  finishes : (u t : State) → Represents b ((B ++ reloads (p .head .mask)) ++ epilogue (p .head)) (jump-lines p) u → Represents b (((B ++ reloads (p .head .mask)) ++ epilogue (p .head)) ++ data-items p) (jump-lines p) t
       → Agrees b (finished p) (finish-run (p .head) (u .asm .len) (length cs) t)
   finishes u t l m =
-      finish-agrees b p t (subst (λ (is : List Item). Laid b is (jump-lines p) t) whole m) all-fit (u .asm .len) (length cs) (offset-is u (jump-lines p) l)
+      finish-agrees b p t (subst (λ (is : List Item). Represents b is (jump-lines p) t) whole m) all-fit (u .asm .len) (length cs) (offset-is u (jump-lines p) l)
       (sym (length-map cs constant-bits) ∙ ap length c)
 
-  after-epilogue : (u : State) → Laid b ((B ++ reloads (p .head .mask)) ++ epilogue (p .head)) (jump-lines p) u
+  after-epilogue : (u : State) → Represents b ((B ++ reloads (p .head .mask)) ++ epilogue (p .head)) (jump-lines p) u
       → Agrees b (then (unless (space-number (length b) ((B ++ reloads (p .head .mask)) ++ epilogue (p .head)) (data-items p)) (last-line p) p) finished) (constants-run (last-line p) 0 cs u (finish-run (p .head) (u .asm .len) (length cs)))
   after-epilogue u l =
       rw (← c) (constants-agrees b (last-line p) p finished (finish-run (p .head) (u .asm .len) (length cs)) cs 0 ((B ++ reloads (p .head .mask)) ++ epilogue (p .head)) (jump-lines p) u l (data-new p B e) (omega arith)
       (λ t m. finishes u t l (rw c at m)))
 
   -- the epilogue and all behind it
-  abbrev closing : State → Made
+  abbrev closing : State → RunOutcome
   closing t =
       next (put (last-line p) (epilogue-fault (p .head)) (epilogue (p .head)) t) (last-line p)
       (λ (u : State). constants-run (last-line p) 0 cs u (finish-run (p .head) (u .asm .len) (length cs)))
 
-  after-reloads : (t : State) → Laid b (B ++ reloads (p .head .mask)) (tags-so-far p ++ replicate (jumps (reloads (p .head .mask))) 0) t
+  after-reloads : (t : State) → Represents b (B ++ reloads (p .head .mask)) (tags-so-far p ++ replicate (jumps (reloads (p .head .mask))) 0) t
       → Agrees b (then (unless (space-number (length b) (B ++ reloads (p .head .mask)) (epilogue (p .head) ++ data-items p)) (last-line p) p) finished) (closing t)
   after-reloads t l =
       part-agrees b (B ++ reloads (p .head .mask)) (tags-so-far p ++ replicate (jumps (reloads (p .head .mask))) 0) t l (epilogue (p .head)) (last-line p) (epilogue-fault (p .head))
       (fit-labelled (epilogue (p .head)) (epilogue-fit (p .head))) (epilogue-once (p .head)) (rw g) (last-line p)
       (λ (u : State). constants-run (last-line p) 0 cs u (finish-run (p .head) (u .asm .len) (length cs))) (data-items p) p finished (epilogue-new p B e)
-      (λ u m. after-epilogue u (subst (λ (ts : List ℕ). Laid b ((B ++ reloads (p .head .mask)) ++ epilogue (p .head)) ts u) (tags-all p) m))
+      (λ u m. after-epilogue u (subst (λ (ts : List ℕ). Represents b ((B ++ reloads (p .head .mask)) ++ epilogue (p .head)) ts u) (tags-all p) m))
 
   reloads-once : Once (labels (reloads (p .head .mask)))
   unfolding among

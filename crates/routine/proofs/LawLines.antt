@@ -8,30 +8,31 @@ use native.Mathlib.Omega.{arith}
 use borrow.Author.Tests.{ltb-true}
 use lib.Dec.{ltb}
 use lib.ListN.{length, replicate, length-map, length-append}
-use Rattle.order.specs.Count.{index-holds}
+use Rattle.ast.specs.Uses.{index-holds, saves-hold}
 use Rattle.refusal.specs.Answer.{Answer, accepted, refused}
-use Rattle.order.specs.declared.Order.{Order}
-use Rattle.order.specs.declared.Constant.{Constant}
+use Rattle.ast.specs.declared.Order.{Order}
+use Rattle.ast.specs.declared.Constant.{Constant}
 use Rattle.form.specs.Form.{form-of}
 use Rattle.deck.specs.Judge.{Content, line-judged}
 use Rattle.deck.specs.Judge as Deck
 use Rattle.assembler.specs.Item.{Item}
-use Rattle.assembler.specs.Constant.{constant-bits}
+use Rattle.ast.specs.Constant.{constant-bits}
 use Rattle.assembler.specs.State.{State}
 use Rattle.assembler.specs.Put.{jumps, labels, put}
 use Rattle.assembler.proofs.Items.{labels-append}
 use Rattle.reading.specs.Line.{Line, order, constant}
 use Rattle.orders.specs.Code.{code, line-code}
+use Rattle.orders.specs.Emitted.{emitted-in}
 use Rattle.orders.specs.Fault.{fault}
-use Rattle.framing.specs.Fault.{epilogue-holds}
-use Rattle.laid.specs.Laid.{Laid}
-use Rattle.call.specs.Program.{Program, constants}
+use Rattle.ast.specs.Counts.{epilogue-holds}
+use Rattle.finish.proofs.Represents.{Represents}
+use Rattle.reading.specs.Program.{Program, constants}
 use Rattle.call.specs.Layout.{body, entry}
-use Rattle.call.specs.Good.{saves-hold}
 use Rattle.routine.specs.Routine.{then, unless, room-number, order-number, constant-number, placed-at, as-line, line-read, lines-read, next-line, last-line, with-line, closed-off, finished, body-lines}
-use Rattle.routine.specs.Run.{Made, refused-at, next, order-run, content-run, lines-run}
-use Rattle.routine.proofs.LawRoom.{Each}
-use Rattle.routine.proofs.LawFit.{Fit, fit-append, fit-labelled, code-fit, code-labels, each-weaker, each-append}
+use Rattle.routine.specs.Run.{RunOutcome, refused-at, next, constant-run, line-run, waiting, lines-run}
+use Rattle.base.specs.Tests.{Each}
+use Rattle.routine.proofs.LawFit.{Fit, fit-append, fit-labelled, code-fit, code-labels, each-append}
+use Rattle.base.proofs.Each.{each-map}
 use Rattle.routine.proofs.LawJudged.{Said, line-said}
 use Rattle.routine.proofs.LawParts.{Agrees, then-then, laid-refuses, put-agrees}
 use Rattle.routine.proofs.LawLeave.{Before, tags-so-far, leave-agrees}
@@ -81,7 +82,7 @@ tags-on p l =
 
 -- the state has exactly what the lines so far ask for
 pub record Going (b : List ℕ) (p : Program) (cs : List Constant) (s : State) : Type 0 where
-  pub laid : Laid b (entry p ++ body (p .lines)) (tags-so-far p) s
+  pub laid : Represents b (entry p ++ body (p .lines)) (tags-so-far p) s
   pub fit : Fit (entry p ++ body (p .lines))
   pub before : Each Before (labels (entry p ++ body (p .lines)))
   pub bits : map constant-bits cs ≡ constants (p .lines)
@@ -89,7 +90,7 @@ pub record Going (b : List ℕ) (p : Program) (cs : List Constant) (s : State) :
   pub holds : epilogue-holds (p .head) ≡ true
 
 module _ (b : List ℕ) (p : Program) (cs : List Constant) (s : State) (a : Going b p cs s) where
-  going-on : (l : Line) (ds : List Constant) (u : State) → Laid b ((entry p ++ body (p .lines)) ++ line-code l) (tags-so-far p ++ replicate (jumps (line-code l)) (next-line p)) u
+  going-on : (l : Line) (ds : List Constant) (u : State) → Represents b ((entry p ++ body (p .lines)) ++ line-code l) (tags-so-far p ++ replicate (jumps (line-code l)) (next-line p)) u
       → Fit (line-code l) → Each (λ k. k < 1024) (labels (line-code l)) → map constant-bits ds ≡ constants (p .lines ++ (l ∷ [])) → length ds ≤ 1008 → Going b (with-line p l) ds u
   going-on l ds u t f k c h =
       let is = items-on p l in
@@ -98,13 +99,13 @@ module _ (b : List ℕ) (p : Program) (cs : List Constant) (s : State) (a : Goin
         fit = rw is (fit-append (entry p ++ body (p .lines)) (line-code l) (a .fit) f);
         before =
             rw (is, labels-append (entry p ++ body (p .lines)) (line-code l))
-            (each-append Before (labels (entry p ++ body (p .lines))) (labels (line-code l)) (a .before) (each-weaker (λ k. k < 1024) Before (λ k q. (λ x. omega arith, omega arith)) (labels (line-code l)) k));
+            (each-append Before (labels (entry p ++ body (p .lines))) (labels (line-code l)) (a .before) (each-map (λ k. k < 1024) Before (λ k q. (λ x. omega arith, omega arith)) (labels (line-code l)) k));
         bits = c;
         few = h;
         holds = a .holds;
       }
 
-  going-order : (o : Order) (u : State) → fault o ≡ 0 → Laid b ((entry p ++ body (p .lines)) ++ code o) (tags-so-far p ++ replicate (jumps (code o)) (next-line p)) u → Going b (with-line p (order o)) cs u
+  going-order : (o : Order) (u : State) → fault o ≡ 0 → Represents b ((entry p ++ body (p .lines)) ++ code o) (tags-so-far p ++ replicate (jumps (code o)) (next-line p)) u → Going b (with-line p (order o)) cs u
   unfolding line-code
   going-order o u e t = going-on (order o) cs u t (code-fit o e) (code-labels o e .small) (a .bits ∙ sym (constants-order (p .lines) o)) (a .few)
 
@@ -117,12 +118,12 @@ module _ (b : List ℕ) (p : Program) (cs : List Constant) (s : State) (a : Goin
 
   -- ---- a line by what it says; F is what follows it
 
-  module _ (F : Line → Answer Program) (K : Program → Answer Program) (more : List Constant → State → Made)
+  module _ (F : Line → Answer Program) (K : Program → Answer Program) (more : List Constant → State → RunOutcome)
       (m : (l : Line) (ds : List Constant) (u : State) → Going b (with-line p l) ds u → Agrees b (then (F l) K) (more ds u)) where
     refuses : (n line : ℕ) → Agrees b (refused n line) (refused-at n line s)
     refuses = laid-refuses b (entry p ++ body (p .lines)) (tags-so-far p) s (a .laid)
 
-    order-agrees : (o : Order) → fault o ≡ 0 → Agrees b (then (then (unless (order-number (length b) p o) (next-line p) (order o)) F) K) (next (order-run (p .head) (next-line p) o s) (next-line p) (more cs))
+    order-agrees : (o : Order) → fault o ≡ 0 → Agrees b (then (then (unless (order-number (length b) p o) (next-line p) (order o)) F) K) (next (emitted-in (p .head) (next-line p) o s) (next-line p) (more cs))
     order-agrees o e = by (index-holds (p .head) o) (saves-hold (p .head .mask) o)
       where
         by : (t u : Bool)
@@ -135,20 +136,23 @@ module _ (b : List ℕ) (p : Program) (cs : List Constant) (s : State) (a : Goin
         by true false = refuses 11 (next-line p)
         by false u = refuses 9 (next-line p)
 
-    constant-agrees : (c : Constant) → Agrees b (then (then (unless (constant-number p) (next-line p) (constant c)) F) K) (cond (ltb (length cs) 1008) (more (cs ++ (c ∷ [])) s) (refused-at 9 (next-line p) s))
+    constant-agrees : (c : Constant) → Agrees b (then (then (unless (constant-number p) (next-line p) (constant c)) F) K) (next (constant-run (length cs) s) (next-line p) (more (cs ++ (c ∷ []))))
     constant-agrees c =
         let n : length (constants (p .lines)) ≡ length cs = ap length (sym (a .bits)) ∙ length-map cs constant-bits in
         rw n (by (ltb (length cs) 1008) refl)
       where
-        by : (t : Bool) → ltb (length cs) 1008 ≡ t → Agrees b (then (then (unless (cond t 0 9) (next-line p) (constant c)) F) K) (cond t (more (cs ++ (c ∷ [])) s) (refused-at 9 (next-line p) s))
+        by : (t : Bool) → ltb (length cs) 1008 ≡ t
+            → Agrees b (then (then (unless (cond t 0 9) (next-line p) (constant c)) F) K)
+            (next (cond t (record { answer = accepted tt; state = s }) (record { answer = refused 9 0; state = s })) (next-line p) (more (cs ++ (c ∷ []))))
         by true q = m (constant c) (cs ++ (c ∷ [])) s (going-constant c (ltb-true (length cs) 1008 q))
         by false q = refuses 9 (next-line p)
 
-    pub content-agrees : (x : Answer Content) → Said x → Agrees b (then (then (then (placed-at (next-line p) x) (as-line (length b) p)) F) K) (content-run (p .head) (next-line p) cs x s more)
-    content-agrees (refused n place) e = refuses n (next-line p)
-    content-agrees (accepted (Deck.head h)) e = refuses 12 (next-line p)
-    content-agrees (accepted (Deck.order o)) e = order-agrees o e
-    content-agrees (accepted (Deck.constant c)) e = constant-agrees c
+    pub line-agrees : (x : Answer Content) → Said x
+        → Agrees b (then (then (then (placed-at (next-line p) x) (as-line (length b) p)) F) K) (next (line-run (p .head) (next-line p) (length cs) x s) (next-line p) (more (cs ++ waiting x)))
+    line-agrees (refused n place) e = refuses n (next-line p)
+    line-agrees (accepted (Deck.head h)) e = refuses 12 (next-line p)
+    line-agrees (accepted (Deck.order o)) e = rw (append-nil cs) (order-agrees o e)
+    line-agrees (accepted (Deck.constant c)) e = constant-agrees c
 
 -- ---- all lines behind line 1
 
@@ -163,6 +167,6 @@ module _ (b : List ℕ) where
   unfolding lines-read line-read lines-run
   lines-agrees [] p cs s a = leave-agrees b p cs s (a .laid) (a .fit) (a .before) (a .bits) (a .few) (a .holds)
   lines-agrees (t ∷ ts) p cs s a =
-      content-agrees b p cs s a (λ l. lines-read (length b) (with-line p l) ts) ending (λ (ds : List Constant) (u : State). lines-run (p .head) (next-line p) ds ts u)
+      line-agrees b p cs s a (λ l. lines-read (length b) (with-line p l) ts) ending (λ (ds : List Constant) (u : State). lines-run (p .head) (next-line p) ds ts u)
       (λ l ds u g. subst (λ (n : ℕ). Agrees b (then (lines-read (length b) (with-line p l) ts) ending) (lines-run (p .head) n ds ts u)) (line-after p l) (lines-agrees ts (with-line p l) ds u g))
       (line-judged false (form-of t)) (line-said false (form-of t))

@@ -11,15 +11,15 @@ use Rattle.assembler.specs.Bytes.{written, room}
 use Rattle.assembler.specs.Memory.{jumps-of, tags-of}
 use Rattle.assembler.specs.State.{State}
 use Rattle.assembler.specs.Put.{words, jumps, labels, placed, put-number, settled, put}
-use Rattle.assembler.specs.Resolved.{label-place}
+use Rattle.assembler.specs.Resolved.{label-place, jumps-in}
 use Rattle.assembler.proofs.Steps.{put-done, settled-no}
-use Rattle.laid.specs.Laid.{Laid, Labelled, jumps-in, entry}
-use Rattle.laid.proofs.All.{put-laid}
-use Rattle.laid.proofs.Behind.{written-behind}
-use Rattle.call.specs.Program.{Program}
+use Rattle.finish.proofs.Represents.{Represents, Labelled, entry}
+use Rattle.finish.proofs.All.{put-represents}
+use Rattle.finish.proofs.Behind.{written-behind}
+use Rattle.reading.specs.Program.{Program}
 use Rattle.call.specs.Layout.{items, code-length, routine-words}
-use Rattle.routine.specs.Routine.{then, unless, shared, room-number, jump-lines, told-of}
-use Rattle.routine.specs.Run.{Made, refused-at, next}
+use Rattle.routine.specs.Routine.{then, unless, shared, room-number, jump-lines, summary-of}
+use Rattle.routine.specs.Run.{RunOutcome, refused-at, next}
 use Rattle.routine.proofs.LawRoom.{Once, laid-size, put-room, space-number, room-space, space-none, space-part}
 
 -- ---- agreement
@@ -38,9 +38,9 @@ pub record Unmade (b : List ℕ) (s : State) : Type 0 where
   pub size : length (s .buf) ≡ length b
   pub behind : drop (room (length b)) (s .buf) ≡ drop (room (length b)) b
 
-abbrev pub Agrees : (b : List ℕ) → Answer Program → Made → Type 0
+abbrev pub Agrees : (b : List ℕ) → Answer Program → RunOutcome → Type 0
 Agrees b (refused n line) m = (m .answer ≡ refused n line) × Unmade b (m .state)
-Agrees b (accepted p) m = (m .answer ≡ accepted (told-of p)) × Left b p (m .state)
+Agrees b (accepted p) m = (m .answer ≡ accepted (summary-of p)) × Left b p (m .state)
 
 pub then-then : {A B C : Type 0} (x : Answer A) (F : A → Answer B) (K : B → Answer C) → then (then x F) K ≡ then x (λ a. then (F a) K)
 then-then (accepted a) F K = refl
@@ -48,7 +48,7 @@ then-then (refused n place) F K = refl
 
 -- ---- one order more
 
-module _ (b : List ℕ) (is : List Item) (ts : List ℕ) (s : State) (a : Laid b is ts s) where
+module _ (b : List ℕ) (is : List Item) (ts : List ℕ) (s : State) (a : Represents b is ts s) where
   pub laid-unmade : Unmade b s
   laid-unmade =
       let w = a .within in
@@ -67,8 +67,8 @@ module _ (b : List ℕ) (is : List Item) (ts : List ℕ) (s : State) (a : Laid b
     done : room-number (length b) is js ≡ 0 → put tag fault js s ≡ record { answer = accepted tt; state = placed tag js s }
     done e = sym (put-done tag fault js s (placed tag js s) (number-is ∙ e) refl)
 
-    done-laid : room-number (length b) is js ≡ 0 → Laid b (is ++ js) (ts ++ replicate (jumps js) tag) (placed tag js s)
-    done-laid e = put-laid b is js ts tag fault s (placed tag js s) a h (done e)
+    done-laid : room-number (length b) is js ≡ 0 → Represents b (is ++ js) (ts ++ replicate (jumps js) tag) (placed tag js s)
+    done-laid e = put-represents b is js ts tag fault s (placed tag js s) a h (done e)
 
     not-done : (k : ℕ) → room-number (length b) is js ≡ suc k → put tag fault js s ≡ record { answer = refused (suc k) 0; state = s }
     unfolding put
@@ -76,12 +76,12 @@ module _ (b : List ℕ) (is : List Item) (ts : List ℕ) (s : State) (a : Laid b
         let q : put-number fault js s ≡ suc k = number-is ∙ e in
         ap (λ (m : ℕ). settled m s (placed tag js s)) q ∙ settled-no (suc k) s (placed tag js s) (λ w. omega arith)
 
-    module _ (line : ℕ) (f : State → Made) where
+    module _ (line : ℕ) (f : State → RunOutcome) where
       not-agrees : (k : ℕ) → room-number (length b) is js ≡ suc k → Agrees b (refused (suc k) line) (next (put tag fault js s) line f)
       not-agrees k e = rw (not-done k e) (laid-refuses (suc k) line)
 
       pub put-agrees : (A : Type 0) (x : A) (g : A → Answer Program)
-          → ((t : State) → Laid b (is ++ js) (ts ++ replicate (jumps js) tag) t → Agrees b (g x) (f t))
+          → ((t : State) → Represents b (is ++ js) (ts ++ replicate (jumps js) tag) t → Agrees b (g x) (f t))
           → Agrees b (then (unless (room-number (length b) is js) line x) g) (next (put tag fault js s) line f)
       put-agrees A x g more = by (room-number (length b) is js) refl
         where
@@ -91,7 +91,7 @@ module _ (b : List ℕ) (is : List Item) (ts : List ℕ) (s : State) (a : Laid b
 
       -- with new labels, and others to come that need room too
       pub part-agrees : (ks : List Item) (x : Program) (g : Program → Answer Program) → shared (labels js) (labels is) ≡ false
-          → ((t : State) → Laid b (is ++ js) (ts ++ replicate (jumps js) tag) t → Agrees b (then (unless (space-number (length b) (is ++ js) ks) line x) g) (f t))
+          → ((t : State) → Represents b (is ++ js) (ts ++ replicate (jumps js) tag) t → Agrees b (then (unless (space-number (length b) (is ++ js) ks) line x) g) (f t))
           → Agrees b (then (unless (space-number (length b) is (js ++ ks)) line x) g) (next (put tag fault js s) line f)
       part-agrees ks x g new more = by (space-number (length b) is js) refl
         where

@@ -8,6 +8,7 @@ use native.Mathlib.Omega.{arith}
 use borrow.Author.Tests.{ne-eqb, leb-false, lt-leb}
 use lib.Dec.{eqb, leb}
 use lib.ListN.{length, getD}
+use Rattle.base.specs.Tests.{Each}
 use Rattle.assembler.specs.Item.{Item, instr, raw, jump, label}
 use Rattle.assembler.specs.Bytes.{room}
 use Rattle.assembler.specs.Label.{is-set}
@@ -16,9 +17,9 @@ use Rattle.assembler.specs.Put.{words, jumps, labels, among, twice, verdict, pu
 use Rattle.assembler.specs.Resolved.{label-place}
 use Rattle.assembler.proofs.Items.{jumps-append}
 use Rattle.assembler.proofs.Writes.{length-written}
-use Rattle.laid.specs.Laid.{Laid, Labelled, entry}
-use Rattle.laid.proofs.Joined.{label-within}
-use Rattle.laid.proofs.Both.{sound-is}
+use Rattle.finish.proofs.Represents.{Represents, Labelled, entry}
+use Rattle.finish.proofs.Append.{label-within}
+use Rattle.finish.proofs.Both.{sound-is}
 use Rattle.call.specs.Layout.{span}
 use Rattle.call.proofs.Items.{span-append}
 use Rattle.routine.specs.Routine.{shared, is-none, room-number}
@@ -32,11 +33,6 @@ span-words (jump k l r ∷ is) = omega (arith, span-words is)
 span-words (label l ∷ is) = span-words is
 
 -- ---- labels
-
--- each of them has K
-abbrev pub Each : (ℕ → Type 0) → List ℕ → Type 0
-Each K [] = Unit {0}
-Each K (l ∷ ls) = K l × Each K ls
 
 -- none comes twice
 abbrev pub Once : List ℕ → Type 0
@@ -80,7 +76,7 @@ twice-shared m ms h (l ∷ ls) e o = rw (h l (e .0), o .0, twice-shared m ms h l
 
 -- ---- an order over a state
 
-module _ (b : List ℕ) (is : List Item) (ts : List ℕ) (s : State) (a : Laid b is ts s) where
+module _ (b : List ℕ) (is : List Item) (ts : List ℕ) (s : State) (a : Represents b is ts s) where
   pub laid-size : length (s .buf) ≡ length b
   laid-size = ap length (a .buf) ∙ length-written b 0 (words is)
 

@@ -10,6 +10,5 @@ pub mod LawParts
 pub mod LawRoom
 pub mod Lined
 pub mod Onward
-pub mod Packed
 pub mod Placed
-pub mod Unsaved
+pub mod Quick

@@ -1,4 +1,4 @@
-pub mod Places
+pub mod Answer
+pub mod Inner
 pub mod Routine
 pub mod Run
-pub mod Told

@@ -1,4 +1,5 @@
--- What a deck file is taken as: a program, or its refusal by number and line (document 01, "Added: the routine", "Numbers of refusal", "The deck file").
+-- What a deck file is taken as: a program, or its refusal by number and line
+-- (document 01, "Added: the routine", "Numbers of refusal", "The deck file").
 use mathlib.Core.Path.{_≡_}
 use mathlib.Core.Bool.{Bool, true, false, not, _&&_, _||_, cond}
 use mathlib.Core.List.{List, [], _∷_, _++_}
@@ -7,14 +8,15 @@ use Prim.Native.Nat.{ℕ, zero, suc, _+_, _-_}
 use lib.Dec.{ltb, leb}
 use lib.IntN.{subℕ}
 use lib.ListN.{length, drop, replicate}
-use Rattle.order.specs.Count.{index-holds}
+use Rattle.ast.specs.Uses.{index-holds, saves-hold}
+use Rattle.ast.specs.Constant.{constant-limit}
 use Rattle.isa.specs.Instr.{holds, offset}
 use Rattle.refusal.specs.Answer.{Answer, accepted, refused}
 use Rattle.refusal.specs.Number.{number-of}
 use Rattle.refusal.specs.declared.Refusal.the-variants as Refusal
-use Rattle.order.specs.declared.Frame.{Frame}
-use Rattle.order.specs.declared.Head.{Head}
-use Rattle.order.specs.declared.Order.{Order}
+use Rattle.ast.specs.declared.Frame.{Frame}
+use Rattle.ast.specs.declared.Head.{Head}
+use Rattle.ast.specs.declared.Order.{Order}
 use Rattle.text.specs.Lines.{lines-of}
 use Rattle.form.specs.Form.{form-of}
 use Rattle.deck.specs.Judge.{Content, line-judged}
@@ -24,12 +26,10 @@ use Rattle.assembler.specs.Item.{Item}
 use Rattle.assembler.specs.Bytes.{bytes, room}
 use Rattle.assembler.specs.Memory.{Jump}
 use Rattle.assembler.specs.Put.{jumps, labels, among}
-use Rattle.assembler.specs.Resolved.{label-place}
-use Rattle.laid.specs.Laid.{jumps-in, place-in}
+use Rattle.assembler.specs.Resolved.{label-place, jumps-in, place-in}
 use Rattle.orders.specs.Code.{code, line-code}
-use Rattle.call.specs.Program.{Program, constants}
+use Rattle.reading.specs.Program.{Program, constants}
 use Rattle.call.specs.Layout.{span, body, entry, exit, data-items, items, constants-offset, code-length, routine-words}
-use Rattle.call.specs.Good.{saves-hold}
 
 -- a refusal, or what is made of what was accepted
 abbrev pub then : {A B : Type 0} → Answer A → (A → Answer B) → Answer B
@@ -73,7 +73,7 @@ order-number size p o =
 
 -- "at most 1,008 constants"
 abbrev pub constant-number : Program → ℕ
-constant-number p = cond (ltb (length (constants (p .lines))) 1008) 0 (number-of Refusal.Count)
+constant-number p = cond (ltb (length (constants (p .lines))) constant-limit) 0 (number-of Refusal.Count)
 
 -- the answer to a line's text, at its own line
 abbrev pub placed-at : {A : Type 0} → (line : ℕ) → Answer A → Answer A
@@ -169,15 +169,15 @@ program-of size file =
 
 -- ---- what the routine tells and leaves
 
-pub record Told : Type 0 where
+pub record Summary : Type 0 where
   pub length : ℕ
   pub offset : ℕ  -- where constants start: the length where there are none
   pub constants : ℕ
   pub jumps : ℕ
   pub frame : Frame
 
-abbrev pub told-of : Program → Told
-told-of p =
+abbrev pub summary-of : Program → Summary
+summary-of p =
     record {
       length = code-length p;
       offset = constants-offset p;
@@ -186,9 +186,9 @@ told-of p =
       frame = p .head .frame;
     }
 
-abbrev pub told-answer : Answer Program → Answer Told
-told-answer (accepted p) = accepted (told-of p)
-told-answer (refused n line) = refused n line
+abbrev pub summary-answer : Answer Program → Answer Summary
+summary-answer (accepted p) = accepted (summary-of p)
+summary-answer (refused n line) = refused n line
 
 -- the code; none where the file is refused
 abbrev pub code-bytes : Answer Program → List ℕ
@@ -201,6 +201,6 @@ buffer-after a buf =
     code-bytes a ++ (replicate (room (length buf) - length (code-bytes a)) 0 ++ drop (room (length buf)) buf)
 
 -- What the routine promises of a file and a buffer: its answer, and the buffer afterwards.
-abbrev pub Promise : (file buf : List ℕ) → (answer : Answer Told) → (after : List ℕ) → Type 0
+abbrev pub Promise : (file buf : List ℕ) → (answer : Answer Summary) → (after : List ℕ) → Type 0
 Promise file buf answer after =
-    (answer ≡ told-answer (program-of (length buf) file)) × (after ≡ buffer-after (program-of (length buf) file) buf)
+    (answer ≡ summary-answer (program-of (length buf) file)) × (after ≡ buffer-after (program-of (length buf) file) buf)

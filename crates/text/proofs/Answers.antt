@@ -1,4 +1,4 @@
--- What each way through the readers answers. Assumes nothing.
+-- What each way through the readers answers.
 use mathlib.Core.Path.{_≡_, refl, sym, ap, _∙_}
 use mathlib.Core.Bool.{Bool, true, false, cond, _&&_}
 use mathlib.Core.Option.{Option, some, none, Option·map}

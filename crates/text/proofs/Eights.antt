@@ -1,4 +1,4 @@
--- The first byte c among eight, and among sixteen. Assumes nothing.
+-- The first byte c among eight, and among sixteen.
 use mathlib.Core.Path.{_≡_, refl, sym, _∙_}
 use mathlib.Core.Bool.{Bool, true, false, cond}
 use mathlib.Core.List.{List}
@@ -10,7 +10,7 @@ use lib.Bits.{bitOr, and-le-l, and-le-r, or-add-and, or-zero-l, shifted-half, sh
 use lib.Count.{trailingZeros}
 use lib.Dec.{eqb}
 use lib.ListN.{length, getD}
-use Rattle.text.specs.Bytes.{four-are, marks}
+use Rattle.text.specs.Inner.Parts.{four-are, marks}
 
 shifted : (j k n : ℕ) → trailingZeros (j + k) (n * 2 ^ j) ≡ j + trailingZeros k n
 unfolding trailingZeros

@@ -1,4 +1,4 @@
--- Fields joined by commas and split again. Assumes nothing.
+-- Fields joined by commas and split again.
 use mathlib.Core.Path.{_≡_, refl, sym, ap, _∙_}
 use mathlib.Core.Bool.{Bool, true, false, cond, _&&_, not}
 use mathlib.Core.List.{List, [], _∷_, _++_}
@@ -7,6 +7,7 @@ use native.Mathlib.Omega.{arith}
 use borrow.Author.Tests.{eq-eqb, ne-eqb, eqb-true, not-true}
 use lib.Dec.{eqb, ltb}
 use lib.IntN.{ℤ, pos, negsuc}
+use Rattle.base.proofs.Bools.{both}
 use Rattle.text.specs.Digits.{digit-byte, digits, decimal, integer-bytes, word-bytes}
 use Rattle.text.specs.Fields.{commas, onto, split, same}
 use Rattle.text.proofs.Answers.{first-field}
@@ -20,22 +21,18 @@ abbrev pub all-free : List (List ℕ) → Bool
 all-free [] = true
 all-free (f ∷ fs) = free f && all-free fs
 
-pub and-true : (t u : Bool) → t && u ≡ true → (t ≡ true) × (u ≡ true)
-and-true true u e = (refl, e)
-and-true false u e = (e, let z : _≡_ {A = ℕ} 0 1 = cc in absurd (omega arith))
-
 onto-first : (f r : List ℕ) (fs : List (List ℕ)) → split r ≡ [] ∷ fs → free f ≡ true → split (f ++ r) ≡ f ∷ fs
 unfolding split
 onto-first [] r fs e h = e
 onto-first (c ∷ f) r fs e h =
-    let g = and-true (not (eqb c 44)) (free f) h in
+    let g = both (not (eqb c 44)) (free f) h in
     rw (not-true (eqb c 44) (g .0), onto-first f r fs e (g .1))
 
 split-commas : (fs : List (List ℕ)) → all-free fs ≡ true → split (commas fs) ≡ [] ∷ fs
 unfolding split commas
 split-commas [] h = refl
 split-commas (f ∷ fs) h =
-    let g = and-true (free f) (all-free fs) h in
+    let g = both (free f) (all-free fs) h in
     ap (λ (gs : List (List ℕ)). [] ∷ gs) (onto-first f (commas fs) fs (split-commas fs (g .1)) (g .0))
 
 pub split-join : (f : List ℕ) (fs : List (List ℕ)) → free f ≡ true → all-free fs ≡ true → split (f ++ commas fs) ≡ f ∷ fs
@@ -102,5 +99,5 @@ same-is [] [] e = refl
 same-is [] (b ∷ w) e = let z : _≡_ {A = ℕ} 0 1 = cc in absurd (omega arith)
 same-is (a ∷ s) [] e = let z : _≡_ {A = ℕ} 0 1 = cc in absurd (omega arith)
 same-is (a ∷ s) (b ∷ w) e =
-    let g = and-true (eqb a b) (same s w) e in
+    let g = both (eqb a b) (same s w) e in
     rw (eqb-true a b (g .0), same-is s w (g .1))

@@ -3,7 +3,6 @@ pub mod Lined
 pub mod Numerals
 pub mod Answers
 pub mod Joined
-pub mod Tested
 pub mod Short
 pub mod Marks
 pub mod Eights

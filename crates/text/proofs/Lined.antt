@@ -1,4 +1,4 @@
--- Where a line ends, byte by byte. Assumes nothing.
+-- Where a line ends, byte by byte.
 use mathlib.Core.Path.{_≡_, refl, _∙_}
 use mathlib.Core.Bool.{Bool, true, false}
 use mathlib.Core.List.{List, [], _∷_}
@@ -9,12 +9,8 @@ use borrow.Author.Tests.{eq-eqb, ne-eqb, ltb-true, ltb-false}
 use lib.Dec.{ltb}
 use lib.ListN.{length, getD, take, drop, length-drop, drop-of-length-le}
 use lib.Seq.{length-take-le}
-use Rattle.text.specs.Lines.{lines-of, first-length}
+use Rattle.text.specs.Lines.{lines-of, first-length, Ends}
 use Rattle.text.proofs.Steps.{at}
-
--- the line that starts at a ends at r
-abbrev pub Ends : List ℕ → ℕ → ℕ → Type 0
-Ends f a r = (r ≡ a + first-length (lines-of (drop a f))) × (a < length f → (a < r) × (r ≤ length f) × (lines-of (drop a f) ≡ take (r - a) (drop a f) ∷ lines-of (drop r f)))
 
 -- the file's end
 pub ends-behind : (f : List ℕ) (a : ℕ) → length f ≤ a → Ends f a a

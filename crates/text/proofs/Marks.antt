@@ -1,4 +1,4 @@
--- Which bytes of a number are c, by its bits. Assumes nothing.
+-- Which bytes of a number are c, by its bits.
 use mathlib.Core.Path.{_≡_, refl, ap, _∙_, subst}
 use mathlib.Core.Bool.{Bool, true, cond}
 use Prim.Native.Nat.{ℕ, zero, suc, _+_, _*_, _/_, _%_, _^_, _<_}
@@ -8,8 +8,8 @@ use lib.Arith.{lt-one}
 use lib.Bits.{bitAnd, bitOr, bitXor, and-le-r, or-lt, xor-lt, and-block, or-block, xor-block}
 use lib.Dec.{eqb}
 use lib.Pow.{shr-lt}
-use Rattle.text.specs.Bytes.{each, marks}
-use Rattle.text.proofs.Tested.{every, tested}
+use Rattle.text.specs.Inner.Parts.{each, marks}
+use Rattle.base.proofs.Tested.{every, tested}
 
 -- what the bit operations make of x, where m, s and o have c, 127 and 255 in each byte
 abbrev pub marked : ℕ → ℕ → ℕ → ℕ → ℕ

@@ -1,4 +1,4 @@
--- Reading a number's bytes gives the number back, and what reads to a number is its bytes. Assumes nothing.
+-- Reading a number's bytes gives the number back, and what reads to a number is its bytes.
 use mathlib.Core.Path.{_≡_, refl, sym, ap, _∙_}
 use mathlib.Core.Bool.{Bool, true, false, cond, _&&_}
 use mathlib.Core.Option.{Option, some, none, Option·map, Option·some-injective, Option·none-ne-some}

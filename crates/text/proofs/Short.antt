@@ -1,8 +1,8 @@
--- Numbers of at most three digits. Assumes nothing.
+-- Numbers of at most three digits.
 use mathlib.Core.Path.{_≡_, refl, ap, _∙_}
 use mathlib.Core.Bool.{Bool, true, false, cond, _&&_, not}
 use mathlib.Core.Option.{Option, some, none}
-use mathlib.Core.List.{List, [], _∷_, _++_}
+use mathlib.Core.List.{List, [], _∷_, _++_, append-nil}
 use Prim.Native.Nat.{ℕ, zero, suc, _+_, _*_, _-_, _<_, _≤_}
 use native.Mathlib.Omega.{arith}
 use borrow.Author.Tests.{lt-ltb, le-ltb, lt-leb, le-leb, ltb-true, ltb-false, leb-true}
@@ -22,10 +22,6 @@ unfolding commas
 one-field t v e =
     let f : free t ≡ true = rw (decimal-read t v e) at (free-decimal v) in
     rw (append-nil t) at (split-join t [] f refl)
-  where
-    append-nil : (s : List ℕ) → s ++ [] ≡ s
-    append-nil [] = refl
-    append-nil (c ∷ cs) = ap (λ (l : List ℕ). c ∷ l) (append-nil cs)
 
 pub short-read : (t : List ℕ) → short-of t < 1000 → read-decimal t ≡ some (short-of t)
 unfolding short-of

@@ -1,4 +1,4 @@
--- The readers' loops, byte by byte. Assumes nothing.
+-- The readers' loops, byte by byte.
 use mathlib.Core.Path.{_≡_, refl, sym, ap, _∙_}
 use mathlib.Core.Bool.{Bool, true, false, cond, _&&_}
 use mathlib.Core.Option.{none}
@@ -11,7 +11,8 @@ use borrow.Author.Tests.{lt-ltb, le-ltb, ltb-false, eq-eqb, ne-eqb, eqb-false}
 use lib.Dec.{eqb, ltb}
 use lib.ListN.{length, getD, drop, drop-of-length-le}
 use lib.Seq.{drop-cons}
-use Rattle.text.specs.Digits.{digit-value, read-from, sized, further, numeral}
+use Rattle.text.specs.Digits.{digit-value, read-from, sized, numeral}
+use Rattle.text.specs.Inner.Parts.{further}
 use Rattle.text.specs.Fields.{upto, end-from, same}
 use Rattle.text.specs.declared.Number.{Number}
 use Rattle.text.specs.declared.Number.the-variants.{Value, TooBig}

@@ -1,4 +1,4 @@
--- The first bytes of a line as one number. Assumes nothing.
+-- The first bytes of a line as one number.
 use mathlib.Core.Path.{_≡_, refl, sym, ap, _∙_, subst}
 use mathlib.Core.Bool.{Bool, true, false, cond, _&&_}
 use mathlib.Core.List.{List, [], _∷_, _++_}

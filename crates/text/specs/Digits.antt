@@ -24,7 +24,8 @@ unfoldable pub digits : (b k n : ℕ) → List ℕ
 digits b zero n = []
 digits b (suc k) n = digit-byte (n / b ^ k % b) ∷ digits b k n
 
--- How many decimal digits of n stand above the lowest: none below 10, else one more than in n / 10. The first number bounds the steps, n is enough.
+-- How many decimal digits of n stand above the lowest: none below 10, else one more than in n / 10.
+-- The first number bounds the steps, n is enough.
 unfoldable pub above : (steps n : ℕ) → ℕ
 above zero n = 0
 above (suc k) n = let more = suc (above k (n / 10)) in cond (ltb n 10) 0 more
@@ -97,8 +98,3 @@ integer (some (negsuc n)) = Integer.Is true (sized (suc n))
 abbrev pub word : Option ℕ → Word
 word none = Word.Malformed
 word (some n) = Word.Is n
-
--- one digit more; what is too big stays so
-abbrev pub further : (b : ℕ) → Number → (d : ℕ) → Number
-further b (Number.Value v) d = sized (v * b + d)
-further b Number.TooBig d = Number.TooBig

@@ -1,16 +1,18 @@
 // Document 01, "The deck file": numbers, fields and lines as bytes.
 ghost use mathlib.Core.Path.{_≡_};
 ghost use mathlib.Core.Bool.{true, cond};
-ghost use mathlib.Core.List.{_∷_};
-ghost use Prim.Native.Nat.{_+_, _-_, _/_, _≤_, _<_};
+ghost use Prim.Native.Nat.{_+_, _/_, _≤_, _<_};
 ghost use lib.Count.{trailingZeros};
 ghost use lib.Dec.{eqb};
-ghost use lib.ListN.{length, getD, take, drop};
+ghost use lib.ListN.{length, getD, take};
 ghost use lib.Pow.{areBytes};
-ghost use Rattle.text.specs.Digits.{negative as negative-of, digit-value, read-from, read-decimal, read-integer, read-word, numeral, further, short-of, integer as integer-of, word as word-of};
-ghost use Rattle.text.specs.Fields.{same as same-of, fields-from, end-from, next-from, first-decimal};
-ghost use Rattle.text.specs.Lines.{lines-of, first-length};
-ghost use Rattle.text.specs.Bytes.{four-are, each, marks, joined-eight, word-to};
+ghost use Rattle.text.specs.Digits.{negative, digit-value, read-from, read-decimal, read-integer, read-word};
+ghost use Rattle.text.specs.Digits.{numeral, short-of, integer, word};
+ghost use Rattle.text.specs.Inner.Parts.{further};
+ghost use Rattle.text.specs.Fields.{same, fields-from, end-from, next-from, first-decimal};
+ghost use Rattle.text.specs.Lines.{Ends};
+ghost use Rattle.text.specs.Bytes.{joined-eight, word-to};
+ghost use Rattle.text.specs.Inner.Parts.{four-are, each, marks};
 
 // A number of any size.
 pub enum Number {
@@ -54,6 +56,7 @@ fn digit(c: u8) -> u64
     }
     if c <= 102 { c as u64 - 87 } else { 16 }
 }
+
 // One digit more.
 fn further_by(n: Number, base: u64, d: u64) -> Number
     requires { ⌜ (0 < base) × (d < base) ⌝ }
@@ -134,7 +137,7 @@ fn three_digits(s: &[u8]) -> u64
     100 * (a - 48) as u64 + 10 * (b - 48) as u64 + (c - 48) as u64
 }
 
-// A decimal number of one, two or three digits, else 1000. Which of one and two asks for no branch.
+// A decimal number of one, two or three digits, else 1000. One and two take the same way.
 pub fn short_number(s: &[u8]) -> u64
     ensures { λ r. ⌜ r ≡ short-of (now (s .entry)) ⌝ }
 {
@@ -164,13 +167,13 @@ pub fn short_number(s: &[u8]) -> u64
 
 // A decimal number that may have a minus.
 pub fn read_integer(s: &[u8]) -> Integer
-    ensures { λ r. ⌜ r ≡ integer-of (read-integer (now (s .entry))) ⌝ }
+    ensures { λ r. ⌜ r ≡ integer (read-integer (now (s .entry))) ⌝ }
 {
     if s.len() == 0 {
         return Integer::Malformed;
     }
     if s[0] == 45 {
-        return negative(&s[1..]);
+        return read_negative(&s[1..]);
     }
     match read_number(s) {
         Numeral::Is(n) => Integer::Is(false, n),
@@ -179,8 +182,8 @@ pub fn read_integer(s: &[u8]) -> Integer
 }
 
 // What stands behind a minus: no zero.
-fn negative(s: &[u8]) -> Integer
-    ensures { λ r. ⌜ r ≡ integer-of (negative-of (read-decimal (now (s .entry)))) ⌝ }
+fn read_negative(s: &[u8]) -> Integer
+    ensures { λ r. ⌜ r ≡ integer (negative (read-decimal (now (s .entry)))) ⌝ }
 {
     let Numeral::Is(n) = read_number(s) else {
         return Integer::Malformed;
@@ -197,7 +200,7 @@ fn negative(s: &[u8]) -> Integer
 
 // 16 lowercase hexadecimal digits.
 pub fn read_word(s: &[u8]) -> Word
-    ensures { λ r. ⌜ r ≡ word-of (read-word (now (s .entry))) ⌝ }
+    ensures { λ r. ⌜ r ≡ word (read-word (now (s .entry))) ⌝ }
 {
     if s.len() != 16 {
         return Word::Malformed;
@@ -225,7 +228,7 @@ fn field_end_bytewise(s: &[u8], a: usize) -> usize
     i
 }
 
-// Where a field of one or two bytes ends; which of them asks for no branch.
+// Where a field of one or two bytes ends. The compiler makes no branch of this choice.
 fn near_end(s: &[u8], a: usize) -> usize
     requires { ⌜ a + 2 < length (now s) ⌝ }
     ensures { λ r. ⌜ (r ≡ cond (eqb (getD (now (s .entry)) (a + 1) 0) 44) (a + 1) (a + 2)) × (a < r) × (r ≤ a + 2) ⌝ }
@@ -274,7 +277,7 @@ pub fn number_at(s: &[u8], a: usize) -> Field
 
 // The same bytes.
 pub fn same(s: &[u8], w: &[u8]) -> bool
-    ensures { λ r. ⌜ r ≡ same-of (now (s .entry)) (now (w .entry)) ⌝ }
+    ensures { λ r. ⌜ r ≡ same (now (s .entry)) (now (w .entry)) ⌝ }
 {
     if s.len() != w.len() {
         return false;
@@ -329,7 +332,8 @@ pub fn word_of(b: &[u8; 8]) -> u64
         + wide(b[7]) * 72057594037927936
 }
 
-// A first field of up to six bytes and the comma at its end e as one number. 0: no comma at e, a longer field, or s has fewer than eight bytes.
+// A first field of up to six bytes and the comma at its end e as one number.
+// 0: no comma at e, a longer field, or s has fewer than eight bytes.
 pub fn word_to(s: &[u8], e: usize) -> u64
     ensures { λ r. ⌜ (r ≡ word-to (now (s .entry)) e) × (0 < r → areBytes (take e (now (s .entry))) ≡ true) ⌝ }
 {
@@ -374,8 +378,7 @@ fn first_mark(y: u64, z: u64) -> usize
 
 // Behind the line, byte by byte.
 fn line_end_bytewise(file: &[u8], a: usize) -> usize
-    ensures { λ r. ⌜ (r ≡ a + first-length (lines-of (drop a (now (file .entry)))))
-        × (a < length (now (file .entry)) → (a < r) × (r ≤ length (now (file .entry))) × (lines-of (drop a (now (file .entry))) ≡ take (r - a) (drop a (now (file .entry))) ∷ lines-of (drop r (now (file .entry))))) ⌝ }
+    ensures { λ r. ⌜ Ends (now (file .entry)) a r ⌝ }
 {
     let mut i = a;
     while i < file.len() {
@@ -389,8 +392,7 @@ fn line_end_bytewise(file: &[u8], a: usize) -> usize
 
 // Behind the line that starts at a.
 pub fn line_end(file: &[u8], a: usize) -> usize
-    ensures { λ r. ⌜ (r ≡ a + first-length (lines-of (drop a (now (file .entry)))))
-        × (a < length (now (file .entry)) → (a < r) × (r ≤ length (now (file .entry))) × (lines-of (drop a (now (file .entry))) ≡ take (r - a) (drop a (now (file .entry))) ∷ lines-of (drop r (now (file .entry))))) ⌝ }
+    ensures { λ r. ⌜ Ends (now (file .entry)) a r ⌝ }
 {
     let n = file.len();
     if a > n {

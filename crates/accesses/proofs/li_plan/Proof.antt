@@ -4,7 +4,7 @@ use Prim.Native.Nat.{ℕ}
 use Rattle.isa.specs.Instr.{U, LUI, I, ADDI}
 use Rattle.accesses.specs.Plans.{plan-of}
 use Rattle.accesses.proofs.Collect.{li-near, li-far, size-of, size-of-neg, bits-of, bits-of-neg}
-use mathlib.Core.Path.{sym, _∙_, ap}
+use mathlib.Core.Path.{_≡_, sym, _∙_, ap}
 use lib.IntN.{ℤ, pos}
 use Rattle.isa.specs.Immediate.{hi, lo}
 use Rattle.accesses.proofs.Collect.{collected}
@@ -19,38 +19,54 @@ use Rattle.encoder.proofs.Signs.{handed}
 use Rattle.accesses.proofs.li_plan.Statement.{statement}
 use Rattle.accesses.proofs.li_plan.Tie as tie
 
+-- the number by its sign
+told : (c : tie.After-split) → c .split .result ≡ sign-of (c .before .args .z)
+told c = let s = c .before in handed sign-of (s .args .z) (s .fits .z) (c .split .ensures)
+
 returns : tie.Need-returns
 returns c =
-    let a = c .before .before .before .before .before .before .before .args in
-    let m = size-of (a .z) _ (sym (handed sign-of (c .before .before .before .before .before .before .before .args .z) (c .before .before .before .before .before .before .before .fits .z) (c .before .before .before .before .before .before .split .ensures)) ∙ c .before .before .before .before .s .given .1) in
+    let k = c .before .before .before .before in
+    let p = k .before .before in
+    let s = p .before in
+    let a = s .args in
+    let m = size-of (a .z) _ (sym (told p) ∙ k .s .given .1) in
     c .one .ensures
     ∙ collected (c .before .addi .result ∷ []) (I ADDI (a .d) 0 (a .z) ∷ [])
-    (answered-at _ (λ (z : ℤ). I ADDI (a .d) 0 z) (c .before .addi .ensures) (toZ-ofZ w32 (a .z) (c .before .before .before .before .before .before .before .fits .z)), tt)
+    (answered-at _ (λ (z : ℤ). I ADDI (a .d) 0 z) (c .before .addi .ensures) (toZ-ofZ w32 (a .z) (s .fits .z)), tt)
     ∙ ap plan-of (li-near (a .d) (a .z) (rw m (c .before .before .if1 .taken)))
 
 returns-2 : tie.Need-returns-2
 returns-2 c =
-    let a = c .before .before .before .before .before .before .before .args in
-    let m = size-of-neg (a .z) _ (sym (handed sign-of (c .before .before .before .before .before .before .before .args .z) (c .before .before .before .before .before .before .before .fits .z) (c .before .before .before .before .before .before .split .ensures)) ∙ c .before .before .before .before .s2 .given .1) in
+    let k = c .before .before .before .before in
+    let p = k .before .before in
+    let s = p .before in
+    let a = s .args in
+    let m = size-of-neg (a .z) _ (sym (told p) ∙ k .s2 .given .1) in
     c .one2 .ensures
     ∙ collected (c .before .addi2 .result ∷ []) (I ADDI (a .d) 0 (a .z) ∷ [])
-    (answered-at _ (λ (z : ℤ). I ADDI (a .d) 0 z) (c .before .addi2 .ensures) (toZ-ofZ w32 (a .z) (c .before .before .before .before .before .before .before .fits .z)), tt)
+    (answered-at _ (λ (z : ℤ). I ADDI (a .d) 0 z) (c .before .addi2 .ensures) (toZ-ofZ w32 (a .z) (s .fits .z)), tt)
     ∙ ap plan-of (li-near (a .d) (a .z) (rw m (c .before .before .if2 .taken)))
 
 returns-3 : tie.Need-returns-3
 returns-3 c =
-    let a = c .before .before .before .before .before .before .args in
-    let e = sym (handed sign-of (c .before .before .before .before .before .before .args .z) (c .before .before .before .before .before .before .fits .z) (c .before .before .before .before .before .split .ensures)) ∙ c .before .before .before .s .given .1 in
+    let k = c .before .before .before in
+    let p = k .before .before in
+    let s = p .before in
+    let a = s .args in
+    let e = sym (told p) ∙ k .s .given .1 in
     c .wide .ensures
-    ∙ ap (λ (x : ℕ). plan-of (U LUI (a .d) (pos (hi x)) ∷ I ADDI (a .d) (a .d) (lo x) ∷ [])) (bits-of (a .z) _ e (c .before .before .before .before .before .before .fits .z))
+    ∙ ap (λ (x : ℕ). plan-of (U LUI (a .d) (pos (hi x)) ∷ I ADDI (a .d) (a .d) (lo x) ∷ [])) (bits-of (a .z) _ e (s .fits .z))
     ∙ ap plan-of (li-far (a .d) (a .z) (rw (size-of (a .z) _ e) (c .before .if1 .left)))
 
 returns-4 : tie.Need-returns-4
 returns-4 c =
-    let a = c .before .before .before .before .before .before .args in
-    let e = sym (handed sign-of (c .before .before .before .before .before .before .args .z) (c .before .before .before .before .before .before .fits .z) (c .before .before .before .before .before .split .ensures)) ∙ c .before .before .before .s2 .given .1 in
+    let k = c .before .before .before in
+    let p = k .before .before in
+    let s = p .before in
+    let a = s .args in
+    let e = sym (told p) ∙ k .s2 .given .1 in
     c .wide2 .ensures
-    ∙ ap (λ (x : ℕ). plan-of (U LUI (a .d) (pos (hi x)) ∷ I ADDI (a .d) (a .d) (lo x) ∷ [])) (bits-of-neg (a .z) _ e (c .before .before .before .before .before .before .fits .z))
+    ∙ ap (λ (x : ℕ). plan-of (U LUI (a .d) (pos (hi x)) ∷ I ADDI (a .d) (a .d) (lo x) ∷ [])) (bits-of-neg (a .z) _ e (s .fits .z))
     ∙ ap plan-of (li-far (a .d) (a .z) (rw (size-of-neg (a .z) _ e) (c .before .if2 .left)))
 
 pub li-plan-spec : {M : Type 1} → statement M

@@ -9,22 +9,29 @@ use Rattle.answer.proofs.answer_text.Tie as tie
 
 returns : tie.Need-returns
 returns c =
-    let a = c .before .before .before .before .before .before .before .before .before .before .args in
-    all-told (a .answer) (now (a .code)) (now (a .out)) _ _ _ _ _ _ _ (c .before .before .before .before .before .before .answer .given .1) (omega arith) (c .before .before .words-text .ensures)
+    let e = c .before .before .before in
+    let g = e .before .before .before in
+    let a = g .before .before .before .before .args in
+    all-told (a .answer) (now (a .code)) (now (a .out)) _ _ _ _ _ _ _ (g .answer .given .1) (omega arith) (c .before .before .words-text .ensures)
 
 slice-aggregate-words-text : tie.Need-slice-aggregate-words-text
 slice-aggregate-words-text c =
-    sym (length-take-le _ (now (c .before .before .before .before .before .before .before .args .code)) (omega arith))
+    let g = c .before .before .before in
+    sym (length-take-le _ (now (g .before .before .before .before .args .code)) (omega arith))
 
 returns-2 : tie.Need-returns-2
 returns-2 c =
-    let a = c .before .before .before .before .before .before .before .before .before .before .before .args in
-    words-told (a .answer) (now (a .code)) (now (a .out)) _ _ _ _ _ _ _ (c .before .before .before .before .before .before .before .answer .given .1) (c .before .before .words-text2 .ensures)
+    let e = c .before .before .before .before in
+    let g = e .before .before .before in
+    let a = g .before .before .before .before .args in
+    words-told (a .answer) (now (a .code)) (now (a .out)) _ _ _ _ _ _ _ (g .answer .given .1) (c .before .before .words-text2 .ensures)
 
 returns-3 : tie.Need-returns-3
 returns-3 c =
-    let a = c .before .before .before .before .before .before .before .before .before .before .args in
-    refusal-told (a .answer) (now (a .code)) (now (a .out)) _ _ _ _ _ (c .before .before .before .before .before .before .answer2 .given .1) (c .before .before .before .before .number .ensures) (omega (arith, c .before .before .before .before .number .ok)) (omega (arith, c .before .before .before .before .before .known-told2 .given)) (c .before .before .refusal-text .ensures)
+    let n = c .before .before .before .before in
+    let g = n .before .before in
+    let a = g .before .before .before .before .args in
+    refusal-told (a .answer) (now (a .code)) (now (a .out)) _ _ _ _ _ (g .answer2 .given .1) (n .number .ensures) (omega (arith, n .number .ok)) (omega (arith, n .before .known-told2 .given)) (c .before .before .refusal-text .ensures)
 
 pub answer-text-spec : {M : Type 1} → statement M
 answer-text-spec =

@@ -1,7 +1,7 @@
 use mathlib.Core.Path.{sym, ap, _∙_}
 use lib.Ieee.{toBits, binary64}
 use borrow.Author.Needs.{needs}
-use Rattle.assembler.specs.Constant.{constant-bits}
+use Rattle.ast.specs.Constant.{constant-bits}
 use Rattle.assembler.proofs.Tests.{not-nan, is-nan}
 use Rattle.assembler.proofs.bits_of.Statement.{statement}
 use Rattle.assembler.proofs.bits_of.Tie as tie

@@ -19,8 +19,9 @@ reserve-requires c κs =
 returns-2 : tie.Need-returns-2
 unfolding words jumps labels twice placed place
 returns-2 c =
-    let e = c .before .before .before .before .before .before .before .fault-of .ensures .0 in
-    put-done _ _ _ _ _ (rw (← e) (sym (c .before .before .before .before .before .before .number .ensures .0) ∙ c .before .before .before .before .before .if1 .left)) (c .before .before .reserve .ensures .0 _)
+    let n = c .before .before .before .before .before in
+    let e = n .before .before .fault-of .ensures .0 in
+    put-done _ _ _ _ _ (rw (← e) (sym (n .before .number .ensures .0) ∙ n .if1 .left)) (c .before .before .reserve .ensures .0 _)
 
 pub jump-spec : {M : Type 1} → statement M
 jump-spec =

@@ -27,7 +27,10 @@ returns-5 c =
 returns-6 : tie.Need-returns-6
 returns-6 c =
     let d = c .before .before .before .before .before in
-    (v-good _ _ _ _ _ _ (d .before .before .before .if1 .left) (d .before .before .if2 .left) (d .before .if3 .left) (sym (d .is-sound .ensures .0) ∙ c .before .before .before .before .if4 .taken) (c .before .before .before .if5 .left) (c .before .before .if6 .left) (sym (c .before .has-room .ensures .0) ∙ c .if7 .taken), search needs, λ e. let h = c .before .has-room .ensures .1 (c .if7 .taken) in (c .before .before .before .if5 .left, h .0, h .1, h .2))
+    let f = c .before .before .before .if5 .left in
+    let s = sym (d .is-sound .ensures .0) ∙ c .before .before .before .before .if4 .taken in
+    let r = sym (c .before .has-room .ensures .0) ∙ c .if7 .taken in
+    (v-good _ _ _ _ _ _ (d .before .before .before .if1 .left) (d .before .before .if2 .left) (d .before .if3 .left) s f (c .before .before .if6 .left) r, search needs, λ e. (f, c .before .has-room .ensures .1 (c .if7 .taken)))
 
 returns-7 : tie.Need-returns-7
 returns-7 c =

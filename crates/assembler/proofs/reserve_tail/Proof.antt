@@ -1,3 +1,6 @@
+use denote.Ref.{now}
+use lib.ListN.{length}
+use Rattle.assembler.specs.State.{Fits}
 use native.Mathlib.Omega.{arith}
 use mathlib.Core.Path.{_≡_, _∙_}
 use borrow.Author.Needs.{needs}
@@ -6,20 +9,29 @@ use Rattle.assembler.specs.Put.{placed, place}
 use Rattle.assembler.proofs.reserve_tail.Statement.{statement}
 use Rattle.assembler.proofs.reserve_tail.Tie as tie
 
+-- ---- a pair: its first word, and what there is room for
+
+abbrev to-first : tie.After-reserve3 → tie.After-reserve2
+to-first c = c .before .before .before .before .before
+
+room-for : (c : tie.After-t2) → let a = c .before .before .before .args in Fits (length (now (a .buf))) (a .asm) 2 2
+room-for c = rw (c .t2 .given .1) at (c .before .before .before .pre)
+
+-- ---- the needs
+
 reserve-requires : tie.Need-reserve-requires
 reserve-requires c κs =
-    let h = rw (c .before .before .before .t .given .1) at (c .before .before .before .before .before .before .pre) in
-    omega (arith, h)
+    let t = c .before .before .before in
+    omega (arith, rw (t .t .given .1) at (t .before .before .before .pre))
 
 reserve-requires-2 : tie.Need-reserve-requires-2
-reserve-requires-2 c κs =
-    let h = rw (c .before .before .before .t2 .given .1) at (c .before .before .before .before .before .before .pre) in
-    omega (arith, h)
+reserve-requires-2 c κs = omega (arith, room-for (c .before .before .before))
 
 reserve-requires-3 : tie.Need-reserve-requires-3
 reserve-requires-3 c κs =
-    let h = rw (c .before .before .before .before .before .before .before .before .t2 .given .1) at (c .before .before .before .before .before .before .before .before .before .before .before .pre) in
-    omega (arith, h, c .before .before .before .before .reserve2 .ensures .1, c .before .before .before .before .reserve2 .ensures .2)
+    let f = c .before .before .before .before in
+    let h = room-for (f .before .before .before .before) in
+    omega (arith, h, f .reserve2 .ensures .1, f .reserve2 .ensures .2)
 
 returns : tie.Need-returns
 unfolding placed
@@ -31,7 +43,7 @@ returns-2 c = λ ls. rw (c .before .before .before .before .before .before .t .g
 
 returns-3 : tie.Need-returns-3
 unfolding placed place
-returns-3 c = λ ls. rw (c .before .before .before .before .before .before .before .before .before .before .before .t2 .given .1) (c .before .before .reserve3 .ensures .0 ls ∙ rw (c .before .before .before .before .before .before .before .reserve2 .ensures .0 ls))
+returns-3 c = let f = to-first (c .before .before) in λ ls. rw (f .before .before .before .before .t2 .given .1) (c .before .before .reserve3 .ensures .0 ls ∙ rw (f .reserve2 .ensures .0 ls))
 
 pub reserve-tail-spec : {M : Type 1} → statement M
 reserve-tail-spec =

@@ -21,4 +21,4 @@ returns-4 c =
     laid (now (a .buf)) (a .at) (a .a ∷ a .b ∷ a .c ∷ a .d ∷ []) 16 _ (omega arith) (c .before .before .put-four .ensures)
 
 pub write-four-spec : {M : Type 1} → statement M
-write-four-spec = tie.close (tie.spec returns returns-2 returns-3 (λ c κs. search needs) (λ c. search needs) returns-4)
+write-four-spec = tie.close (tie.spec (λ c. search needs) returns returns-2 returns-3 (λ c κs. search needs) (λ c. search needs) returns-4)

@@ -21,4 +21,4 @@ returns-4 c =
     laid (now (a .buf)) (a .at) (a .w ∷ []) 4 _ (omega arith) (c .before .before .put-word .ensures)
 
 pub write-word-spec : {M : Type 1} → statement M
-write-word-spec = tie.close (tie.spec returns returns-2 returns-3 (λ c κs. search needs) (λ c. search needs) returns-4)
+write-word-spec = tie.close (tie.spec (λ c. search needs) returns returns-2 returns-3 (λ c κs. search needs) (λ c. search needs) returns-4)

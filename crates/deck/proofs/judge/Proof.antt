@@ -1,7 +1,7 @@
 use mathlib.Core.Path.{refl}
 use native.Mathlib.Omega.{arith}
 use Rattle.refusal.specs.declared.Refusal.the-variants.{Label, Count}
-use Rattle.order.specs.declared.Order.the-variants as Order
+use Rattle.ast.specs.declared.Order.the-variants as Order
 use Rattle.text.specs.declared.Number.the-variants.{Value}
 use Rattle.deck.specs.Judge.{judged}
 use Rattle.deck.proofs.Ranges.{of-four, of-last}
@@ -15,62 +15,84 @@ returns c = rw (c .before .before .form .given .1) (c .judge-head .ensures)
 returns-2 : tie.Need-returns-2
 unfolding judged
 returns-2 c =
-    let v = c .before .before .before .before .form2 .given .0 in
-    rw (c .before .before .before .before .form2 .given .1) (of-four (λ a b x y. Order.Unary (v .0) x y) (Value 0) (Value 0) (v .1 .0) (v .1 .1 .0) refl refl (c .before .before .low .ensures) (c .before .low2 .ensures) (c .of-registers .ensures))
+    let f = c .before .before .before .before in
+    let v = f .form2 .given .0 in
+    rw (f .form2 .given .1)
+    (of-four (λ a b x y. Order.Unary (v .0) x y) (Value 0) (Value 0) (v .1 .0) (v .1 .1 .0) refl refl (c .before .before .truncate .ensures) (c .before .truncate2 .ensures) (c .of-registers .ensures))
 
 returns-3 : tie.Need-returns-3
 unfolding judged
 returns-3 c =
-    let v = c .before .before .before .before .before .form3 .given .0 in
-    rw (c .before .before .before .before .before .form3 .given .1) (of-four (λ a x y z. Order.Scratched (v .0) x y z) (Value 0) (v .1 .0) (v .1 .1 .0) (v .1 .1 .1 .0) refl (c .before .before .before .low3 .ensures) (c .before .before .low4 .ensures) (c .before .low5 .ensures) (c .of-registers2 .ensures))
+    let f = c .before .before .before .before .before in
+    let v = f .form3 .given .0 in
+    rw (f .form3 .given .1)
+    (of-four (λ a x y z. Order.Scratched (v .0) x y z) (Value 0) (v .1 .0) (v .1 .1 .0) (v .1 .1 .1 .0) refl (c .before .before .before .truncate3 .ensures) (c .before .before .truncate4 .ensures) (c .before .truncate5 .ensures) (c .of-registers2 .ensures))
 
 returns-4 : tie.Need-returns-4
 unfolding judged
 returns-4 c =
-    let v = c .before .before .before .before .before .form4 .given .0 in
-    rw (c .before .before .before .before .before .form4 .given .1) (of-four (λ a x y z. Order.Binary (v .0) x y z) (Value 0) (v .1 .0) (v .1 .1 .0) (v .1 .1 .1 .0) refl (c .before .before .before .low6 .ensures) (c .before .before .low7 .ensures) (c .before .low8 .ensures) (c .of-registers3 .ensures))
+    let f = c .before .before .before .before .before in
+    let v = f .form4 .given .0 in
+    rw (f .form4 .given .1)
+    (of-four (λ a x y z. Order.Binary (v .0) x y z) (Value 0) (v .1 .0) (v .1 .1 .0) (v .1 .1 .1 .0) refl (c .before .before .before .truncate6 .ensures) (c .before .before .truncate7 .ensures) (c .before .truncate8 .ensures) (c .of-registers3 .ensures))
 
 returns-5 : tie.Need-returns-5
 unfolding judged
 returns-5 c =
-    let v = c .before .before .before .before .before .before .form5 .given .0 in
-    rw (c .before .before .before .before .before .before .form5 .given .1) (of-four (λ x y z w. Order.Fused (v .0) x y z w) (v .1 .0) (v .1 .1 .0) (v .1 .1 .1 .0) (v .1 .1 .1 .1 .0) (c .before .before .before .before .low9 .ensures) (c .before .before .before .low10 .ensures) (c .before .before .low11 .ensures) (c .before .low12 .ensures) (c .of-registers4 .ensures))
+    let o = c .before .before in
+    let f = o .before .before .before .before in
+    let v = f .form5 .given .0 in
+    rw (f .form5 .given .1)
+    (of-four (λ x y z w. Order.Fused (v .0) x y z w) (v .1 .0) (v .1 .1 .0) (v .1 .1 .1 .0) (v .1 .1 .1 .1 .0) (c .before .before .before .before .truncate9 .ensures) (c .before .before .before .truncate10 .ensures) (c .before .before .truncate11 .ensures) (c .before .truncate12 .ensures) (c .of-registers4 .ensures))
 
 returns-6 : tie.Need-returns-6
 unfolding judged
 returns-6 c =
-    let v = c .before .before .before .before .before .before .before .form6 .given .0 in
-    rw (c .before .before .before .before .before .before .before .form6 .given .1) (of-last Order.Ifelse (v .0) (v .1 .0) (v .1 .1 .0) (v .1 .1 .1 .0) (c .before .before .before .before .before .low13 .ensures) (c .before .before .before .before .low14 .ensures) (c .before .before .before .low15 .ensures) (c .before .before .low16 .ensures) 4096 Count (omega arith) (rw (c .before .all-below .ensures) at (c .with-last .ensures)))
+    let o = c .before .before .before in
+    let f = o .before .before .before .before in
+    let v = f .form6 .given .0 in
+    rw (f .form6 .given .1)
+    (of-last Order.Ifelse (v .0) (v .1 .0) (v .1 .1 .0) (v .1 .1 .1 .0) (c .before .before .before .before .before .truncate13 .ensures) (c .before .before .before .before .truncate14 .ensures) (c .before .before .before .truncate15 .ensures) (c .before .before .truncate16 .ensures) 4096 Count (omega arith) (rw (c .before .are-below .ensures) at (c .with-last .ensures)))
 
 returns-7 : tie.Need-returns-7
 unfolding judged
 returns-7 c =
-    let v = c .before .before .before .before .form7 .given .0 in
-    rw (c .before .before .before .before .form7 .given .1) (of-last (λ a b x y. Order.LoadConst x y) (Value 0) (Value 0) (v .0) (v .1 .0) refl refl (c .before .before .low17 .ensures) (c .before .low18 .ensures) 1008 Count (omega arith) (c .indexed .ensures))
+    let f = c .before .before .before .before in
+    let v = f .form7 .given .0 in
+    rw (f .form7 .given .1)
+    (of-last (λ a b x y. Order.LoadConst x y) (Value 0) (Value 0) (v .0) (v .1 .0) refl refl (c .before .before .truncate17 .ensures) (c .before .truncate18 .ensures) 1008 Count (omega arith) (c .indexed .ensures))
 
 returns-8 : tie.Need-returns-8
 unfolding judged
 returns-8 c =
-    let v = c .before .before .before .before .form8 .given .0 in
-    rw (c .before .before .before .before .form8 .given .1) (of-last (λ a b x y. Order.Load x (v .1 .0) y) (Value 0) (Value 0) (v .0) (v .1 .1 .0) refl refl (c .before .before .low19 .ensures) (c .before .low20 .ensures) 4096 Count (omega arith) (c .indexed2 .ensures))
+    let f = c .before .before .before .before in
+    let v = f .form8 .given .0 in
+    rw (f .form8 .given .1)
+    (of-last (λ a b x y. Order.Load x (v .1 .0) y) (Value 0) (Value 0) (v .0) (v .1 .1 .0) refl refl (c .before .before .truncate19 .ensures) (c .before .truncate20 .ensures) 4096 Count (omega arith) (c .indexed2 .ensures))
 
 returns-9 : tie.Need-returns-9
 unfolding judged
 returns-9 c =
-    let v = c .before .before .before .before .form9 .given .0 in
-    rw (c .before .before .before .before .form9 .given .1) (of-last (λ a b x y. Order.Save x (v .1 .0) y) (Value 0) (Value 0) (v .0) (v .1 .1 .0) refl refl (c .before .before .low21 .ensures) (c .before .low22 .ensures) 4096 Count (omega arith) (c .indexed3 .ensures))
+    let f = c .before .before .before .before in
+    let v = f .form9 .given .0 in
+    rw (f .form9 .given .1)
+    (of-last (λ a b x y. Order.Save x (v .1 .0) y) (Value 0) (Value 0) (v .0) (v .1 .1 .0) refl refl (c .before .before .truncate21 .ensures) (c .before .truncate22 .ensures) 4096 Count (omega arith) (c .indexed3 .ensures))
 
 returns-10 : tie.Need-returns-10
 unfolding judged
 returns-10 c =
-    let v = c .before .before .before .before .before .form10 .given .0 in
-    rw (c .before .before .before .before .before .form10 .given .1) (of-last (λ a b x y. Order.BranchIf x y (v .1 .1 .0)) (Value 0) (Value 0) (v .0) (v .1 .0) refl refl (c .before .before .before .low23 .ensures) (c .before .before .low24 .ensures) 1024 Label (omega arith) (rw (c .before .below .ensures) at (c .with-last2 .ensures)))
+    let f = c .before .before .before .before .before in
+    let v = f .form10 .given .0 in
+    rw (f .form10 .given .1)
+    (of-last (λ a b x y. Order.BranchIf x y (v .1 .1 .0)) (Value 0) (Value 0) (v .0) (v .1 .0) refl refl (c .before .before .before .truncate23 .ensures) (c .before .before .truncate24 .ensures) 1024 Label (omega arith) (rw (c .before .is-below .ensures) at (c .with-last2 .ensures)))
 
 returns-11 : tie.Need-returns-11
 unfolding judged
 returns-11 c =
-    let v = c .before .before .before .form11 .given .0 in
-    rw (c .before .before .before .form11 .given .1) (of-last (λ a b x y. Order.SetLabel y) (Value 0) (Value 0) (Value 0) (v .0) refl refl refl (c .before .low25 .ensures) 1024 Label (omega arith) (c .with-last3 .ensures))
+    let f = c .before .before .before in
+    let v = f .form11 .given .0 in
+    rw (f .form11 .given .1)
+    (of-last (λ a b x y. Order.SetLabel y) (Value 0) (Value 0) (Value 0) (v .0) refl refl refl (c .before .truncate25 .ensures) 1024 Label (omega arith) (c .with-last3 .ensures))
 
 returns-12 : tie.Need-returns-12
 returns-12 c = rw (c .before .before .form12 .given .1) (c .judge-float .ensures)

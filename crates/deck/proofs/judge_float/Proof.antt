@@ -1,4 +1,4 @@
-use Rattle.deck.proofs.Whole.{fits, plain-in, negated-in, plain-is, negated-is, too-big, too-great}
+use Rattle.deck.proofs.Floats.{fits, plain-in, negated-in, plain-is, negated-is, too-big, too-great}
 use borrow.Author.Needs.{needs}
 use Rattle.deck.proofs.judge_float.Statement.{statement}
 use Rattle.deck.proofs.judge_float.Tie as tie

@@ -10,11 +10,15 @@ use Rattle.deckwords.proofs.print_answer.Tie as tie
 
 array-share-prefix-out : tie.Need-array-share-prefix-out
 array-share-prefix-out c =
-    text-room (deck-text (now (c .before .before .before .before .before .before .before .args .file))) (replicate 245760 0) (c .before .before .before .before .deck-text .last .1 .0) _ _ (c .before .before .before .before .deck-text .ensures .0 .0) (c .before .n .given .1) (c .before .before .before .before .deck-text .kept .1 .0)
+    let n = c .before in
+    let d = n .before .before .before in
+    text-room (deck-text (now (d .before .before .before .args .file))) (replicate 245760 0) (d .deck-text .last .1 .0) _ _ (d .deck-text .ensures .0 .0) (n .n .given .1) (d .deck-text .kept .1 .0)
 
 slice-aggregate-print-text : tie.Need-slice-aggregate-print-text
 slice-aggregate-print-text c =
-    sym (length-take-le _ _ (text-room (deck-text (now (c .before .before .before .before .before .before .before .before .args .file))) (replicate 245760 0) (c .before .before .before .before .before .deck-text .last .1 .0) _ _ (c .before .before .before .before .before .deck-text .ensures .0 .0) (c .before .before .n .given .1) (c .before .before .before .before .before .deck-text .kept .1 .0)))
+    let n = c .before .before in
+    let d = n .before .before .before in
+    sym (length-take-le _ _ (text-room (deck-text (now (d .before .before .before .args .file))) (replicate 245760 0) (d .deck-text .last .1 .0) _ _ (d .deck-text .ensures .0 .0) (n .n .given .1) (d .deck-text .kept .1 .0)))
 
 pub print-answer-spec : {M : Type 1} → statement M
 print-answer-spec =

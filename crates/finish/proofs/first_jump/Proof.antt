@@ -31,20 +31,23 @@ loop-holds c =
 
 status-requires : tie.Need-status-requires Inv-loop μ-loop
 status-requires c κs =
-    (c .before .before .before .before .before .before .pre .1, c .before .before .before .before .before .before .pre .2)
+    let at-in-loop = c .before .before .before .before in
+    (at-in-loop .before .before .pre .1, at-in-loop .before .before .pre .2)
 
 returns : tie.Need-returns Inv-loop μ-loop
 returns c =
-    let l = c .before .before .before .before .before .before .before in
+    let at-in-loop = c .before .before .before .before .before .before in
+    let l = at-in-loop .before in
     let a = l .before .args in
-    let e = first-here (test (a .want) (now (a .labels)) (a .len) (now (a .jumps))) (l .loop .i) (a .n) (c .before .before .before .before .before .before .loop-test .taken) (ap (λ (x : ℕ). eqb x (a .want)) (sym (c .before .status .ensures)) ∙ eq-eqb _ _ (c .if1 .taken)) in
+    let e = first-here (test (a .want) (now (a .labels)) (a .len) (now (a .jumps))) (l .loop .i) (a .n) (at-in-loop .loop-test .taken) (ap (λ (x : ℕ). eqb x (a .want)) (sym (c .before .status .ensures)) ∙ eq-eqb _ _ (c .if1 .taken)) in
     (omega (arith, e, l .loop .inv .1), omega arith)
 
 loop-again : tie.Need-loop-again Inv-loop μ-loop
 loop-again c =
-    let l = c .before .before .before .before .before .before .before in
+    let at-in-loop = c .before .before .before .before .before .before in
+    let l = at-in-loop .before in
     let a = l .before .args in
-    let e = first-later (test (a .want) (now (a .labels)) (a .len) (now (a .jumps))) (l .loop .i) (a .n) (c .before .before .before .before .before .before .loop-test .taken) (ap (λ (x : ℕ). eqb x (a .want)) (sym (c .before .status .ensures)) ∙ ne-eqb _ _ (c .if1 .left)) in
+    let e = first-later (test (a .want) (now (a .labels)) (a .len) (now (a .jumps))) (l .loop .i) (a .n) (at-in-loop .loop-test .taken) (ap (λ (x : ℕ). eqb x (a .want)) (sym (c .before .status .ensures)) ∙ ne-eqb _ _ (c .if1 .left)) in
     (omega arith, omega (arith, e, l .loop .inv .1))
 
 returns-2 : tie.Need-returns-2 Inv-loop μ-loop

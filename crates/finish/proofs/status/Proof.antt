@@ -1,11 +1,12 @@
 use native.Mathlib.Omega.{arith}
-use mathlib.Core.Path.{sym, ap, _∙_}
+use mathlib.Core.Path.{_≡_, sym, ap, _∙_}
 use borrow.Author.Tests.{lt-ltb, le-ltb, le-leb, lt-leb, eq-eqb, ne-eqb}
 use denote.Ref.{now}
-use mathlib.Core.Bool.{Bool, cond}
+use mathlib.Core.Bool.{Bool, true, cond}
 use lib.ListN.{getD}
 use borrow.Author.Needs.{needs}
-use Rattle.finish.specs.Finish.{jump-number}
+use Rattle.assembler.specs.Memory.{Jump}
+use Rattle.finish.specs.Finish.{jump-good, jump-number}
 use Rattle.finish.proofs.Wrong.{at-first, place-small, good-jump, wrong-unset, wrong-far}
 use Rattle.finish.proofs.status.Statement.{statement}
 use Rattle.finish.proofs.status.Tie as tie
@@ -30,26 +31,48 @@ returns-5 : tie.Need-returns-5
 unfolding jump-number
 returns-5 c = simp (le-leb _ _ (c .before .before .before .before .if1 .left), eq-eqb _ _ (c .before .before .before .if2 .left), lt-ltb _ _ (c .before .before .if3 .left), lt-ltb _ _ (c .before .if4 .left), le-ltb _ _ (c .if5 .taken))
 
+-- ---- where register, label and kind are such as there are
+
+abbrev start : tie.Else5 → tie.Start
+start c = c .before .before .before .before .before
+
+abbrev to-tests : tie.After-is-unset → tie.Else5
+to-tests c = c .before .before .before .before
+
+abbrev this : tie.Start → Jump
+this c = record { word = c .args .p; label = c .args .l; reg = c .args .r; kind = c .args .k }
+
+good : (c : tie.Else5) → jump-good (start c .args .len) (this (start c)) ≡ true
+good c = good-jump (start c .args .len) (this (start c)) (c .before .before .before .before .if1 .left) (c .before .before .before .if2 .left) (c .before .before .if3 .left) (c .before .if4 .left) (c .if5 .left)
+
+-- a label that is set: 6 if the jump doesn't reach
+number : (c : tie.After-reaches) → let a = start (to-tests (c .before .before)) .args in cond (c .reaches .result) 0 6 ≡ jump-number (now (a .labels)) (a .len) (this (start (to-tests (c .before .before))))
+number c =
+    let u = c .before .before in
+    let t = to-tests u in
+    let a = start t .args in
+    wrong-far (now (a .labels)) (a .len) (this (start t)) (good t) (sym (u .is-unset .ensures) ∙ c .before .if6 .left) (t .if5 .left) (t .before .before .if3 .left) _ _ (u .before .before .label-place .ensures) (c .reaches .ensures)
+
+-- ---- the needs
+
 returns-6 : tie.Need-returns-6
 returns-6 c =
-    let a = c .before .before .before .before .before .before .before .before .before .before .args in
-    wrong-unset (now (a .labels)) (a .len) _ (good-jump (a .len) _ (c .before .before .before .before .before .before .before .before .before .if1 .left) (c .before .before .before .before .before .before .before .before .if2 .left) (c .before .before .before .before .before .before .before .if3 .left) (c .before .before .before .before .before .before .if4 .left) (c .before .before .before .before .before .if5 .left)) (sym (c .before .is-unset .ensures) ∙ c .if6 .taken)
+    let t = to-tests (c .before) in
+    let a = start t .args in
+    wrong-unset (now (a .labels)) (a .len) (this (start t)) (good t) (sym (c .before .is-unset .ensures) ∙ c .if6 .taken)
 
 reaches-requires : tie.Need-reaches-requires
 reaches-requires c κs =
-    let a = c .before .before .before .before .before .before .before .before .before .before .args in
-    let p = place-small (a .len) (getD (now (a .labels)) (a .l) 0) (at-first (a .len) (now (a .labels)) (c .before .before .before .before .before .before .before .before .before .before .pre .1) (a .l) (c .before .before .before .before .before .before .if4 .left)) in
+    let t = to-tests (c .before) in
+    let a = start t .args in
+    let p = place-small (a .len) (getD (now (a .labels)) (a .l) 0) (at-first (a .len) (now (a .labels)) (start t .pre .1) (a .l) (t .before .if4 .left)) in
     (omega (arith, p, c .before .before .before .label-place .ensures), omega arith)
 
 returns-7 : tie.Need-returns-7
-returns-7 c =
-    let a = c .before .before .before .before .before .before .before .before .before .before .before .before .args in
-    ap (λ (t : Bool). cond t 0 6) (sym (c .if7 .taken)) ∙ wrong-far (now (a .labels)) (a .len) _ (good-jump (a .len) _ (c .before .before .before .before .before .before .before .before .before .before .before .if1 .left) (c .before .before .before .before .before .before .before .before .before .before .if2 .left) (c .before .before .before .before .before .before .before .before .before .if3 .left) (c .before .before .before .before .before .before .before .before .if4 .left) (c .before .before .before .before .before .before .before .if5 .left)) (sym (c .before .before .before .is-unset .ensures) ∙ c .before .before .if6 .left) (c .before .before .before .before .before .before .before .if5 .left) (c .before .before .before .before .before .before .before .before .before .if3 .left) _ _ (c .before .before .before .before .before .label-place .ensures) (c .before .reaches .ensures)
+returns-7 c = ap (λ (t : Bool). cond t 0 6) (sym (c .if7 .taken)) ∙ number (c .before)
 
 returns-8 : tie.Need-returns-8
-returns-8 c =
-    let a = c .before .before .before .before .before .before .before .before .before .before .before .before .args in
-    ap (λ (t : Bool). cond t 0 6) (sym (c .if7 .left)) ∙ wrong-far (now (a .labels)) (a .len) _ (good-jump (a .len) _ (c .before .before .before .before .before .before .before .before .before .before .before .if1 .left) (c .before .before .before .before .before .before .before .before .before .before .if2 .left) (c .before .before .before .before .before .before .before .before .before .if3 .left) (c .before .before .before .before .before .before .before .before .if4 .left) (c .before .before .before .before .before .before .before .if5 .left)) (sym (c .before .before .before .is-unset .ensures) ∙ c .before .before .if6 .left) (c .before .before .before .before .before .before .before .if5 .left) (c .before .before .before .before .before .before .before .before .before .if3 .left) _ _ (c .before .before .before .before .before .label-place .ensures) (c .before .reaches .ensures)
+returns-8 c = ap (λ (t : Bool). cond t 0 6) (sym (c .if7 .left)) ∙ number (c .before)
 
 pub status-spec : {M : Type 1} → statement M
 status-spec =

@@ -21,6 +21,11 @@ abbrev μ-loop : tie.MeasureT-loop
 fine : (l : tie.At-loop Inv-loop μ-loop) → l .loop .i < l .before .before .args .n → Right (now (l .before .before .args .labels)) (l .before .before .args .len) (jump-at (now (l .before .before .args .jumps)) (l .loop .i))
 fine l h = right _ _ _ (l .before .before .pre .4 (l .loop .i) h)
 
+-- ---- places
+
+abbrev to-label-place : tie.After-write-word Inv-loop μ-loop → tie.After-label-place Inv-loop μ-loop
+to-label-place c = c .before .before .before .before .before .before
+
 loop-holds : tie.Need-loop-holds Inv-loop μ-loop
 loop-holds c =
     let a = c .before .args in
@@ -39,21 +44,28 @@ element-copy-out-label-place c =
 
 word-requires : tie.Need-word-requires Inv-loop μ-loop
 word-requires c κs =
-    let l = c .before .before .before .before .before .before .before .before in
+    let at-in-loop = c .before .before .before .before .before .before .before in
+    let l = at-in-loop .before in
     let a = l .before .before .args in
-    let r = fine l (c .before .before .before .before .before .before .before .loop-test .taken) in
+    let r = fine l (at-in-loop .loop-test .taken) in
     let p = place-small (a .len) (getD (now (a .labels)) (c .before .before .before .before .size .result) 0) (at-first (a .len) (now (a .labels)) (l .before .before .pre .3) (c .before .before .before .before .size .result) (omega (arith, r .label, c .before .before .before .before .size .ensures))) in
     (omega (arith, p, c .before .before .label-place .ensures), omega (arith, r .inside))
 
 loop-again : tie.Need-loop-again Inv-loop μ-loop
 loop-again c =
-    let l = c .before .before .before .before .before .before .before .before .before .before .before .before .before .before in
+    let d = c .before .before in
+    let k = d .before .before .before in
+    let h = to-label-place d in
+    let i = h .before .before .before .before .before in
+    let l = i .before in
     let a = l .before .before .args in
     let j = jump-at (now (a .jumps)) (l .loop .i) in
-    let e = one-word (now (a .labels)) (l .loop .buf) (a .len) j (fine l (c .before .before .before .before .before .before .before .before .before .before .before .before .before .loop-test .taken)) (omega (arith, l .loop .inv .1)) (c .before .before .before .before .before .before .before .before .before .before .size .result) (c .before .before .before .before .before .before .before .before .label-place .result) (c .before .before .before .before .before .word .result) (c .before .before .before .before .size2 .result) _ (c .before .before .before .before .before .before .before .before .before .before .size .ensures) (c .before .before .before .before .before .before .before .before .label-place .ensures) (c .before .before .before .before .before .word .ensures) (c .before .before .before .before .size2 .ensures) (c .before .before .write-word .ensures) in (
+    let one = one-word (now (a .labels)) (l .loop .buf) (a .len) j (fine l (i .loop-test .taken)) (omega (arith, l .loop .inv .1)) in
+    let of = one (h .before .before .size .result) (h .label-place .result) (k .word .result) (d .before .before .size2 .result) _ (h .before .before .size .ensures) (h .label-place .ensures) in
+    let e = of (k .word .ensures) (d .before .before .size2 .ensures) (d .write-word .ensures) in (
       omega arith,
       ap length e ∙ length-written _ _ _ ∙ l .loop .inv .1,
-      l .loop .inv .2 ∙ patched-step (now (a .labels)) (l .loop .buf) (now (a .jumps)) (l .loop .i) (a .n) (c .before .before .before .before .before .before .before .before .before .before .before .before .before .loop-test .taken) ∙ rw (← e),
+      l .loop .inv .2 ∙ patched-step (now (a .labels)) (l .loop .buf) (now (a .jumps)) (l .loop .i) (a .n) (i .loop-test .taken) ∙ rw (← e),
     )
 
 same-length : tie.Need-same-length Inv-loop μ-loop

@@ -18,9 +18,11 @@ add-form-kind c =
 
 returns : tie.Need-returns
 returns c =
-    let f = c .before .before .before .before .before .before in
+    let k = c .before .before in
+    let n = k .before .before in
+    let f = n .before .before in
     let a = f .before .before .args in
-    c .form-kind .ensures ∙ line-is (now (a .s)) _ (f .field-end .ensures .0) _ (sym (c .before .before .before .before .kind-named .ensures) ∙ c .before .before .k .given .1)
+    c .form-kind .ensures ∙ line-is (now (a .s)) _ (f .field-end .ensures .0) _ (sym (n .kind-named .ensures) ∙ k .k .given .1)
 
 returns-2 : tie.Need-returns-2
 returns-2 c =

@@ -17,15 +17,19 @@ returns-2 c =
 
 returns-3 : tie.Need-returns-3
 returns-3 c =
-    let z = c .before .before .before .before .before .before .before .before in
+    let n = c .before .before .before in
+    let z = n .before .before .before .before .before in
     let y = z .before in
     branch-no-label _ _ _ _ _ _ _ (y .before .number-at .ensures) (y .number-at2 .ensures) (z .last-flag .ensures) (c .enum-told3 .given .1)
 
 returns-4 : tie.Need-returns-4
 returns-4 c =
-    let z = c .before .before .before .before .before .before .before .before .before in
+    let m = c .before in
+    let n = m .before .before .before in
+    let b = n .before .before .before in
+    let z = b .before .before in
     let y = z .before in
-    branch-is _ _ _ _ _ _ _ (y .before .number-at .ensures) (y .number-at2 .ensures) (z .last-flag .ensures) _ _ _ (c .before .before .before .before .n .given .1) (c .before .m .given .1) (c .before .before .before .before .before .before .before .b .given .1)
+    branch-is _ _ _ _ _ _ _ (y .before .number-at .ensures) (y .number-at2 .ensures) (z .last-flag .ensures) _ _ _ (n .n .given .1) (m .m .given .1) (b .b .given .1)
 
 pub form-branch-spec : {M : Type 1} → statement M
 form-branch-spec =

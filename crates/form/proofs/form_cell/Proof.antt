@@ -20,26 +20,33 @@ returns-2 c =
 
 returns-3 : tie.Need-returns-3
 returns-3 c =
-    let z = c .before .before .before .before .before .before .before .before in
+    let n = c .before .before .before in
+    let z = n .before .before .before .before .before in
     let y = z .before in
     let x = y .before in
     cell-no-place (x .before .before .args .save) _ _ _ _ _ _ _ (x .number-at .ensures) (y .place-at .ensures) (z .read-numbers .ensures) (c .enum-told3 .given .1)
 
 returns-4 : tie.Need-returns-4
 returns-4 c =
-    let z = c .before .before .before .before .before .before .before .before .before .before in
+    let w = c .before .before in
+    let n = w .before .before .before in
+    let i = n .before .before .before in
+    let z = i .before .before in
     let y = z .before in
     let x = y .before in
     rw (c .if1 .taken)
-    (cell-is true _ _ _ _ _ _ _ (x .number-at .ensures) (y .place-at .ensures) (z .read-numbers .ensures) _ _ _ _ _ _ _ (c .before .before .before .before .before .n .given .1) (c .before .before .w .given .1) (c .before .before .before .before .before .before .before .before .i .given .1))
+    (cell-is true _ _ _ _ _ _ _ (x .number-at .ensures) (y .place-at .ensures) (z .read-numbers .ensures) _ _ _ _ _ _ _ (n .n .given .1) (w .w .given .1) (i .i .given .1))
 
 returns-5 : tie.Need-returns-5
 returns-5 c =
-    let z = c .before .before .before .before .before .before .before .before .before .before in
+    let w = c .before .before in
+    let n = w .before .before .before in
+    let i = n .before .before .before in
+    let z = i .before .before in
     let y = z .before in
     let x = y .before in
     rw (c .if1 .left)
-    (cell-is false _ _ _ _ _ _ _ (x .number-at .ensures) (y .place-at .ensures) (z .read-numbers .ensures) _ _ _ _ _ _ _ (c .before .before .before .before .before .n .given .1) (c .before .before .w .given .1) (c .before .before .before .before .before .before .before .before .i .given .1))
+    (cell-is false _ _ _ _ _ _ _ (x .number-at .ensures) (y .place-at .ensures) (z .read-numbers .ensures) _ _ _ _ _ _ _ (n .n .given .1) (w .w .given .1) (i .i .given .1))
 
 pub form-cell-spec : {M : Type 1} → statement M
 form-cell-spec =

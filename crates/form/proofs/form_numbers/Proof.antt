@@ -7,19 +7,19 @@ returns : tie.Need-returns
 returns c = rw (sym (c .before .before .read-numbers .ensures) ∙ c .enum-told .given .1)
 
 returns-2 : tie.Need-returns-2
-returns-2 c = rw (sym (c .before .before .before .before .before .before .read-numbers .ensures) ∙ c .before .before .before .before .v .given .1, c .before .k .given .1)
+returns-2 c = let v = c .before .before .before .before in rw (sym (v .before .before .read-numbers .ensures) ∙ v .v .given .1, c .before .k .given .1)
 
 returns-3 : tie.Need-returns-3
-returns-3 c = rw (sym (c .before .before .before .before .before .before .read-numbers .ensures) ∙ c .before .before .before .before .v .given .1, c .before .k2 .given .1)
+returns-3 c = let v = c .before .before .before .before in rw (sym (v .before .before .read-numbers .ensures) ∙ v .v .given .1, c .before .k2 .given .1)
 
 returns-4 : tie.Need-returns-4
-returns-4 c = rw (sym (c .before .before .before .before .before .before .read-numbers .ensures) ∙ c .before .before .before .before .v .given .1, c .before .k3 .given .1)
+returns-4 c = let v = c .before .before .before .before in rw (sym (v .before .before .read-numbers .ensures) ∙ v .v .given .1, c .before .k3 .given .1)
 
 returns-5 : tie.Need-returns-5
-returns-5 c = rw (sym (c .before .before .before .before .before .before .read-numbers .ensures) ∙ c .before .before .before .before .v .given .1, c .before .k4 .given .1)
+returns-5 c = let v = c .before .before .before .before in rw (sym (v .before .before .read-numbers .ensures) ∙ v .v .given .1, c .before .k4 .given .1)
 
 returns-6 : tie.Need-returns-6
-returns-6 c = rw (sym (c .before .before .before .before .before .before .read-numbers .ensures) ∙ c .before .before .before .before .v .given .1, c .before .k5 .given .1)
+returns-6 c = let v = c .before .before .before .before in rw (sym (v .before .before .read-numbers .ensures) ∙ v .v .given .1, c .before .k5 .given .1)
 
 returns-7 : tie.Need-returns-7
 returns-7 c = rw (sym (c .before .before .before .before .before .read-numbers .ensures) ∙ c .before .before .before .v .given .1, c .enum-told2 .given .1)

@@ -18,8 +18,9 @@ slice-aggregate-form-body c = sym (length-take-le _ _ (omega arith))
 
 returns-3 : tie.Need-returns-3
 returns-3 c =
-    let a = c .before .before .before .before .before .before .args in
-    c .form-body .ensures ∙ newline (now (a .line)) _ refl (c .before .before .if2 .left)
+    let e = c .before .before in
+    let a = e .before .before .before .before .args in
+    c .form-body .ensures ∙ newline (now (a .line)) _ refl (e .if2 .left)
 
 pub read-form-spec : {M : Type 1} → statement M
 read-form-spec =

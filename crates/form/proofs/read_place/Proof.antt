@@ -14,11 +14,17 @@ returns-2 c = simp (sym (c .before .before .before .before .same .ensures) ∙ c
 
 returns-3 : tie.Need-returns-3
 unfolding first
-returns-3 c = simp (sym (c .before .before .before .before .before .before .before .same .ensures) ∙ c .before .before .before .before .before .before .if1 .left, sym (c .before .before .before .before .same2 .ensures) ∙ c .before .before .before .if2 .left, sym (c .before .same3 .ensures) ∙ c .if3 .taken)
+returns-3 c =
+    let e = c .before .before .before in
+    let d = e .before .before .before in
+    simp (sym (d .before .same .ensures) ∙ d .if1 .left, sym (e .before .same2 .ensures) ∙ e .if2 .left, sym (c .before .same3 .ensures) ∙ c .if3 .taken)
 
 returns-4 : tie.Need-returns-4
 unfolding first
-returns-4 c = simp (sym (c .before .before .before .before .before .before .before .same .ensures) ∙ c .before .before .before .before .before .before .if1 .left, sym (c .before .before .before .before .same2 .ensures) ∙ c .before .before .before .if2 .left, sym (c .before .same3 .ensures) ∙ c .if3 .left)
+returns-4 c =
+    let e = c .before .before .before in
+    let d = e .before .before .before in
+    simp (sym (d .before .same .ensures) ∙ d .if1 .left, sym (e .before .same2 .ensures) ∙ e .if2 .left, sym (c .before .same3 .ensures) ∙ c .if3 .left)
 
 pub read-place-spec : {M : Type 1} → statement M
 read-place-spec =

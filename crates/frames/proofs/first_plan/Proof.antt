@@ -7,7 +7,7 @@ use Rattle.assembler.specs.declared.Plan.{Plan}
 use Rattle.accesses.specs.Code.{li-code}
 use Rattle.accesses.proofs.Collect.{answered, collected, pushed-last}
 use Rattle.accesses.proofs.Numbers.{back-small}
-use Rattle.framing.specs.Items.{mv}
+use Rattle.frame_code.specs.Items.{mv}
 use native.Mathlib.Omega.{arith}
 use Prim.Native.Nat.{_*_}
 use Rattle.accesses.specs.Plans.{plan-of}

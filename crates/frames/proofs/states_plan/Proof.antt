@@ -11,7 +11,7 @@ use Rattle.assembler.specs.declared.Plan.{Plan}
 use Rattle.accesses.specs.Plans.{answer-of, pushes-from, plan-of}
 use Rattle.accesses.proofs.Collect.{answered}
 use Rattle.accesses.proofs.Numbers.{answered-at, back-small}
-use Rattle.framing.specs.Items.{mv, states-from}
+use Rattle.frame_code.specs.Items.{mv, states-from}
 use Rattle.frames.proofs.states_plan.Statement.{statement}
 use Rattle.frames.proofs.states_plan.Tie as tie
 
@@ -35,8 +35,9 @@ loop-less c = omega arith
 
 loop-again : tie.Need-loop-again Inv-loop μ-loop
 loop-again c =
+    let at-start = c .before .before .before .before .before .before in
     let l = c .before .before .before .loop in
-    let n = c .before .before .before .before .before .before .args .states in
+    let n = at-start .args .states in
     let k : n - l .i ≡ suc (n - (l .i + 1)) = omega arith in
     let e = answered-at _ (λ (z : ℤ). S FSD 9 (10 + l .i) z) (c .before .fsd .ensures) (back-small (8 * l .i) (omega arith)) in (
       omega arith,

@@ -14,8 +14,8 @@ use Rattle.assembler.specs.Plan.{pushed}
 use Rattle.assembler.specs.declared.Fault.the-variants as Fault
 use Rattle.assembler.specs.declared.Plan.{Plan}
 use Rattle.accesses.specs.Plans.{answer-of, plan-of}
-use Rattle.order.specs.Mask.{chosen, is-preserved, saved}
-use Rattle.framing.specs.Items.{save, reload}
+use Rattle.ast.specs.Mask.{chosen, is-preserved, saved}
+use Rattle.frame_code.specs.Items.{save, reload}
 use Rattle.frames.proofs.Digits.{digits, First, first, same-place, no-digits, walked}
 use Rattle.frames.proofs.Pushes.{one-more, all-pushed, none-left}
 use Rattle.frames.proofs.used_plan.Statement.{statement}

@@ -11,21 +11,21 @@ use Rattle.encoder.specs.declared.Encoded.the-variants.{Word}
 use Rattle.accesses.specs.Plans.{answer-of, word-of}
 use Rattle.accesses.proofs.Collect.{word}
 use Rattle.accesses.proofs.Numbers.{answered-at, back-small}
-use Rattle.order.specs.Mask.{save-cell}
-use Rattle.framing.specs.Items.{save, reload}
+use Rattle.ast.specs.Mask.{save-cell}
+use Rattle.frame_code.specs.Items.{save, reload}
 use Rattle.frames.proofs.Tests.{at-most}
 use Rattle.frames.proofs.used_word.Statement.{statement}
 use Rattle.frames.proofs.used_word.Tie as tie
 
-small : (c : tie.After-cell-of) → (c .before .args .r ≤ 27) × (c .cell-of .result ≤ 27)
-small c = let h = at-most (c .before .args .r) (c .before .pre) in (h, omega (arith, c .cell-of .ensures .1))
+small : (c : tie.After-save-cell) → (c .before .args .r ≤ 27) × (c .save-cell .result ≤ 27)
+small c = let h = at-most (c .before .args .r) (c .before .pre) in (h, omega (arith, c .save-cell .ensures .1))
 
 -- the register's cell, by its bytes
-near : (c : tie.After-cell-of) → toZ w32 (8 * c .cell-of .result) ≡ pos (8 * save-cell (c .before .args .r))
-near c = back-small (8 * c .cell-of .result) (omega (arith, small c)) ∙ ap (λ (n : ℕ). pos (8 * n)) (c .cell-of .ensures .0)
+near : (c : tie.After-save-cell) → toZ w32 (8 * c .save-cell .result) ≡ pos (8 * save-cell (c .before .args .r))
+near c = back-small (8 * c .save-cell .result) (omega (arith, small c)) ∙ ap (λ (n : ℕ). pos (8 * n)) (c .save-cell .ensures .0)
 
-valid : (c : tie.After-cell-of) → Valid (reload (c .before .args .r)) × Valid (save (c .before .args .r))
-valid c = (omega (arith, small c, c .cell-of .ensures .0), omega (arith, small c, c .cell-of .ensures .0))
+valid : (c : tie.After-save-cell) → Valid (reload (c .before .args .r)) × Valid (save (c .before .args .r))
+valid c = (omega (arith, small c, c .save-cell .ensures .0), omega (arith, small c, c .save-cell .ensures .0))
 
 -- the word of an answer for a valid instruction
 told-word : (i : Instr) → Valid i → (e : Encoded) (w : ℕ) → e ≡ answer-of i → w ≡ word-of e → answer-of i ≡ Word w

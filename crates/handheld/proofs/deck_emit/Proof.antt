@@ -6,8 +6,9 @@ use Rattle.handheld.proofs.deck_emit.Tie as tie
 
 returns : tie.Need-returns
 returns c =
-    let a = c .before .before .before .before .before .before .before .before .args in
-    deck-told _ _ _ (c .answer-number .ensures) (c .before .numbers .ensures) (now (a .file)) (now (a .buf)) _ (c .before .before .before .before .routine .ensures)
+    let r = c .before .before .before .before in
+    let a = r .before .before .before .before .args in
+    deck-told _ _ _ (c .answer-number .ensures) (c .before .numbers .ensures) (now (a .file)) (now (a .buf)) _ (r .routine .ensures)
 
 pub deck-emit-spec : {M : Type 1} → statement M
 deck-emit-spec =

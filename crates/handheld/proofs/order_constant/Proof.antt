@@ -6,9 +6,10 @@ use Rattle.handheld.proofs.order_constant.Tie as tie
 
 returns : tie.Need-returns
 returns c =
-    let a = c .before .before .before .before .before .before .before .before .before .before .before .before .args in
-    let p = c .before .before .before .before .put-constant in
-    rw (← c .before .before .before .before .before .asm-of .ensures) (emit-left (now (a .rec)) _ _ _ (p .result) _ (p .ensures) _ _ (c .kept .ensures))
+    let p = c .before .before .before .before in
+    let q = p .before in
+    let a = q .before .before .before .before .before in
+    rw (← q .asm-of .ensures) (emit-left (now (a .before .before .args .rec)) _ _ _ (p .put-constant .result) _ (p .put-constant .ensures) _ _ (c .kept .ensures))
 
 pub order-constant-spec : {M : Type 1} → statement M
 order-constant-spec = tie.close (tie.spec (λ c κs. search needs) (λ c κs. search needs) (λ c κs. search needs) (λ c. search needs) returns)

@@ -1,30 +1,42 @@
 use mathlib.Core.Path.{sym, _∙_}
 use denote.Ref.{now}
-use Rattle.assembler.specs.State.{state}
+use Rattle.assembler.specs.State.{State, state}
 use Rattle.handheld.proofs.Shown.{constant-is}
 use borrow.Author.Needs.{needs}
 use Rattle.handheld.proofs.put_constant.Statement.{statement}
 use Rattle.handheld.proofs.put_constant.Tie as tie
 
+-- the arguments, and the state that the call finds
+abbrev start : tie.After-says → tie.Start
+start c = c .before .before .before .before
+
+abbrev found : tie.After-says → State
+found c = let a = start c .args in state (a .asm) (now (a .labels)) (now (a .jumps)) (now (a .buf))
+
 returns : tie.Need-returns
 returns c =
-    let a = c .before .before .before .before .before .before .before .before .before .before .before .before .before .args in
-    rw (← c .before .before .before .before .before .before .before .before .before .before .read-form .ensures) (c .before .before .append-const .ensures ∙ sym (constant-is _ (state (a .asm) (now (a .labels)) (now (a .jumps)) (now (a .buf))) _ _ (c .before .before .before .before .before .before .before .before .before .says .ensures) (c .before .before .before .before .before .before .before .said .given .1) (a .k)))
+    let e = c .before .before in
+    let g = e .before .before .before .before .before in
+    let s = g .before .before in
+    rw (← s .before .read-form .ensures) (e .append-const .ensures ∙ sym (constant-is _ (found s) _ _ (s .says .ensures) (g .said .given .1) (start s .args .k)))
 
 returns-2 : tie.Need-returns-2
 returns-2 c =
-    let a = c .before .before .before .before .before .before .before .args in
-    rw (← c .before .before .before .before .read-form .ensures) (c .too-big .ensures (now (a .labels)) (now (a .jumps)) (now (a .buf)) ∙ sym (constant-is _ (state (a .asm) (now (a .labels)) (now (a .jumps)) (now (a .buf))) _ _ (c .before .before .before .says .ensures) (c .before .enum-told .given .1) (a .k)))
+    let s = c .before .before .before in
+    let a = start s .args in
+    rw (← s .before .read-form .ensures) (c .too-big .ensures (now (a .labels)) (now (a .jumps)) (now (a .buf)) ∙ sym (constant-is _ (found s) _ _ (s .says .ensures) (c .before .enum-told .given .1) (a .k)))
 
 returns-3 : tie.Need-returns-3
 returns-3 c =
-    let a = c .before .before .before .before .before .before .before .args in
-    rw (← c .before .before .before .before .read-form .ensures) (c .no-such .ensures (now (a .labels)) (now (a .jumps)) (now (a .buf)) ∙ sym (constant-is _ (state (a .asm) (now (a .labels)) (now (a .jumps)) (now (a .buf))) _ _ (c .before .before .before .says .ensures) (c .before .enum-told2 .given .1) (a .k)))
+    let s = c .before .before .before in
+    let a = start s .args in
+    rw (← s .before .read-form .ensures) (c .no-such .ensures (now (a .labels)) (now (a .jumps)) (now (a .buf)) ∙ sym (constant-is _ (found s) _ _ (s .says .ensures) (c .before .enum-told2 .given .1) (a .k)))
 
 returns-4 : tie.Need-returns-4
 returns-4 c =
-    let a = c .before .before .before .before .before .before .before .args in
-    rw (← c .before .before .before .before .read-form .ensures) (c .no-such2 .ensures (now (a .labels)) (now (a .jumps)) (now (a .buf)) ∙ sym (constant-is _ (state (a .asm) (now (a .labels)) (now (a .jumps)) (now (a .buf))) _ _ (c .before .before .before .says .ensures) (c .before .enum-told3 .given .1) (a .k)))
+    let s = c .before .before .before in
+    let a = start s .args in
+    rw (← s .before .read-form .ensures) (c .no-such2 .ensures (now (a .labels)) (now (a .jumps)) (now (a .buf)) ∙ sym (constant-is _ (found s) _ _ (s .says .ensures) (c .before .enum-told3 .given .1) (a .k)))
 
 pub put-constant-spec : {M : Type 1} → statement M
 put-constant-spec = tie.close (tie.spec (λ c κs. search needs) (λ c κs. search needs) (λ c. search needs) (λ c κs. search needs) (λ c. search needs) (λ c κs. search needs) (λ c. search needs) (λ c κs. search needs) (λ c. search needs) (λ c κs. search needs) (λ c. search needs) returns returns-2 returns-3 returns-4)

@@ -1,37 +1,43 @@
 use mathlib.Core.Path.{sym, _∙_}
 use denote.Ref.{now}
 use Rattle.assembler.specs.State.{state}
-use Rattle.orders.proofs.Whole.{order-refused, order-placed, order-label}
+use Rattle.orders.proofs.Whole.{behind-as, order-refused, order-label}
 use borrow.Author.Needs.{needs}
 use Rattle.orders.proofs.emit.Statement.{statement}
 use Rattle.orders.proofs.emit.Tie as tie
 
 returns : tie.Need-returns
 returns c =
-    let n = c .before .before .before .before .before .before .before .before in
-    let a = n .before .before .before .args in
-    let e = n .fault-number .ensures .0 ∙ n .before .fault .ensures in
-    let p = c .before .before .before .before .before .before in
-    c .before .before .place .ensures ∙ order-refused (a .o) (a .tag) (state (a .asm) (now (a .labels)) (now (a .jumps)) (now (a .buf))) (p .refused-plan .result) (n .fault-number .result) e (p .before .if1 .taken) (p .refused-plan .ensures ∙ sym (n .fault-number .ensures .0))
+    let t = c .before .before .before in
+    let n = t .before in
+    let f = n .before in
+    let a = f .before .before .args in
+    order-refused (a .o) (a .tag) (state (a .asm) (now (a .labels)) (now (a .jumps)) (now (a .buf))) (f .fault .result) _ (f .fault .ensures) (λ q. t .if1 .taken (n .fault-number .ensures .0 ∙ q)) (c .check-whole .ensures (now (a .jumps)))
 
-returns-2 : tie.Need-returns-2
-returns-2 c =
-    let p = c .before .before .before .before .before .before .before .before .before .before in
-    let n = p .before .before in
+abbrev known : tie.After-place-arg3 → tie.After-behind
+known c = c .before .before .before .before .before .before
+
+place-requires : tie.Need-place-requires
+place-requires c κs =
+    let b = known c in
+    let n = b .before .before in
     let a = n .before .before .before .args in
-    let z = sym (n .fault-number .ensures .0 ∙ n .before .fault .ensures) ∙ p .before .if1 .left in
-    let r = c .before .before .before .before .before .before .before .r .given in
-    let q = rw (r .1) at (c .before .before .before .before .before .before .before .before .before .behind .ensures) in
-    c .before .before .place2 .ensures ∙ order-placed (a .o) (a .tag) (state (a .asm) (now (a .labels)) (now (a .jumps)) (now (a .buf))) (p .plan .result) (r .0 .0) z (p .plan .ensures) (q .0) (q .1)
+    let z = sym (n .fault-number .ensures .0 ∙ n .before .fault .ensures) ∙ b .before .if1 .left in
+    let q = behind-as (a .o) z _ (sym (b .behind .ensures) ∙ c .before .before .before .before .r .given .1) in
+    (z, q .0, q .1)
+
+abbrev known-2 : tie.After-set-label → tie.After-behind
+known-2 c = c .before .before .before .before .before .before .before
 
 returns-3 : tie.Need-returns-3
 returns-3 c =
-    let p = c .before .before .before .before .before .before .before .before .before .before in
-    let n = p .before .before in
+    let p = c .before .before in
+    let b = known-2 p in
+    let n = b .before .before in
     let a = n .before .before .before .args in
-    let z = sym (n .fault-number .ensures .0 ∙ n .before .fault .ensures) ∙ p .before .if1 .left in
-    let q = rw (c .before .before .before .before .before .before .before .r2 .given .1) at (c .before .before .before .before .before .before .before .before .before .behind .ensures) in
-    c .before .before .set-label .ensures ∙ order-label (a .o) (a .tag) (state (a .asm) (now (a .labels)) (now (a .jumps)) (now (a .buf))) _ z (q .0) (q .1)
+    let z = sym (n .fault-number .ensures .0 ∙ n .before .fault .ensures) ∙ b .before .if1 .left in
+    let q = behind-as (a .o) z _ (sym (b .behind .ensures) ∙ p .before .before .before .before .before .r2 .given .1) in
+    p .set-label .ensures ∙ order-label (a .o) (a .tag) (state (a .asm) (now (a .labels)) (now (a .jumps)) (now (a .buf))) _ z (q .0) (q .1) (q .2)
 
 pub emit-spec : {M : Type 1} → statement M
 emit-spec =
@@ -40,16 +46,14 @@ emit-spec =
     (λ c κs. search needs)
     (λ c κs. search needs)
     (λ c κs. search needs)
-    (λ c κs. search needs)
     (λ c. search needs)
     returns
     (λ c κs. search needs)
-    (λ c κs. search needs)
+    (λ c. search needs)
+    place-requires
     (λ c. search needs)
     (λ c κs. search needs)
     (λ c. search needs)
-    (λ c κs. search needs)
     (λ c. search needs)
-    returns-2
     (λ c. search needs)
     returns-3)

@@ -4,16 +4,16 @@ use native.Mathlib.Omega.{arith}
 use borrow.Author.Needs.{needs}
 use borrow.Author.Tests.{leb-true, not-true, not-false}
 use denote.Ref.{now}
-use Rattle.text.specs.Digits.{decimal as decimal-of}
+use Rattle.text.specs.Digits.{decimal}
 use Rattle.print.proofs.Counts.{as-decimal}
-use Rattle.print.proofs.Whole.{too-long, fits, tested}
+use Rattle.print.proofs.Fitting.{too-long, fits, tested}
 use Rattle.print.proofs.decimal.Statement.{statement}
 use Rattle.print.proofs.decimal.Tie as tie
 
 returns : tie.Need-returns
 returns c =
     let a = c .before .before .before .before .before .args in
-    too-long (decimal-of (a .n)) (a .at) (now (a .out)) (tested (decimal-of (a .n)) (a .at) (now (a .out)) _ _ false (c .before .before .before .decimal-length .ensures .0) (c .before .has-room .ensures) (not-true _ (c .if1 .taken)))
+    too-long (decimal (a .n)) (a .at) (now (a .out)) (tested (decimal (a .n)) (a .at) (now (a .out)) _ _ false (c .before .before .before .decimal-length .ensures .0) (c .before .has-room .ensures) (not-true _ (c .if1 .taken)))
 
 put-digits-requires : tie.Need-put-digits-requires
 put-digits-requires c κs =
@@ -22,9 +22,10 @@ put-digits-requires c κs =
 
 returns-2 : tie.Need-returns-2
 returns-2 c =
-    let a = c .before .before .before .before .before .before .before .before .before .args in
-    let k = c .before .before .before .before .before .before .before .decimal-length .ensures .0 in
-    fits (decimal-of (a .n)) (a .at) (now (a .out)) _ _ (tested (decimal-of (a .n)) (a .at) (now (a .out)) _ _ true k (c .before .before .before .before .before .has-room .ensures) (not-false _ (c .before .before .before .before .if1 .left))) k (c .before .before .put-digits .ensures ∙ as-decimal (now (a .out)) (a .at) _ (a .n) k)
+    let e = c .before .before .before .before in
+    let a = e .before .before .before .before .before .args in
+    let k = e .before .before .before .decimal-length .ensures .0 in
+    fits (decimal (a .n)) (a .at) (now (a .out)) _ _ (tested (decimal (a .n)) (a .at) (now (a .out)) _ _ true k (e .before .has-room .ensures) (not-false _ (e .if1 .left))) k (c .before .before .put-digits .ensures ∙ as-decimal (now (a .out)) (a .at) _ (a .n) k)
 
 pub decimal-spec : {M : Type 1} → statement M
 decimal-spec =

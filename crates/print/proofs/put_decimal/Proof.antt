@@ -8,9 +8,9 @@ use Rattle.print.proofs.put_decimal.Tie as tie
 
 returns : tie.Need-returns
 returns c =
-    let a = c .before .before .before .before .before .before .args in
-    let k = c .before .before .before .before .decimal-length .ensures .0 in
-    (c .before .before .put-digits .ensures ∙ as-decimal (now (a .out)) (a .at) _ (a .n) k, omega arith)
+    let k = c .before .before .before .before in
+    let a = k .before .before .args in
+    (c .before .before .put-digits .ensures ∙ as-decimal (now (a .out)) (a .at) _ (a .n) (k .decimal-length .ensures .0), omega arith)
 
 pub put-decimal-spec : {M : Type 1} → statement M
 put-decimal-spec =

@@ -22,16 +22,17 @@ loop-holds c = (omega arith, refl, omega arith, refl)
 
 put-word-line-requires : tie.Need-put-word-line-requires Inv-loop μ-loop
 put-word-line-requires c κs =
-    let l = c .before .before .before .loop in
-    let a = c .before .before .before .before .before .before .args in
-    omega (arith, length-word (now (a .code)) (l .i) _ (omega arith) (c .before .word-at .ensures), c .before .before .before .before .before .before .pre)
+    let l = c .before .before .before in
+    let s = l .before .before .before in
+    omega (arith, length-word (now (s .args .code)) (l .loop .i) _ (omega arith) (c .before .word-at .ensures), s .pre)
 
 loop-again : tie.Need-loop-again Inv-loop μ-loop
 loop-again c =
-    let l = c .before .before .before .before .before .before .loop in
-    let a = c .before .before .before .before .before .before .before .before .before .args in
+    let q = c .before .before .before .before in
+    let l = q .before .before .loop in
+    let a = q .before .before .before .before .before .args in
     let p = c .before .before .put-word-line in
-    let w = c .before .before .before .before .word-at .ensures in
+    let w = q .word-at .ensures in
     let n = length-word (now (a .code)) (l .i) _ (omega arith) w in (
       omega arith,
       omega (arith, p .kept .1 .1 .0),

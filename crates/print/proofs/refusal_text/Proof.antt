@@ -5,7 +5,7 @@ use lib.ListN.{length}
 use denote.Ref.{now}
 use Rattle.print.specs.Text.{refusal-line}
 use Rattle.print.proofs.Lines.{length-refusal-line}
-use Rattle.print.proofs.Whole.{too-long, fits}
+use Rattle.print.proofs.Fitting.{too-long, fits}
 use borrow.Author.Needs.{needs}
 use Rattle.print.proofs.refusal_text.Statement.{statement}
 use Rattle.print.proofs.refusal_text.Tie as tie
@@ -24,7 +24,8 @@ put-refusal-line-requires c κs =
 
 returns-2 : tie.Need-returns-2
 returns-2 c =
-    let a = c .before .before .before .before .before .before .before .before .args in
+    let e = c .before .before .before .before in
+    let a = e .before .before .before .before .args in
     let t = refusal-line (a .number) (a .line) in
     let h = length-refusal-line (a .number) (a .line) in
     fits t 0 (now (a .out)) _ _ (le-leb (0 + length t) (length (now (a .out))) (omega arith)) (omega arith) (c .before .before .put-refusal-line .ensures)

@@ -3,7 +3,7 @@ use mathlib.Core.Bool.{true, false}
 use borrow.Author.Tests.{leb-true, not-true, not-false}
 use denote.Ref.{now}
 use Rattle.print.proofs.Lines.{rest-of}
-use Rattle.print.proofs.Whole.{too-long, fits, from-none}
+use Rattle.print.proofs.Fitting.{too-long, fits, from-none}
 use borrow.Author.Needs.{needs}
 use Rattle.print.proofs.words_text.Statement.{statement}
 use Rattle.print.proofs.words_text.Tie as tie
@@ -20,10 +20,11 @@ put-words-requires c κs =
 
 returns-2 : tie.Need-returns-2
 returns-2 c =
-    let a = c .before .before .before .before .before .before .before .before .args in
+    let e = c .before .before .before .before in
+    let a = e .before .before .before .before .args in
     let t = rest-of (now (a .code)) 0 in
     let p = c .before .before .put-words in
-    fits t 0 (now (a .out)) _ _ (from-none t (now (a .out)) _ true (c .before .before .before .before .before .words-fit .ensures) (not-false _ (c .before .before .before .before .if1 .left))) (p .ensures .1) (p .ensures .0)
+    fits t 0 (now (a .out)) _ _ (from-none t (now (a .out)) _ true (e .before .words-fit .ensures) (not-false _ (e .if1 .left))) (p .ensures .1) (p .ensures .0)
 
 pub words-text-spec : {M : Type 1} → statement M
 words-text-spec =

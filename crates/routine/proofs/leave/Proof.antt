@@ -1,100 +1,83 @@
 use borrow.Author.Needs.{needs}
 use native.Mathlib.Omega.{arith}
-use mathlib.Core.Path.{_≡_, refl, sym, _∙_}
-use Prim.Native.Nat.{_+_, _-_, _≤_}
+use mathlib.Core.Path.{_≡_, sym, _∙_}
+use mathlib.Core.List.{List}
+use Prim.Native.Nat.{_≤_}
 use denote.Ref.{now}
-use lib.ListN.{length, take, drop}
-use Rattle.assembler.specs.State.{state}
-use Rattle.routine.specs.Places.{constants-at}
-use Rattle.routine.specs.Run.{constants-run, finish-run}
-use Rattle.routine.proofs.Onward.{halts, leave-goes, constants-stop, constants-go, constants-end}
-use Rattle.routine.proofs.Placed.{places-length, places-end, place-next}
+use lib.ListN.{length, take}
+use Rattle.ast.specs.declared.Constant.{Constant}
+use Rattle.assembler.specs.State.{state, outcome}
+use Rattle.routine.specs.Inner.Places.{constants-at}
+use Rattle.routine.specs.Run.{next, finish-run, leave-run}
+use Rattle.routine.proofs.Onward.{halts, goes}
+use Rattle.routine.proofs.Placed.{places-length}
 use Rattle.routine.proofs.leave.Statement.{statement}
 use Rattle.routine.proofs.leave.Tie as tie
 
-abbrev Inv-loop : tie.InvT-loop
-Inv-loop file places n head line buf₀ labels₀ jumps₀ asm₀ at k₀ buf labels jumps asm k =
-    (k ≤ n) × (length buf ≡ length buf₀)
-    × (constants-run line 0 (constants-at file (take n places)) (state asm₀ labels₀ jumps₀ buf₀) (finish-run head at n) ≡ constants-run line k (constants-at file (drop k (take n places))) (state asm labels jumps buf) (finish-run head at n))
+abbrev start : tie.After-unwind → tie.Start
+start c = c .before .before .before .before .before .before
 
-abbrev μ-loop : tie.MeasureT-loop
-μ-loop file places n head line buf₀ labels₀ jumps₀ asm₀ at k₀ buf labels jumps asm k = n - k
+abbrev accepted : tie.After-constants → tie.After-enum-told
+accepted c = c .before .before .before .before .before
 
-returns : tie.Need-returns Inv-loop μ-loop
+abbrev unwound : tie.After-enum-told → tie.After-unwind
+unwound c = c .before .before .before .before
+
+abbrev kept : tie.Start → List Constant
+kept s = constants-at (now (s .args .file)) (take (s .args .n) (now (s .args .places)))
+
+-- behind the constants: finishing, or their refusal
+left : (c : tie.After-constants) → let u = unwound (accepted c) in let a = start u .args in
+    leave-run (a .head) (a .line) (kept (start u)) (state (a .asm) (now (a .labels)) (now (a .jumps)) (now (a .buf)))
+    ≡ next (outcome (c .constants .result) (c .constants .last .1 .1 .1 .1 .0) (c .constants .last .1 .1 .1 .1 .1 .0) (c .constants .last .1 .1 .1 .0)) (a .line)
+    (finish-run (a .head) (u .unwind .result .asm .len) (length (kept (start u))))
+left c =
+    let u = unwound (accepted c) in
+    u .unwind .ensures .0 (kept (start u))
+    ∙ goes (u .unwind .result) _ _ _ (start u .args .line) _ (accepted c .enum-told .given .1)
+    ∙ c .constants .ensures (start u .args .line) _
+
+returns : tie.Need-returns
 returns c =
-    let a = c .before .before .before .before .before .before .before .args in
-    rw (c .refused .ensures) (sym (halts (a .u) (now (a .labels)) (now (a .jumps)) (now (a .buf)) (a .line) _ _ _ (c .before .before .v .given .1)))
+    let u = c .before .before .before .before .before .before in
+    rw (c .refused .ensures) (sym (u .unwind .ensures .0 (kept (start u)) ∙ halts (u .unwind .result) _ _ _ (start u .args .line) _ _ _ (c .before .before .v .given .1)))
 
-loop-holds : tie.Need-loop-holds Inv-loop μ-loop
-loop-holds c = (search needs, refl, refl)
-
-same-length : tie.Need-same-length Inv-loop μ-loop
-same-length c = c .before .before .before .before .before .before .buf .given ∙ c .before .before .before .before .before .before .before .before .before .before .before .before .before .before .loop .inv .1
-
-returns-2 : tie.Need-returns-2 Inv-loop μ-loop
+returns-2 : tie.Need-returns-2
 returns-2 c =
-    let l = c .before .before .before .before .before .before .before .before .before .before .before .before .before .before .loop in
-    let s = c .before .before .before .before .before .before .before .before .before .before .before .before .before .before .before .before .before .before .before .before in
-    let a = s .args in
-    let f = now (a .file) in
-    let ps = now (a .places) in
-    let h : a .n ≤ length ps = omega (arith, s .pre) in
-    let d = c .before .before .before .before .before .before .before .append-const in
-    let e = rw (c .before .before .before .before .before .before .before .before .before .before .before .constant-at .ensures) at (d .ensures) in
-    rw (c .refused2 .ensures) (sym (leave-goes (a .head) (a .line) (a .n) (constants-at f (take (a .n) ps)) (a .u) (now (a .labels)) (now (a .jumps)) (now (a .buf)) (c .before .before .before .before .before .before .before .before .before .before .before .before .before .before .before .enum-told .given .1) (places-length f ps (a .n) h) ∙ l .inv .2 ∙ constants-stop (a .line) (l .k) (constants-at f (drop (l .k) (take (a .n) ps))) (constants-at f (drop (l .k + 1) (take (a .n) ps))) _ (place-next f ps (a .n) h (l .k) (c .before .before .before .before .before .before .before .before .before .before .before .before .before .loop-test .taken)) _ (d .result) _ _ _ e _ _ _ (c .before .before .w .given .1) ∙ halts (d .result) _ _ _ (a .line) _ _ _ (c .before .before .w .given .1)))
+    let k = c .before .before .before .before .before .before in
+    let u = unwound (accepted k) in
+    rw (c .refused2 .ensures) (sym (left k ∙ halts (k .constants .result) _ _ _ (start u .args .line) _ _ _ (c .before .before .w .given .1)))
 
-loop-again : tie.Need-loop-again Inv-loop μ-loop
-loop-again c =
-    let l = c .before .before .before .before .before .before .before .before .before .before .before .before .loop in
-    let s = c .before .before .before .before .before .before .before .before .before .before .before .before .before .before .before .before .before .before in
-    let a = s .args in
-    let f = now (a .file) in
-    let ps = now (a .places) in
-    let h : a .n ≤ length ps = omega (arith, s .pre) in
-    let d = c .before .before .before .before .before .append-const in
-    let e = rw (c .before .before .before .before .before .before .before .before .before .constant-at .ensures) at (d .ensures) in
-    (omega (arith, c .before .before .before .before .before .before .before .before .before .before .before .loop-test .taken), search needs, l .inv .2 ∙ constants-go (a .line) (l .k) (constants-at f (drop (l .k) (take (a .n) ps))) (constants-at f (drop (l .k + 1) (take (a .n) ps))) _ (place-next f ps (a .n) h (l .k) (c .before .before .before .before .before .before .before .before .before .before .before .loop-test .taken)) _ (d .result) _ _ _ e _ (c .enum-told2 .given .1))
+close-requires : tie.Need-close-requires
+close-requires c κs =
+    let t = accepted (c .before .before .before .before .before .before .before) in
+    (unwound t .unwind .ensures .1 (t .enum-told .given .1), start (unwound t) .pre .0)
 
-close-requires : tie.Need-close-requires Inv-loop μ-loop
-close-requires c κs = (c .before .before .before .before .before .before .before .before .before .before .pre .2 (c .before .before .before .before .before .enum-told .given .1), c .before .before .before .before .before .before .before .before .before .before .pre .0)
-
-same-length-2 : tie.Need-same-length-2 Inv-loop μ-loop
-same-length-2 c = c .before .buf2 .given ∙ c .before .before .before .before .before .before .before .loop .inv .1
-
-returns-3 : tie.Need-returns-3 Inv-loop μ-loop
+returns-3 : tie.Need-returns-3
 returns-3 c =
-    let l = c .before .before .before .before .before .before .before .loop in
-    let s = c .before .before .before .before .before .before .before .before .before .before .before .before .before in
-    let a = s .args in
-    let f = now (a .file) in
-    let ps = now (a .places) in
-    let h : a .n ≤ length ps = omega (arith, s .pre) in
-    c .before .before .close .ensures ∙ sym (leave-goes (a .head) (a .line) (a .n) (constants-at f (take (a .n) ps)) (a .u) (now (a .labels)) (now (a .jumps)) (now (a .buf)) (c .before .before .before .before .before .before .before .before .enum-told .given .1) (places-length f ps (a .n) h) ∙ l .inv .2 ∙ rw (places-end f ps (a .n) h (l .k) (c .before .before .before .before .before .before .loop-test .left)) (constants-end (a .line) (l .k) _ _))
+    let e = c .before .before .before .before .before .before in
+    let k = e .before .before .before .before in
+    let s = start (unwound (accepted k)) in
+    let h : s .args .n ≤ length (now (s .args .places)) = omega (arith, s .pre) in
+    c .before .before .close .ensures
+    ∙ sym (left k ∙ goes (k .constants .result) _ _ _ (s .args .line) _ (e .enum-told2 .given .1) ∙ rw (places-length (now (s .args .file)) (now (s .args .places)) (s .args .n) h))
 
 pub leave-spec : {M : Type 1} → statement M
 leave-spec =
     tie.close
     (tie.spec
-    Inv-loop
-    μ-loop
+    (λ c κs. search needs)
     (λ c. search needs)
     (λ c κs. search needs)
+    (λ c. search needs)
     returns
     (λ c. search needs)
-    loop-holds
-    (λ c. search needs)
-    (λ c. search needs)
     (λ c κs. search needs)
     (λ c. search needs)
     (λ c κs. search needs)
     (λ c. search needs)
-    (λ c κs. search needs)
-    same-length
     returns-2
     (λ c. search needs)
-    (λ c. search needs)
-    (λ c. search needs)
-    loop-again
     close-requires
-    same-length-2
+    (λ c. search needs)
     returns-3)

@@ -3,7 +3,7 @@ use native.Mathlib.Omega.{arith}
 use Prim.Native.Nat.{_^_, _<_}
 use borrow.Author.Needs.{needs}
 use lib.Bits.{bitXor, and-le-r}
-use Rattle.text.specs.Bytes.{each}
+use Rattle.text.specs.Inner.Parts.{each}
 use Rattle.text.proofs.Marks.{marks-right}
 use Rattle.text.proofs.equal_bytes.Statement.{statement}
 use Rattle.text.proofs.equal_bytes.Tie as tie

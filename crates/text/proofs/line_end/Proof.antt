@@ -3,8 +3,9 @@ use Prim.Native.Nat.{ℕ, _+_, _-_, _≤_}
 use lib.ListN.{length}
 use denote.Ref.{now}
 use borrow.Author.Needs.{needs}
-use Rattle.text.specs.Bytes.{each}
-use Rattle.text.proofs.Lined.{Ends, ends-behind, ends-here, ends-later}
+use Rattle.text.specs.Inner.Parts.{each}
+use Rattle.text.specs.Lines.{Ends}
+use Rattle.text.proofs.Lined.{ends-behind, ends-here, ends-later}
 use Rattle.text.proofs.Eights.{Found-two, found-eight, found-two}
 use Rattle.text.proofs.line_end.Statement.{statement}
 use Rattle.text.proofs.line_end.Tie as tie
@@ -16,7 +17,7 @@ abbrev μ-loop : tie.MeasureT-loop
 μ-loop file a n i₀ i = length file - i
 
 -- what the marks of the sixteen bytes tell
-told : (c : tie.After-equal-bytes2 Inv-loop μ-loop) → Found-two (Ends (now (c .before .before .before .before .before .before .before .before .args .file))) 1 (c .before .before .before .before .before .loop .i) (c .before .before .equal-bytes .result) (c .equal-bytes2 .result)
+told : (c : tie.After-equal-bytes2 Inv-loop μ-loop) → let l = c .before .before .before .before .before in Found-two (Ends (now (l .before .before .before .args .file))) 1 (l .loop .i) (c .before .before .equal-bytes .result) (c .equal-bytes2 .result)
 unfolding each
 told c =
     let l = c .before .before .before .before .before in

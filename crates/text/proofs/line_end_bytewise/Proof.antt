@@ -2,7 +2,8 @@ use Prim.Native.Nat.{ℕ, _-_}
 use lib.ListN.{length}
 use denote.Ref.{now}
 use borrow.Author.Needs.{needs}
-use Rattle.text.proofs.Lined.{Ends, ends-behind, ends-here, ends-later}
+use Rattle.text.specs.Lines.{Ends}
+use Rattle.text.proofs.Lined.{ends-behind, ends-here, ends-later}
 use Rattle.text.proofs.line_end_bytewise.Statement.{statement}
 use Rattle.text.proofs.line_end_bytewise.Tie as tie
 

@@ -13,7 +13,7 @@ returns-2 : tie.Need-returns-2
 returns-2 c =
     let i = c .before .before in
     let s = now (i .before .before .before .before .args .s) in
-    rw (minus s (i .before .before .if1 .left) (i .if2 .taken)) (c .negative .ensures ∙ rw (part-is s))
+    rw (minus s (i .before .before .if1 .left) (i .if2 .taken)) (c .read-negative .ensures ∙ rw (part-is s))
 
 returns-3 : tie.Need-returns-3
 returns-3 c =

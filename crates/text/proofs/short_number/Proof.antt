@@ -34,9 +34,12 @@ returns-6 c =
     let v = c .before .before .before .before in
     last-high _ _ refl (v .before .before .before .before .before .if1 .left) _ (v .wide2 .ensures .0) (c .if6 .taken)
 
--- the first digit's part
-high : (c : tie.Else6) → (c .before .before .before .before .before .before .wide .result - 48) * 10 * (length (now (c .before .before .before .before .before .before .before .before .before .before .before .args .s)) - 1) ≤ 90
-high c = times-few _ _ (omega (arith, c .before .before .if4 .left)) (c .before .before .before .before .before .before .before .before .if2 .left)
+-- the first digit's place, and its part of the number
+abbrev first : tie.Else6 → tie.After-wide
+first c = let t = c .before .before .before in t .before .before .before
+
+high : (c : tie.Else6) → (first c .wide .result - 48) * 10 * (length (now (first c .before .before .before .before .before .args .s)) - 1) ≤ 90
+high c = times-few _ _ (omega (arith, c .before .before .if4 .left)) (first c .before .before .if2 .left)
 
 mul-result-2 : tie.Need-mul-result-2
 mul-result-2 c = record { fits = omega (arith, high c) }

@@ -1,0 +1,11 @@
+pub mod Accepts
+pub mod Contents
+pub mod Taken
+pub mod Reached
+pub mod Whole
+pub mod Same
+pub mod Correct
+pub mod Files
+pub mod Refusals
+pub mod Never
+pub mod Closed

@@ -1,0 +1,4 @@
+pub mod Packed
+pub mod Names
+pub mod Fields
+pub mod Plain

@@ -1,0 +1,2 @@
+pub mod Fast
+pub mod Inner

@@ -1,0 +1,126 @@
+-- An order that is accepted whole is accepted in two parts as well. Assumes nothing.
+use mathlib.Core.Path.{_≡_, refl, sym, ap, _∙_}
+use mathlib.Core.Bool.{Bool, true, false, _&&_, _||_}
+use mathlib.Core.List.{List, [], _∷_, _++_}
+use Prim.Native.Nat.{ℕ, _+_, _*_, _%_, _≤_}
+use native.Mathlib.Omega.{arith}
+use borrow.Author.Tests.{le-leb, eqb-true, eqb-false, eq-eqb}
+use lib.Dec.{leb, eqb}
+use lib.ListN.{length, getD, set, length-append, length-set}
+use lib.Seq.{getD-set-other}
+use Rattle.isa.specs.Encode.{encode}
+use Rattle.base.proofs.Bools.{both}
+use Rattle.refusal.specs.Answer.{accepted}
+use Rattle.assembler.specs.Item.{Item, instr, raw, jump, label}
+use Rattle.assembler.specs.Jump.{kind-number}
+use Rattle.assembler.specs.Bytes.{room}
+use Rattle.assembler.specs.Label.{is-set, with-place}
+use Rattle.assembler.specs.State.{State, sound, fits}
+use Rattle.assembler.specs.Put.{words, jumps, labels, among, twice, with-word, with-jump, with-label, place, placed, verdict, put}
+use Rattle.assembler.specs.declared.Asm.{Asm}
+use Rattle.assembler.proofs.Items.{words-append, jumps-append, labels-append, placed-append}
+use Rattle.assembler.proofs.Writes.{length-written}
+use Rattle.assembler.proofs.Checks.{v-good}
+use Rattle.assembler.proofs.Steps.{put-done}
+use Rattle.finish.proofs.All.{accepts, either}
+
+-- ---- what placing does to the record
+
+pub record Moved (is : List Item) (s t : State) : Type 0 where
+  pub len : t .asm .len ≡ s .asm .len + 4 * length (words is)
+  pub jumped : t .asm .jumps ≡ s .asm .jumps + jumps is
+  pub closed : t .asm .closed ≡ s .asm .closed
+  pub size : length (t .buf) ≡ length (s .buf)
+  pub entries : length (t .labels) ≡ length (s .labels)
+
+pub moved : (tag : ℕ) (is : List Item) (s : State) → Moved is s (placed tag is s)
+unfolding words jumps placed place with-word with-jump with-label
+moved tag [] s = record { len = omega arith; jumped = omega arith; closed = refl; size = refl; entries = refl }
+moved tag (instr i ∷ is) s =
+    let m = moved tag is (with-word (encode i) s) in
+    record { len = omega (arith, m .len); jumped = m .jumped; closed = m .closed; size = m .size ∙ length-written (s .buf) (s .asm .len) (encode i ∷ []); entries = m .entries }
+moved tag (raw w ∷ is) s =
+    let m = moved tag is (with-word w s) in
+    record { len = omega (arith, m .len); jumped = m .jumped; closed = m .closed; size = m .size ∙ length-written (s .buf) (s .asm .len) (w ∷ []); entries = m .entries }
+moved tag (jump k l r ∷ is) s =
+    let m = moved tag is (with-jump (kind-number k) l r tag s) in
+    record { len = omega (arith, m .len); jumped = omega (arith, m .jumped); closed = m .closed; size = m .size ∙ length-written (s .buf) (s .asm .len) (0 ∷ []); entries = m .entries }
+moved tag (label l ∷ is) s =
+    let m = moved tag is (with-label l s) in
+    record { len = m .len; jumped = m .jumped; closed = m .closed; size = m .size; entries = m .entries ∙ length-set (s .labels) l (with-place (getD (s .labels) l 0) (s .asm .len)) }
+
+-- ---- labels
+
+neither : (a b : Bool) → a ≡ false → b ≡ false → (a || b) ≡ false
+neither a b e f = rw (e, f)
+
+-- whether the others can be set doesn't depend on one that is not among them
+other : (m : List ℕ) (l x : ℕ) (ls : List ℕ) → among l ls ≡ false → twice (set m l x) ls ≡ twice m ls
+unfolding among twice
+other m l x [] a = refl
+other m l x (k ∷ ls) a =
+    let p = either (eqb k l) (among l ls) a in
+    let d : getD (set m l x) k 0 ≡ getD m k 0 = getD-set-other m l k x 0 (eqb-false k l (p .0)) in
+    rw (d, other m l x ls (p .1))
+
+among-first : (l : ℕ) (xs ys : List ℕ) → among l (xs ++ ys) ≡ false → among l xs ≡ false
+unfolding among
+among-first l [] ys e = refl
+among-first l (x ∷ xs) ys e = let p = either (eqb x l) (among l (xs ++ ys)) e in neither (eqb x l) (among l xs) (p .0) (among-first l xs ys (p .1))
+
+module _ (tag : ℕ) where
+  -- set in one go, or some and then the others
+  pub twice-split : (is : List Item) (ls : List ℕ) (s : State) → twice (s .labels) (labels is ++ ls) ≡ false
+      → (twice (s .labels) (labels is) ≡ false) × (twice (placed tag is s .labels) ls ≡ false)
+  unfolding labels twice placed place with-word with-jump with-label
+  twice-split [] ls s t = (refl, t)
+  twice-split (instr i ∷ is) ls s t = twice-split is ls (with-word (encode i) s) t
+  twice-split (raw w ∷ is) ls s t = twice-split is ls (with-word w s) t
+  twice-split (jump k l r ∷ is) ls s t = twice-split is ls (with-jump (kind-number k) l r tag s) t
+  twice-split (label l ∷ is) ls s t =
+      let x = with-place (getD (s .labels) l 0) (s .asm .len) in
+      let p = either (is-set (getD (s .labels) l 0)) (among l (labels is ++ ls) || twice (s .labels) (labels is ++ ls)) t in
+      let q = either (among l (labels is ++ ls)) (twice (s .labels) (labels is ++ ls)) (p .1) in
+      let a = among-first l (labels is) ls (q .0) in
+      let r = twice-split is ls (with-label l s) (other (s .labels) l x (labels is ++ ls) (q .0) ∙ q .1) in
+      (neither _ _ (p .0) (neither _ _ a (sym (other (s .labels) l x (labels is) a) ∙ r .0)), r .1)
+
+-- ---- orders
+
+-- a record over a buffer of n bytes that has room for so much
+pub sound-is : (n : ℕ) (a : Asm) → a .len ≤ room n → a .len % 4 ≡ 0 → a .jumps ≤ 4096 → sound n a ≡ true
+unfolding sound
+sound-is n a e f g = rw (le-leb _ _ e, eq-eqb _ _ f, le-leb _ _ g)
+
+sound-even : (n : ℕ) (a : Asm) → sound n a ≡ true → a .len % 4 ≡ 0
+unfolding sound
+sound-even n a e =
+    let p = both (leb (a .len) (room n)) (eqb (a .len % 4) 0 && leb (a .jumps) 4096) e in
+    eqb-true _ _ (both (eqb (a .len % 4) 0) (leb (a .jumps) 4096) (p .1) .0)
+
+fits-is : (n : ℕ) (a : Asm) (w j : ℕ) → a .len + 4 * w ≤ room n → a .jumps + j ≤ 4096 → fits n a w j ≡ true
+unfolding fits
+fits-is n a w j e f = rw (le-leb _ _ e, le-leb _ _ f)
+
+good : (t : Bool) (w j n : ℕ) (a : Asm) → a .closed ≡ false → sound n a ≡ true → t ≡ false → a .len + 4 * w ≤ room n → a .jumps + j ≤ 4096 → verdict 0 t w j n a ≡ 0
+good t w j n a c s e r f = sym (v-good 0 t w j n a c (λ z. omega arith) (λ z. omega arith) s refl e (fits-is n a w j r f))
+
+abbrev pub Accepts : (tag : ℕ) → List Item → State → State → Type 0
+Accepts tag is s t = put tag 0 is s ≡ record { answer = accepted tt; state = t }
+
+-- An accepted order is two, wherever its items are parted.
+pub put-split : (tag : ℕ) (is js : List Item) (s u : State) → Accepts tag (is ++ js) s u → Accepts tag is s (placed tag is s) × Accepts tag js (placed tag is s) u
+put-split tag is js s u e =
+    let p = accepts tag 0 (is ++ js) s u e in
+    let t = placed tag is s in
+    let m = moved tag is s in
+    let w : length (words (is ++ js)) ≡ length (words is) + length (words js) = ap length (words-append is js) ∙ length-append (words is) (words js) in
+    let j = jumps-append is js in
+    let c : room (length (t .buf)) ≡ room (length (s .buf)) = ap room (m .size) in
+    let l = twice-split tag is (labels js) s (ap (twice (s .labels)) (sym (labels-append is js)) ∙ p .0 .new) in
+    let v = sound-even (length (s .buf)) (s .asm) (p .0 .well) in (
+      sym (put-done tag 0 is s t (good _ _ _ _ _ (p .0 .unclosed) (p .0 .well) (l .0) (omega (arith, p .0 .room-left, w)) (omega (arith, p .0 .jumps-left, j))) refl),
+      sym (put-done tag 0 js t u
+          (good _ _ _ _ _ (m .closed ∙ p .0 .unclosed) (sound-is _ _ (omega (arith, p .0 .room-left, m .len, w, c)) (omega (arith, v, m .len)) (omega (arith, p .0 .jumps-left, m .jumped, j))) (l .1) (omega (arith, p .0 .room-left, m .len, w, c)) (omega (arith, p .0 .jumps-left, m .jumped, j)))
+          (p .1 ∙ placed-append tag is js s)),
+    )

@@ -1,0 +1,49 @@
+use mathlib.Core.Path.{ap, _∙_}
+use lib.ListN.{drop}
+use denote.Ref.{now}
+use Rattle.form.specs.Syntax.{names}
+use Rattle.form.proofs.Names.{rest, all}
+use borrow.Author.Needs.{needs}
+use Rattle.form.proofs.binary_named.Statement.{statement}
+use Rattle.form.proofs.binary_named.Tie as tie
+
+returns : tie.Need-returns
+returns c =
+    let c8 = c .before .before in
+    let c7 = c8 .before .before in
+    let c6 = c7 .before .before in
+    let c5 = c6 .before .before in
+    let c4 = c5 .before .before in
+    let c3 = c4 .before .before in
+    let c2 = c3 .before .before in
+    let c1 = c2 .before .before in
+    let a = c1 .before .before .before .args in
+    let t = rest (now (a .s)) (drop 21 names) in
+    all (now (a .s)) (drop 21 names) (a .found) _
+    (ap (t 9) (c .or-kind9 .ensures) ∙ ap (t 8) (c8 .or-kind8 .ensures) ∙ ap (t 7) (c7 .or-kind7 .ensures) ∙ ap (t 6) (c6 .or-kind6 .ensures)
+    ∙ ap (t 5) (c5 .or-kind5 .ensures) ∙ ap (t 4) (c4 .or-kind4 .ensures) ∙ ap (t 3) (c3 .or-kind3 .ensures) ∙ ap (t 2) (c2 .or-kind2 .ensures)
+    ∙ ap (t 1) (c1 .or-kind .ensures))
+
+pub binary-named-spec : {M : Type 1} → statement M
+binary-named-spec =
+    tie.close
+    (tie.spec
+    (λ c. search needs)
+    (λ c κs. search needs)
+    (λ c. search needs)
+    (λ c κs. search needs)
+    (λ c. search needs)
+    (λ c κs. search needs)
+    (λ c. search needs)
+    (λ c κs. search needs)
+    (λ c. search needs)
+    (λ c κs. search needs)
+    (λ c. search needs)
+    (λ c κs. search needs)
+    (λ c. search needs)
+    (λ c κs. search needs)
+    (λ c. search needs)
+    (λ c κs. search needs)
+    (λ c. search needs)
+    (λ c κs. search needs)
+    returns)

@@ -1,0 +1,43 @@
+use mathlib.Core.Path.{ap, _∙_}
+use lib.ListN.{take, drop}
+use denote.Ref.{now}
+use Rattle.form.specs.Syntax.{names}
+use Rattle.form.specs.declared.Named.the-variants as Named
+use Rattle.form.proofs.Names.{rest, all-then}
+use borrow.Author.Needs.{needs}
+use Rattle.form.proofs.order_named.Statement.{statement}
+use Rattle.form.proofs.order_named.Tie as tie
+
+returns : tie.Need-returns
+returns c =
+    let c6 = c .before in
+    let c5 = c6 .before .before in
+    let c4 = c5 .before .before in
+    let c3 = c4 .before .before in
+    let c2 = c3 .before .before in
+    let c1 = c2 .before .before in
+    let a = c1 .before .before .before .args in
+    let t = rest (now (a .s)) (take 6 (drop 4 names)) in
+    all-then (now (a .s)) (take 6 (drop 4 names)) (drop 10 names) Named.Unknown _ _
+    (ap (t 6) (c6 .or-kind6 .ensures) ∙ ap (t 5) (c5 .or-kind5 .ensures) ∙ ap (t 4) (c4 .or-kind4 .ensures) ∙ ap (t 3) (c3 .or-kind3 .ensures)
+    ∙ ap (t 2) (c2 .or-kind2 .ensures) ∙ ap (t 1) (c1 .or-kind .ensures))
+    (c .operation-named .ensures)
+
+pub order-named-spec : {M : Type 1} → statement M
+order-named-spec =
+    tie.close
+    (tie.spec
+    (λ c. search needs)
+    (λ c κs. search needs)
+    (λ c. search needs)
+    (λ c κs. search needs)
+    (λ c. search needs)
+    (λ c κs. search needs)
+    (λ c. search needs)
+    (λ c κs. search needs)
+    (λ c. search needs)
+    (λ c κs. search needs)
+    (λ c. search needs)
+    (λ c κs. search needs)
+    (λ c κs. search needs)
+    returns)

@@ -1,0 +1,4 @@
+pub mod Items
+pub mod Copies
+pub mod Fault
+pub mod Steps

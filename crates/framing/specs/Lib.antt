@@ -1,5 +1,0 @@
-pub mod Size
-pub mod Items
-pub mod Copies
-pub mod Fault
-pub mod Steps

@@ -1,0 +1,41 @@
+use mathlib.Core.Path.{sym, _∙_}
+use denote.Ref.{now}
+use Rattle.assembler.specs.State.{state}
+use Rattle.orders.proofs.Whole.{order-counted, order-unsaved, order-goes}
+use borrow.Author.Needs.{needs}
+use Rattle.orders.proofs.emit_in.Statement.{statement}
+use Rattle.orders.proofs.emit_in.Tie as tie
+
+abbrev kept : tie.After-emit → tie.Then2
+kept c = c .before .before .before .before
+
+returns : tie.Need-returns
+returns c =
+    let k = kept (c .before .before) in
+    let i = k .before .before in
+    let a = i .before .before .before .args in
+    c .before .before .emit .ensures
+    ∙ order-goes (a .head) (a .tag) (a .o) (state (a .asm) (now (a .labels)) (now (a .jumps)) (now (a .buf))) (sym (i .before .index-holds .ensures) ∙ i .if1 .taken) (sym (k .before .saves-hold .ensures) ∙ k .if2 .taken)
+
+returns-2 : tie.Need-returns-2
+returns-2 c =
+    let i = c .before .before in
+    let a = i .before .before .before .args in
+    order-unsaved (a .head) (a .tag) (a .o) (state (a .asm) (now (a .labels)) (now (a .jumps)) (now (a .buf))) (sym (i .before .index-holds .ensures) ∙ i .if1 .taken) (sym (c .before .saves-hold .ensures) ∙ c .if2 .left)
+
+returns-3 : tie.Need-returns-3
+returns-3 c =
+    let a = c .before .before .before .args in
+    order-counted (a .head) (a .tag) (a .o) (state (a .asm) (now (a .labels)) (now (a .jumps)) (now (a .buf))) (sym (c .before .index-holds .ensures) ∙ c .if1 .left)
+
+pub emit-in-spec : {M : Type 1} → statement M
+emit-in-spec =
+    tie.close
+    (tie.spec
+    (λ c κs. search needs)
+    (λ c κs. search needs)
+    (λ c κs. search needs)
+    (λ c. search needs)
+    returns
+    returns-2
+    returns-3)

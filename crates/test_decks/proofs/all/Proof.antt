@@ -1,0 +1,24 @@
+use borrow.Author.Needs.{needs}
+use Prim.Native.Nat.{_-_}
+use Rattle.test_decks.proofs.all.Statement.{statement}
+use Rattle.test_decks.proofs.all.Tie as tie
+
+pub all-spec : {M : Type 1} → statement M
+all-spec =
+    tie.close
+    (tie.spec
+    (λ file₀ buf₀ size₀ t₀ counter₀ file buf size t counter. Unit {0})
+    (λ file₀ buf₀ size₀ t₀ counter₀ file buf size t counter. 18446744073709551615 - counter)
+    (λ c κs. search needs)
+    (λ c. search needs)
+    (λ c. search needs)
+    (λ c κs. search needs)
+    (λ c. search needs)
+    (λ c. search needs)
+    (λ c. search needs)
+    (λ c κs. search needs)
+    (λ c κs. search needs)
+    (λ c. search needs)
+    (λ c. search needs)
+    (λ c. search needs)
+    (λ c. search needs))
