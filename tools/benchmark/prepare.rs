@@ -90,33 +90,12 @@ fn read_line(r: &mut RiscV, registers: &[Reg; 32], line: &str, values: &mut Vec<
             registers[n!() as usize]
         };
     }
-    macro_rules! order {
-        ($name:ident, $d:ident $(, $more:ident)*) => {{
-            let $d = f!();
-            $(let $more = f!();)*
-            r.$name($d $(, $more)*)
-        }};
+    macro_rules! call {
+        ($order:ident, $($operand:ident),*) => {
+            r.$order($($operand),*)
+        };
     }
-    match name {
-        "fmov" => order!(fmov, d, a),
-        "recip" => order!(recip, d, a),
-        "round" => order!(round, d, a),
-        "floor" => order!(floor, d, a),
-        "not" => order!(not, d, a),
-        "frac" => order!(frac, d, a),
-        "minus" => order!(minus, d, a, b),
-        "times" => order!(times, d, a, b),
-        "divide" => order!(divide, d, a, b),
-        "gt" => order!(gt, d, a, b),
-        "neq" => order!(neq, d, a, b),
-        "and" => order!(and, d, a, b),
-        "andnot" => order!(andnot, d, a, b),
-        "or" => order!(or, d, a, b),
-        "xor" => order!(xor, d, a, b),
-        "fused_mul_add" => order!(fused_mul_add, d, a, b, c),
-        "fused_mul_sub" => order!(fused_mul_sub, d, a, b, c),
-        "fused_neg_mul_add" => order!(fused_neg_mul_add, d, a, b, c),
-        "fused_neg_mul_sub" => order!(fused_neg_mul_sub, d, a, b, c),
+    float_order!(name, f!(), call, match name {
         "ifelse" => {
             let (d, a, b) = (f!(), f!(), f!());
             r.ifelse(d, a, b, n!())
@@ -152,34 +131,25 @@ fn read_line(r: &mut RiscV, registers: &[Reg; 32], line: &str, values: &mut Vec<
         "float" => values.push(fields.next().unwrap().parse::<i64>().unwrap() as f64),
         "bits" => values.push(f64::from_bits(u64::from_str_radix(fields.next().unwrap(), 16).unwrap())),
         _ => panic!("no such line"),
-    }
+    })
 }
 
 fn prepared(name: &str, n: Vec<i64>) -> Step {
+    let mut operands = n.iter().map(|&r| float(r));
+    macro_rules! call {
+        ($order:ident, $($operand:ident),*) => {
+            Box::new(move |r: &mut RiscV| r.$order($($operand),*))
+        };
+    }
+    float_order!(name, operands.next().unwrap(), call, prepared_other(name, n))
+}
+
+fn prepared_other(name: &str, n: Vec<i64>) -> Step {
     let f = |i: usize| n.get(i).and_then(|&r| if (0..32).contains(&r) { Some(float(r)) } else { None }).unwrap_or(Reg::Ret);
-    let (d, a, b, c) = (f(0), f(1), f(2), f(3));
+    let (d, a, b) = (f(0), f(1), f(2));
     let u = |i: usize| n.get(i).copied().unwrap_or(0) as u32;
     let (i, j) = (u(1), u(3));
     match name {
-        "fmov" => Box::new(move |r| r.fmov(d, a)),
-        "recip" => Box::new(move |r| r.recip(d, a)),
-        "round" => Box::new(move |r| r.round(d, a)),
-        "floor" => Box::new(move |r| r.floor(d, a)),
-        "not" => Box::new(move |r| r.not(d, a)),
-        "frac" => Box::new(move |r| r.frac(d, a)),
-        "minus" => Box::new(move |r| r.minus(d, a, b)),
-        "times" => Box::new(move |r| r.times(d, a, b)),
-        "divide" => Box::new(move |r| r.divide(d, a, b)),
-        "gt" => Box::new(move |r| r.gt(d, a, b)),
-        "neq" => Box::new(move |r| r.neq(d, a, b)),
-        "and" => Box::new(move |r| r.and(d, a, b)),
-        "andnot" => Box::new(move |r| r.andnot(d, a, b)),
-        "or" => Box::new(move |r| r.or(d, a, b)),
-        "xor" => Box::new(move |r| r.xor(d, a, b)),
-        "fused_mul_add" => Box::new(move |r| r.fused_mul_add(d, a, b, c)),
-        "fused_mul_sub" => Box::new(move |r| r.fused_mul_sub(d, a, b, c)),
-        "fused_neg_mul_add" => Box::new(move |r| r.fused_neg_mul_add(d, a, b, c)),
-        "fused_neg_mul_sub" => Box::new(move |r| r.fused_neg_mul_sub(d, a, b, c)),
         "ifelse" => Box::new(move |r| r.ifelse(d, a, b, j)),
         "load_const" => Box::new(move |r| r.load_const(d, i)),
         "load_mem" => Box::new(move |r| r.load_mem(d, i)),

@@ -3,12 +3,13 @@
 
     decklines.py [--out crates/test_lines] [--check]
 
-What is expected of a line is worked out here from document 01 ("The deck file", "Numbers of refusal"), by regular expressions.
---check writes nothing, and fails where the files in --out differ from what is made.
+What is expected of a line is worked out here from document 01 ("The deck file", "Numbers of refusal"), by regular expressions;
+tools/orders.py has the names and their fields. --check writes nothing, and fails where the files in --out differ from what is made.
 
-A row has 128 bytes: what is expected (a tag of 2 hexadecimal digits, five numbers of 4, one of 16), the count of the line's bytes (2 digits),
-the line with each byte outside 33..126, and the backslash, as a backslash and two hexadecimal digits, spaces, and byte 10.
-Tags: 0 refused, 1 head, 2 to 11 the orders, 12 float, 13 bits, 14 a head and an order's line: is the cell within its count.
+A row has 128 bytes: what is expected (a tag of 2 hexadecimal digits, five numbers of 4, one of 16), the count of the line's bytes
+(2 digits), the line with each byte outside 33..126, and the backslash, as a backslash and two hexadecimal digits, spaces, and byte 10.
+Tags: 0 refused, 1 head, 2 to 11 the orders by their shape, 12 float, 13 bits, 14 a head and an order's line: is the cell within its count.
+The first number of an order of registers alone is its place among those of its shape.
 """
 import argparse
 import pathlib
@@ -17,22 +18,16 @@ import re
 import struct
 import sys
 
+sys.path.insert(0, str(pathlib.Path(__file__).resolve().parent.parent))
+import orders  # noqa: E402
+from orders import FIELDS  # noqa: E402
+
 SEED = 20261115
 ROW = 128
 ROOM = 76  # bytes of an escaped line
 
-UNARY = ["fmov", "recip", "round", "floor", "not"]
-SCRATCHED = ["sign", "frac"]
-BINARY = ["minus", "times", "divide", "gt", "neq", "and", "andnot", "or", "xor"]
-FUSED = ["fused_mul_add", "fused_mul_sub", "fused_neg_mul_add", "fused_neg_mul_sub"]
 PLACES = ["mem", "stack", "param"]
 HEADS = ["fast", "indirect"]
-# A name's fields: r register, l label, i cell index, k constant, c count, m mask, p place, e else, z whole number, x 16 hexadecimal digits.
-FIELDS = {n: "ccccm" for n in HEADS}
-FIELDS |= {n: "rr" for n in UNARY}
-FIELDS |= {n: "rrr" for n in SCRATCHED + BINARY}
-FIELDS |= {n: "rrrr" for n in FUSED}
-FIELDS |= {"ifelse": "rrri", "load_const": "rk", "get": "rpi", "put": "rpi", "branch": "rle", "label": "l", "float": "z", "bits": "x"}
 NUMBER = "(?:0|[1-9][0-9]*)"
 PATTERN = {c: NUMBER for c in "rlikcm"}
 PATTERN |= {"p": "(?:mem|stack|param)", "e": "[01]", "z": f"(?:{NUMBER}|-[1-9][0-9]*)", "x": "[0-9a-f]{16}"}
@@ -79,14 +74,13 @@ def expected(line):
     for k, limit, number in (("r", 31, REGISTER), ("l", 1023, LABEL), ("z", 2**53, VALUE), ("k", 1007, COUNT), ("i", 4095, COUNT)):
         if any(abs(n) > limit for n, c in zip(v, kinds) if c == k):
             return refused(number)
-    for tag, group in ((2, UNARY), (3, SCRATCHED), (4, BINARY), (5, FUSED)):
-        if name in group:
-            return (tag, group.index(name), *v)
     if name == "float":
         return (12, 0, 0, 0, 0, 0, bits_of(v[0]))
     if name == "bits":
         return (13, 0, 0, 0, 0, 0, v[0])
-    return (["ifelse", "load_const", "get", "put", "branch", "label"].index(name) + 6, *v)
+    shape = orders.shape(name)
+    first = [orders.names(shape).index(name)] if set(kinds) == {"r"} else []
+    return (list(orders.SHAPES).index(shape) + 2, *first, *v)
 
 
 def within(first, line):
@@ -111,7 +105,8 @@ def row(want, line):
 
 
 def good_fields(r, kinds):
-    edge = {"r": [0, 1, 9, 10, 31], "l": [0, 1, 1023], "i": [0, 15, 255, 4095], "k": [0, 1007], "c": [0, 1, 8, 16, 4096], "m": [0, 1, 2**32 - 1]}
+    edge = {"r": [0, 1, 9, 10, 31], "l": [0, 1, 1023], "i": [0, 15, 255, 4095], "k": [0, 1007]}
+    edge |= {"c": [0, 1, 8, 16, 4096], "m": [0, 1, 2**32 - 1]}
     top = {"r": 31, "l": 1023, "i": 4095, "k": 1007, "c": 20, "m": 2**32 - 1}
     out = []
     for k in kinds:
@@ -133,8 +128,10 @@ def line_of(name, fields):
     return (",".join([name] + fields) + "\n").encode("latin-1")
 
 
-BIG = ["32", "99", "256", "1008", "1024", "4096", "4097", "9007199254740993", "4294967295", "4294967296", "18446744073709551615", "18446744073709551616", "1" + "0" * 30, "9" * 40]
-BAD = ["", "00", "01", "0000", "-0", "-1", "+1", " 1", "1 ", "1.0", "0x1", "a", "1a", "a1", "1\r", "\0", "1\0", "\xb2", "1,", "99999999999999999999999x", "mem", "Mem", "2", "-00", "-", "--1"]
+BIG = ["32", "99", "256", "1008", "1024", "4096", "4097", "9007199254740993", "4294967295", "4294967296", "18446744073709551615",
+       "18446744073709551616", "1" + "0" * 30, "9" * 40]
+BAD = ["", "00", "01", "0000", "-0", "-1", "+1", " 1", "1 ", "1.0", "0x1", "a", "1a", "a1", "1\r", "\0", "1\0", "\xb2", "1,",
+       "99999999999999999999999x", "mem", "Mem", "2", "-00", "-", "--1"]
 
 
 def lines(r):
@@ -155,17 +152,21 @@ def lines(r):
             yield line_of(name, fields)
         f = good_fields(r, FIELDS[name])
         whole = line_of(name, f)
-        yield from (line_of(name, f[:-1]), line_of(name, f + ["0"]), line_of(name, f + [""]), whole[:-1], whole[:-1] + b"\r\n", b" " + whole, whole[:-1] + b" \n", b"\n" + whole, whole + b"\n")
-        yield from (line_of(name.upper(), f), line_of(name[:-1], f), line_of(name + "s", f), line_of("", f), (name + "\n").encode(), (name + ";" + ";".join(f) + "\n").encode(), whole[:-1] + b"\n\n")
+        yield from (line_of(name, f[:-1]), line_of(name, f + ["0"]), line_of(name, f + [""]), whole[:-1], whole[:-1] + b"\r\n")
+        yield from (b" " + whole, whole[:-1] + b" \n", b"\n" + whole, whole + b"\n")
+        yield from (line_of(name.upper(), f), line_of(name[:-1], f), line_of(name + "s", f), line_of("", f))
+        yield from ((name + "\n").encode(), (name + ";" + ";".join(f) + "\n").encode(), whole[:-1] + b"\n\n")
     for other in ["plus", "branch_if", "set_label", "load", "save", "neg", "abs", "root", "#", "//"]:
         yield line_of(other, ["1", "2"])
-    yield from (b"", b"\n", b",\n", b"\0\n", b"\r\n", b"fast", b"fast\n", b"\xff\xfe\n", b"bits,0123456789ABCDEF\n", b"bits,0123456789abcde\n", b"bits,0123456789abcdef0\n", b"bits,0123456789abcdeg\n")
+    yield from (b"", b"\n", b",\n", b"\0\n", b"\r\n", b"fast", b"fast\n", b"\xff\xfe\n")
+    yield from (b"bits,0123456789ABCDEF\n", b"bits,0123456789abcde\n", b"bits,0123456789abcdef0\n", b"bits,0123456789abcdeg\n")
     # heads at their limits
     for cap in (0, 15, 16, 17, 4096, 4097):
         for mask in [0, 1 << 7, 1 << 10, 1 << 17, 1 << 28, 2**32 - 1, 2**32] + [1 << b for b in PRESERVED]:
             yield line_of("fast", [str(cap), "1", "0", "0", str(mask)])
             yield line_of("indirect", [str(cap), "0", "0", "0", str(mask)])
-    for states, obs in ((0, 0), (0, 1), (8, 0), (9, 0), (8, 4088), (8, 4089), (4096, 0), (0, 4096), (4097, 0), (2048, 2048), (2048, 2049), (2**64 - 1, 1), (4096, 4096)):
+    for states, obs in ((0, 0), (0, 1), (8, 0), (9, 0), (8, 4088), (8, 4089), (4096, 0), (0, 4096), (4097, 0), (2048, 2048), (2048, 2049),
+                        (2**64 - 1, 1), (4096, 4096)):
         for last in (0, 1, 7, 8, 255, 256, 4095, 4096, 4097, 2**64):
             yield line_of("fast", ["16", str(states), str(obs), str(last), "0"])
             yield line_of("indirect", ["16", str(states), str(obs), str(last), "0"])
@@ -198,7 +199,8 @@ def main():
     for first, line in pairs():
         tally["cells"] += 1
         rows.append(row(within(first, line), first + line))
-    out = {"stdin": "".join(rows), "stdout": f"{tally['accepted']} accepted, {tally['refused']} refused, {tally['cells']} cells, 0 mismatches\n"}
+    told = f"{tally['accepted']} accepted, {tally['refused']} refused, {tally['cells']} cells, 0 mismatches\n"
+    out = {"stdin": "".join(rows), "stdout": told}
     for name, text in out.items():
         f = a.out / name
         if a.check:

@@ -3,8 +3,8 @@
 `accepted()` gives (bytes, size of the buffer). The scratch of `frac` and `sign` is f11, the one that the Rust has."""
 import random
 
-from generate import BINARY, CELL, FUSED, SCRATCHED, UNARY, full, good, jumpy, large, line, long_file, text
-from reference import CODE, routine
+from generate import CELL, full, good, jumpy, large, line, long_file, text
+from reference import CODE, orders, routine
 
 SEED = 20261115
 HEADS = ["fast,300,2,300,1,0\n", "indirect,300,2,300,300,0\n"]
@@ -13,13 +13,13 @@ HEADS = ["fast,300,2,300,1,0\n", "indirect,300,2,300,300,0\n"]
 def every_order(head):
     """One deck for each order, its registers distinct and then alike, and one for each place at both sides of an access's limit."""
     all_saved = sum(1 << r for r in CELL)
-    for name in UNARY:
+    for name in orders.names("unary"):
         yield [head, line(name, 1, 2), line(name, 31, 0), line(name, 10, 10), line(name, 11, 10), line(name, 10, 11)]
-    for name in SCRATCHED:
+    for name in orders.names("scratched"):
         yield [head, line(name, 1, 2, 11), line(name, 11, 11, 11), line(name, 1, 1, 11), line(name, 11, 3, 11), line(name, 4, 11, 11)]
-    for name in BINARY:
-        yield [head, line(name, 1, 2, 3), line(name, 1, 1, 1), line(name, 31, 30, 29), line(name, 2, 3, 3), line(name, 2, 2, 3), line(name, 2, 3, 2)]
-    for name in FUSED:
+    for name in orders.names("binary"):
+        yield [head, *(line(name, *row) for row in ((1, 2, 3), (1, 1, 1), (31, 30, 29), (2, 3, 3), (2, 2, 3), (2, 3, 2)))]
+    for name in orders.names("fused"):
         yield [head, line(name, 1, 2, 3, 4), line(name, 31, 31, 31, 31), line(name, 0, 10, 17, 28), line(name, 5, 5, 6, 5)]
     yield [head, *(line("ifelse", 1, 2, 3, i) for i in (0, 1, 255, 256, 257, 299)), "ifelse,7,7,7,8\n"]
     for place in ("mem", "stack") if head.startswith("fast") else ("mem", "stack", "param"):
@@ -30,7 +30,8 @@ def every_order(head):
     for r in CELL:
         yield [line(frame, 16 + r, 1, 1, 0, 1 << r | 1), line("times", r, r, r), line("put", r, "stack", 3), line("put", r, "stack", 0)]
     # cells of registers that aren't saved are open; fmov of a register to itself writes nothing
-    yield [line(frame, 16, 1, 1, 0, 1 << 8), *(line("put", 8, "stack", i) for i in range(16) if i != 4), *(line("fmov", r, r) for r in range(32))]
+    opened = [line("put", 8, "stack", i) for i in range(16) if i != 4]
+    yield [line(frame, 16, 1, 1, 0, 1 << 8), *opened, *(line("fmov", r, r) for r in range(32))]
 
 
 def flow(head):
@@ -44,7 +45,8 @@ def flow(head):
         yield [head, "load_const,1,0\n", line("float", n), "load_const,31,0\n"]
     for n in (0, 1, 2**64 - 1, 2**63, 0x7FF8000000000000, 0x7FF0000000000001, 0xFFF8DEADBEEF0001, 0x3FF0000000000000):
         yield [head, "load_const,1,0\n", line("bits", f"{n:016x}"), "float,1\n", "load_const,2,1\n"]
-    yield [head, *[f"load_const,{k % 8},{k}\n" for k in range(0, 1008, 37)], "load_const,1,1007\n", *["float,-7\n", "bits,0123456789abcdef\n"] * 504]
+    loads = [f"load_const,{k % 8},{k}\n" for k in range(0, 1008, 37)]
+    yield [head, *loads, "load_const,1,1007\n", *["float,-7\n", "bits,0123456789abcdef\n"] * 504]
     # far apart, so that a pair's low part changes sign
     for n in (300, 509, 510, 511, 512, 513, 514, 515, 700, 1021, 1022, 1023, 1024, 1025):
         yield [head, "load_const,1,0\n", "branch,1,1,0\n", *["minus,1,2,3\n"] * n, "label,1\n", "branch,1,2,1\n", "float,1\n", "label,2\n"]
@@ -56,13 +58,15 @@ def limits():
     for cap in (0, 1, 2, 15, 16, 17, 252, 253, 254, 255, 256, 257, 510, 511, 4095, 4096):
         yield [line("fast", cap, 1, 0, 0, 0), "minus,10,10,1\n"]
         yield [line("indirect", cap, 1, 1, 1, 0), "minus,10,10,1\n"]
-    for states, obs in ((0, 0), (0, 1), (1, 0), (15, 15), (16, 16), (17, 17), (16, 17), (17, 16), (18, 0), (0, 18), (255, 0), (256, 0), (0, 256), (2047, 2049),
-                        (2048, 2048), (4096, 0), (0, 4096), (4095, 1), (1, 4095), (255, 17), (256, 17), (257, 17), (512, 17), (4079, 17)):
+    for states, obs in ((0, 0), (0, 1), (1, 0), (15, 15), (16, 16), (17, 17), (16, 17), (17, 16), (18, 0), (0, 18), (255, 0), (256, 0),
+                        (0, 256), (2047, 2049), (2048, 2048), (4096, 0), (0, 4096), (4095, 1), (1, 4095), (255, 17), (256, 17), (257, 17),
+                        (512, 17), (4079, 17)):
         for params in (0, 4096) if states in (0, 17) else (3,):
             yield [line("indirect", 0, states, obs, params, 0)]
     for states in range(9):
         yield [line("fast", 0, states, 1, states, 0)]
-    for states, obs, cell in ((8, 0, 7), (8, 248, 255), (8, 4088, 255), (0, 4096, 0), (0, 256, 255), (1, 253, 253), (1, 254, 254), (1, 255, 3)):
+    for states, obs, cell in ((8, 0, 7), (8, 248, 255), (8, 4088, 255), (0, 4096, 0), (0, 256, 255), (1, 253, 253), (1, 254, 254),
+                              (1, 255, 3)):
         yield [line("fast", 5, states, obs, cell, 0)]
     for mask in (0, 1, 0xF003FCFF, 0xFFFFFFFF, 1 << 8, 1 << 9, 1 << 18, 1 << 27, 0x0FFC0300):
         yield [line("fast", 16, 1, 0, 0, mask), "put,1,stack,0\n"]

@@ -1,5 +1,5 @@
-"""IEEE binary64 arithmetic on bits, exact and then rounded once, in the five rounding modes of the ISA Manual: 0 to nearest even, 1 to zero,
-2 down, 3 up, 4 to nearest with ties away. A NaN that arithmetic gives is the canonical one."""
+"""IEEE binary64 arithmetic on bits, exact and then rounded once, in the five rounding modes of the ISA Manual: 0 to nearest even,
+1 to zero, 2 down, 3 up, 4 to nearest with ties away. A NaN that arithmetic gives is the canonical one."""
 from fractions import Fraction
 
 NAN = 0x7FF8000000000000

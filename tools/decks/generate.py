@@ -6,19 +6,15 @@
 prints each deck in one line, every byte outside 33..126, and the backslash, as a backslash and two hexadecimal digits; with --out it writes
 them as files. About half of the decks are good. Those of one seed are always the same.
 
-Numbers 8 and 10 can't come from a file: no line stands behind finishing, and no order's base is t0. Nor can 6: the only `beq` and `bne` that
-are jumps stand in the frames, whose ends are never longer than 120 words.
+Numbers 8 and 10 can't come from a file: no line stands behind finishing, and no order's base is t0. Nor can 6: the only `beq` and `bne`
+that are jumps stand in the frames, whose ends are never longer than 120 words.
 """
 import argparse
 import pathlib
 import random
 
-from reference import CELL, CODE, FIELDS, JUMPS, Code, Refused, epilogue, head_of, prologue, reloads, routine, saves
+from reference import CELL, CODE, FIELDS, JUMPS, Code, Refused, epilogue, head_of, orders, prologue, reloads, routine, saves
 
-UNARY = ["fmov", "recip", "round", "floor", "not"]
-SCRATCHED = ["sign", "frac"]
-BINARY = ["minus", "times", "divide", "gt", "neq", "and", "andnot", "or", "xor"]
-FUSED = ["fused_mul_add", "fused_mul_sub", "fused_neg_mul_add", "fused_neg_mul_sub"]
 PLACES = ["mem", "stack", "param"]
 BODY = [n for n in FIELDS if n not in ("fast", "indirect")]
 PRESERVED = list(CELL)
@@ -112,14 +108,14 @@ class Maker:
 
     def one(self, name):
         """A line of that name; None where none fits."""
-        s, d = self.source, self.target
-        if name in UNARY:
+        s, d, shape = self.source, self.target, orders.shape(name)
+        if shape == "unary":
             return line(name, d(), s())
-        if name in SCRATCHED:
+        if shape == "scratched":
             return line(name, d(), s(), self.target() if self.scratch is None else self.scratch)
-        if name in BINARY:
+        if shape == "binary":
             return line(name, d(), s(), s())
-        if name in FUSED:
+        if shape == "fused":
             return line(name, d(), s(), s(), s())
         if name == "load_const":
             self.constants = max(self.constants, self.r.randint(1, 12))
@@ -249,12 +245,14 @@ def large(r, count, **options):
 
 # ---- bad decks
 
-BIG = ["32", "99", "256", "1008", "1024", "4096", "4097", "9007199254740993", "4294967295", "4294967296", "4294967328", "18446744073709551615",
-       "18446744073709551616", "18446744073709551648", "1" + "0" * 30, "9" * 40, "340282366920938463463374607431768211456"]
-BAD = ["", "00", "01", "0000", "-0", "-1", "+1", " 1", "1 ", "1.0", "0x1", "a", "1a", "1\r", "\0", "1\0", "\xb2", "1,", "9" * 23 + "x", "mem", "Mem",
-       "2", "-00", "-", "--1", "-01", "1e3", "\t1", "'1'", '"1"', "1_0", "\xff", "\x1a"]
-OTHERS = ["plus", "branch_if", "set_label", "load_mem", "save_mem", "neg", "abs", "root", "half", "trunc", "ceiling", "geq", "lt", "leq", "eq", "#",
-          "//", "", "fast", "indirect", "Minus", "MINUS", "minus ", " minus", "minu", "minuss", "get ", "fmov\0", "call", "power"]
+BIG = ["32", "99", "256", "1008", "1024", "4096", "4097", "9007199254740993", "4294967295", "4294967296", "4294967328",
+       "18446744073709551615", "18446744073709551616", "18446744073709551648", "1" + "0" * 30, "9" * 40,
+       "340282366920938463463374607431768211456"]
+BAD = ["", "00", "01", "0000", "-0", "-1", "+1", " 1", "1 ", "1.0", "0x1", "a", "1a", "1\r", "\0", "1\0", "\xb2", "1,", "9" * 23 + "x",
+       "mem", "Mem", "2", "-00", "-", "--1", "-01", "1e3", "\t1", "'1'", '"1"', "1_0", "\xff", "\x1a"]
+OTHERS = ["plus", "branch_if", "set_label", "load_mem", "save_mem", "neg", "abs", "root", "half", "trunc", "ceiling", "geq", "lt", "leq",
+          "eq", "#", "//", "", "fast", "indirect", "Minus", "MINUS", "minus ", " minus", "minu", "minuss", "get ", "fmov\0", "call",
+          "power"]
 
 
 def broken_field(r, told):
@@ -269,16 +267,18 @@ def broken_shape(r, told):
     """A line's commas, ends or name are off."""
     body = told.rstrip("\n")
     return r.choice([
-        body + ",0\n", body + ",\n", body.rsplit(",", 1)[0] + "\n", body + " \n", " " + told, body + "\r\n", "\n", "\r\n", " \n", ",\n", "\0\n",
-        body.replace(",", ";") + "\n", body.replace(",", ",,", 1) + "\n", body.upper() + "\n", told + "\n", "\n" + told, "# " + told, "," + told,
-        r.choice(OTHERS) + "," + body.partition(",")[2] + "\n", r.choice(OTHERS) + "\n", body.replace(",", ", ", 1) + "\n", body + "\0\n", body + "\t\n",
+        body + ",0\n", body + ",\n", body.rsplit(",", 1)[0] + "\n", body + " \n", " " + told, body + "\r\n", "\n", "\r\n", " \n", ",\n",
+        "\0\n", body.replace(",", ";") + "\n", body.replace(",", ",,", 1) + "\n", body.upper() + "\n", told + "\n", "\n" + told,
+        "# " + told, "," + told, r.choice(OTHERS) + "," + body.partition(",")[2] + "\n", r.choice(OTHERS) + "\n",
+        body.replace(",", ", ", 1) + "\n", body + "\0\n", body + "\t\n",
     ])
 
 
 def some_line(r, head):
     """A line of any name with fields anywhere at, below or above their limits."""
     name = r.choice(BODY)
-    edge = {"r": [0, 8, 10, 18, 31, 32], "l": [0, 7, 1023, 1024], "i": [0, 4, 15, 16, 4095, 4096, head[1], head[2] + head[3], head[4]], "k": [0, 5, 1007, 1008]}
+    edge = {"r": [0, 8, 10, 18, 31, 32], "l": [0, 7, 1023, 1024], "k": [0, 5, 1007, 1008]}
+    edge |= {"i": [0, 4, 15, 16, 4095, 4096, head[1], head[2] + head[3], head[4]]}
     out = []
     for k in FIELDS[name]:
         if k in edge:
@@ -296,24 +296,25 @@ def some_line(r, head):
 
 def unsaved_line(r):
     """A line that writes a preserved register."""
-    d, s = r.choice(PRESERVED), r.randint(0, 31)
-    return r.choice([line(r.choice(UNARY), d, r.choice([s, d])), line(r.choice(SCRATCHED), s, s, d), line(r.choice(BINARY), d, s, s),
-                     line(r.choice(FUSED), d, s, s, s), line("load_const", d, 0), line("get", d, "mem", 0), line("ifelse", d, s, s, 0)])
+    d, s, some = r.choice(PRESERVED), r.randint(0, 31), lambda shape: r.choice(orders.names(shape))
+    return r.choice([line(some("unary"), d, r.choice([s, d])), line(some("scratched"), s, s, d), line(some("binary"), d, s, s),
+                     line(some("fused"), d, s, s, s), line("load_const", d, 0), line("get", d, "mem", 0), line("ifelse", d, s, s, 0)])
 
 
 def wild_head(r):
     """A head with counts around their limits."""
     n = lambda *edges: r.choice([*edges, r.randint(0, 20)])
-    return (r.choice(["fast", "indirect"]), n(0, 15, 16, 17, 4096, 4097, 2**32), n(0, 8, 9, 4096, 4097, 2**64), n(0, 1, 4088, 4096, 4097, 2**64 - 1),
-            n(0, 1, 255, 256, 4096, 4097, 2**32), r.choice([0, 1 << 8, 1 << 27, 1 << 28, 2**32 - 1, 2**32, 2**64, r.getrandbits(32)]))
+    return (r.choice(["fast", "indirect"]), n(0, 15, 16, 17, 4096, 4097, 2**32), n(0, 8, 9, 4096, 4097, 2**64),
+            n(0, 1, 4088, 4096, 4097, 2**64 - 1), n(0, 1, 255, 256, 4096, 4097, 2**32),
+            r.choice([0, 1 << 8, 1 << 27, 1 << 28, 2**32 - 1, 2**32, 2**64, r.getrandbits(32)]))
 
 
 def bad(r):
     """A deck with a fault of some kind; a few come out good."""
     lines = good(r, count=r.choice([0, 1, 4, 12]), backward=True)
     at = r.randrange(len(lines))
-    kind = r.choice(["field", "field", "shape", "line", "line", "line", "head", "byte", "cut", "drop", "twice", "swap", "join", "none", "relabel",
-                     "unset", "unsaved"])
+    kind = r.choice(["field", "field", "shape", "line", "line", "line", "head", "byte", "cut", "drop", "twice", "swap", "join", "none",
+                     "relabel", "unset", "unsaved"])
     if kind == "field":
         lines[at] = broken_field(r, lines[at])
     elif kind == "shape":
@@ -338,7 +339,8 @@ def bad(r):
     elif kind == "unset":
         lines.insert(r.randint(1, len(lines)), line("branch", 3, r.randint(0, 1023), 1))
     elif kind == "unsaved":
-        lines.insert(r.randint(1, len(lines)), r.choice([f"put,3,stack,{r.choice(list(CELL.values()))}\n", *(unsaved_line(r) for _ in range(6))]))
+        at = r.randint(1, len(lines))
+        lines.insert(at, r.choice([f"put,3,stack,{r.choice(list(CELL.values()))}\n", *(unsaved_line(r) for _ in range(6))]))
     deck = text(lines)
     if kind == "byte" and deck:
         i = r.randrange(len(deck))
@@ -355,7 +357,8 @@ def at_limit(r):
         return text(jumpy(r, r.choice([0, 1, -1, 2, -2, 4])))
     if kind == 2:
         n = r.choice([1007, 1008, 1009])
-        return text(["indirect,0,0,0,0,0\n", f"load_const,1,{r.choice([0, 1007, 1008])}\n"] + [r.choice(["float,1\n", "bits,0000000000000001\n"])] * n)
+        loaded = f"load_const,1,{r.choice([0, 1007, 1008])}\n"
+        return text(["indirect,0,0,0,0,0\n", loaded] + [r.choice(["float,1\n", "bits,0000000000000001\n"])] * n)
     if kind == 3:
         return text(long_file(r, r.choice([65535, 65536, 65537, 65545])))
     return text(large(r, r.choice([500, 1500, 3500])))

@@ -5,9 +5,7 @@
 from typing import Callable, NamedTuple
 
 import floats
-from reference import CELL, FA0, align_stack
-
-ONES = floats.ONES
+from reference import CELL, FA0, align_stack, orders
 
 
 class Call(NamedTuple):
@@ -91,24 +89,18 @@ class Reading:
             f[v[0]] = self.constants[v[1]]
         elif name == "ifelse":
             chosen = self.cells["stack"][v[3]]
-            f[v[0]] = f[v[1]] & chosen | f[v[2]] & ~chosen & ONES
-        elif name == "recip":
-            f[FA0] = floats.ONE
-            f[v[0]] = floats.divide(floats.ONE, f[v[1]], self.mode)
-        elif name in ("sign", "frac"):
-            self.scratched(name, *v)
+            f[v[0]] = f[v[1]] & chosen | f[v[2]] & ~chosen & floats.ONES
         else:
-            f[v[0]] = value(name, self.mode, *(f[r] for r in v[1:]))
+            self.registers(orders.ORDERS[name], v)
 
-    def scratched(self, name, d, s, scratch):
+    def registers(self, order, v):
+        """An order of registers alone: f10 where `recip` works in it, the scratch register, the destination."""
         f = self.f
-        if name == "sign":
-            f[scratch] = 0
-            sign = floats.less(f[scratch], f[s]) - floats.less(f[s], f[scratch])
-            f[d] = {-1: floats.ONE | floats.MINUS, 0: 0, 1: floats.ONE}[sign]
-        else:
-            f[scratch] = value("floor", self.mode, f[s])
-            f[d] = floats.minus(f[s], f[scratch], self.mode)
+        if order.name == "recip":
+            f[FA0] = floats.ONE
+        if order.scratch:
+            f[v[2]] = order.scratch(self.mode, f[v[1]])
+        f[v[0]] = order.value(self.mode, *(f[r] for r in v[1:]))
 
     def end(self):
         h, call = self.h, self.call
@@ -123,28 +115,3 @@ class Reading:
 
 def constant(name, v):
     return v[0] if name == "bits" else floats.from_long(v[0], 0)
-
-
-def value(name, mode, a, b=0, c=0):
-    """What an order gives of its operands' bits."""
-    negative = floats.MINUS
-    if name == "fmov":
-        return a
-    if name in ("round", "floor"):
-        return floats.from_long(floats.to_long(a, 0 if name == "round" else 2), mode)
-    if name in ("minus", "times", "divide"):
-        return getattr(floats, name)(a, b, mode)
-    if name == "gt":
-        return ONES if floats.less(b, a) else 0
-    if name == "neq":
-        return 0 if floats.equal(a, b) else ONES
-    if name in ("not", "and", "andnot", "or", "xor"):
-        return {"not": a ^ ONES, "and": a & b, "andnot": (a ^ ONES) & b, "or": a | b, "xor": a ^ b}[name]
-    if name == "fused_mul_add":
-        return floats.fma(a, b, c, mode)
-    if name == "fused_mul_sub":
-        return floats.fma(a, b, c ^ negative, mode)
-    if name == "fused_neg_mul_add":
-        return floats.fma(a ^ negative, b, c, mode)
-    assert name == "fused_neg_mul_sub"
-    return floats.fma(a ^ negative, b, c ^ negative, mode)

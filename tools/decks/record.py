@@ -3,9 +3,10 @@
 
     record.py RUSTDIR [--out crates/test_decks] [--check]
 
-Accepted decks come from accepted.py; their words are the Rust's, built unchanged from RUSTDIR behind tools/oracle's driver. The Rust's `sign`
-has other words than document 01's (docs/DIFFERENCES.md): where a deck has the order, the driver has document 01's words for it, and the deck's
-row says so. Refused decks come from refused.py, with document 01's numbers. reference.py, a third writing of document 01, must agree with both.
+Accepted decks come from accepted.py; their words are the Rust's, built unchanged from RUSTDIR behind tools/oracle's driver. The Rust's
+`sign` has other words than document 01's (docs/DIFFERENCES.md): where a deck has the order, the driver has document 01's words for it, and
+the deck's row says so. Refused decks come from refused.py, with document 01's numbers. reference.py, a third writing of document 01, must
+agree with both.
 
 A row has 128 bytes: a letter, numbers of eight hexadecimal digits, text, spaces, byte 10.
     d times count text              count bytes more of the deck, so many times; a tilde is a line's end
@@ -13,8 +14,8 @@ A row has 128 bytes: a letter, numbers of eight hexadecimal digits, text, spaces
     s sentence                      the sentence that the refusal in the next row rests on
     r size 0 number line 0 0 hash   the deck, in a buffer of so many bytes, is refused
     r size frame length offset constants jumps hash
-                                    the deck is accepted: frame is 1 fast or 2 indirect; length, the constants' offset and count, the count of jumps;
-                                    behind the numbers `sign` where document 01's words for it are among them
+                                    the deck is accepted: frame is 1 fast or 2 indirect; length, the constants' offset and count, the
+                                    count of jumps; behind the numbers `sign` where document 01's words for it are among them
     w offset count words            words of the deck accepted last, from that offset on: for all decks of at most 120 words
 A hash has two columns: a polynomial of the code's bytes, each one more, at 257 modulo the prime 2^54 - 33.
 --check writes nothing, and fails where the files in --out differ from what is made.

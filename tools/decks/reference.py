@@ -4,26 +4,30 @@
     reference.py [--buffer BYTES] < FILE        prints what `deckwords` prints
 
 Encodings are laid out by the ISA Manual's formats; refusals, their order and the deck's grammar are document 01's, with the points that
-docs/DECISIONS.md decides. Which instructions an order or a frame has is the source document's, since the bytes of accepted inputs are those
-of the Rust; `sign` is document 01's.
+docs/DECISIONS.md decides. Which instructions a frame has is the source document's, since the bytes of accepted inputs are those of the
+Rust; tools/orders.py has the orders.
 """
 import argparse
+import pathlib
 import re
 import struct
 import sys
 from typing import NamedTuple
 
+from instructions import A0, A1, A2, A3, FA0, RA, S0, S1, S2, S3, S4, S5, SP, T0, T1, T2, ZERO
+from instructions import add, addi, auipc, beq, bne, fld, fsd, hi, jalr, ld, li, lo, lui, mv, sd, slli, sub, xor
+
+sys.path.insert(0, str(pathlib.Path(__file__).resolve().parent.parent))
+import orders  # noqa: E402
+from orders import CONST, FIELDS  # noqa: E402
+
 CODE = 65536  # bytes of a buffer that count, and of a file
 JUMPS = 4096
 REGISTER, VALUE, LABEL, TWICE, UNSET, FAR, FULL, COUNT, UNSAVED, LINE = 1, 2, 3, 4, 5, 6, 7, 9, 11, 12
 
-ZERO, RA, SP, T0, T1, T2, S0, S1, A0, A1, A2, A3, S2, S3, S4, S5 = 0, 1, 2, 5, 6, 7, 8, 9, 10, 11, 12, 13, 18, 19, 20, 21
-FA0 = 10
-BASE = {"mem": S1, "stack": S5, "param": S4}
 # Where a preserved float register is kept: its stack cell.
 CELL = {8: 4, 9: 5} | {r: r - 12 for r in range(18, 28)}
 SELF, MAIN, PRO, EPI, DONE, SUCCESS, EPILOGUE = range(2032, 2039)
-CONST = 1024
 
 
 class Refused(Exception):
@@ -60,101 +64,7 @@ class Accepted(NamedTuple):
     labels: dict  # a label's line
 
 
-# ---- the Manual's formats
-
-
-def field(value, width):
-    assert -(2 ** (width - 1)) <= value < 2**width, (value, width)
-    return value % 2**width
-
-
-def r_type(f7, rs2, rs1, f3, rd, op):
-    return field(f7, 7) << 25 | field(rs2, 5) << 20 | field(rs1, 5) << 15 | field(f3, 3) << 12 | field(rd, 5) << 7 | op
-
-
-def i_type(imm, rs1, f3, rd, op):
-    assert -2048 <= imm <= 2047
-    return field(imm, 12) << 20 | field(rs1, 5) << 15 | field(f3, 3) << 12 | field(rd, 5) << 7 | op
-
-
-def s_type(imm, rs2, rs1, f3, op):
-    assert -2048 <= imm <= 2047
-    n = field(imm, 12)
-    return r_type(n >> 5, rs2, rs1, f3, n & 31, op)
-
-
-def b_type(imm, rs2, rs1, f3):
-    assert -4096 <= imm <= 4094 and imm % 2 == 0
-    n = imm % 2**13
-    return r_type((n >> 12) << 6 | n >> 5 & 63, rs2, rs1, f3, (n >> 1 & 15) << 1 | n >> 11 & 1, 0b1100011)
-
-
-def u_type(imm, rd, op):
-    return field(imm, 20) << 12 | field(rd, 5) << 7 | op
-
-
-OP, OP_IMM, OP_FP, LOAD_FP, STORE_FP = 0b0110011, 0b0010011, 0b1010011, 0b0000111, 0b0100111
-
-
-def add(d, a, b): return r_type(0, b, a, 0, d, OP)
-def sub(d, a, b): return r_type(0b0100000, b, a, 0, d, OP)
-def xor(d, a, b): return r_type(0, b, a, 0b100, d, OP)
-def or_(d, a, b): return r_type(0, b, a, 0b110, d, OP)
-def and_(d, a, b): return r_type(0, b, a, 0b111, d, OP)
-def mv(d, a): return add(d, a, ZERO)
-def neg(d, a): return sub(d, ZERO, a)
-def addi(d, a, n): return i_type(n, a, 0, d, OP_IMM)
-def inv(d, a): return i_type(-1, a, 0b100, d, OP_IMM)
-def slli(d, a, n): return i_type(n, a, 0b001, d, OP_IMM)
-def ld(d, base, n): return i_type(n, base, 0b011, d, 0b0000011)
-def sd(s, base, n): return s_type(n, s, base, 0b011, 0b0100011)
-def jalr(d, base, n): return i_type(n, base, 0, d, 0b1100111)
-def lui(d, n): return u_type(n, d, 0b0110111)
-def auipc(d, n): return u_type(n, d, 0b0010111)
-def beq(a, b, n): return b_type(n, b, a, 0b000)
-def bne(a, b, n): return b_type(n, b, a, 0b001)
-def fld(d, base, n): return i_type(n, base, 0b011, d, LOAD_FP)
-def fsd(s, base, n): return s_type(n, s, base, 0b011, STORE_FP)
-
-
-# fmt is 01 for double precision; rounding 7 is the current mode.
-def fsub(d, a, b): return r_type(0b0000101, b, a, 7, d, OP_FP)
-def fmul(d, a, b): return r_type(0b0001001, b, a, 7, d, OP_FP)
-def fdiv(d, a, b): return r_type(0b0001101, b, a, 7, d, OP_FP)
-def fsgnj(d, a, b): return r_type(0b0010001, b, a, 0, d, OP_FP)
-def feq(d, a, b): return r_type(0b1010001, b, a, 0b010, d, OP_FP)
-def flt(d, a, b): return r_type(0b1010001, b, a, 0b001, d, OP_FP)
-def fcvt_l_d(d, a, mode): return r_type(0b1100001, 2, a, mode, d, OP_FP)
-def fcvt_d_l(d, a): return r_type(0b1101001, 2, a, 7, d, OP_FP)
-def fcvt_d_w(d, a): return r_type(0b1101001, 0, a, 0, d, OP_FP)
-def fmv_x_d(d, a): return r_type(0b1110001, 0, a, 0, d, OP_FP)
-def fmv_d_x(d, a): return r_type(0b1111001, 0, a, 0, d, OP_FP)
-def fused(op, d, a, b, c): return r_type(c << 2 | 1, b, a, 7, d, op)
-
-
-# ---- accesses
-
-
-def hi(n):
-    """The upper 20 bits that with `lo` give n modulo 2^32."""
-    return (n % 2**32 + 2048 >> 12) % 2**20
-
-
-def lo(n):
-    return (n + 2048) % 4096 - 2048
-
-
-def li(d, n):
-    if -2048 <= n <= 2047:
-        return [addi(d, ZERO, n)]
-    return [lui(d, hi(n)), addi(d, d, lo(n))]
-
-
-def access(instruction, r, base, offset):
-    """A load or store of one cell; far ones compute t0 first."""
-    if offset < 2048:
-        return [instruction(r, base, offset)]
-    return [*li(T0, offset), add(T0, T0, base), instruction(r, T0, 0)]
+# ---- frames
 
 
 def sub_stack(n):
@@ -168,64 +78,6 @@ def allocate_stack(n):
 
 def align_stack(n):
     return n + 16 - n % 16
-
-
-# ---- orders: an item is a word, ("jump", kind, register, label) or ("label", n)
-
-
-def pair(kind, r, label):
-    return [("jump", "auipc", 0, label), ("jump", kind, r, label)]
-
-
-def bitwise(operation):
-    return lambda d, a, b: [fmv_x_d(T0, a), fmv_x_d(T1, b), operation(T0, T0, T1), fmv_d_x(d, T0)]
-
-
-def xor_order(d, a, b):
-    return [fmv_d_x(d, ZERO)] if a == b else bitwise(xor)(d, a, b)
-
-
-def ifelse(d, yes, no, i):
-    choose = [and_(T1, T1, T0), inv(T0, T0), and_(T2, T2, T0), or_(T0, T1, T2), fmv_d_x(d, T0)]
-    return [*access(ld, T0, S5, 8 * i), fmv_x_d(T1, yes), fmv_x_d(T2, no), *choose]
-
-
-def branch(c, label, otherwise):
-    skip = beq if otherwise else bne
-    return [fmv_x_d(T0, c), skip(T0, ZERO, 12), *pair("jalr", ZERO, label)]
-
-
-ORDERS = {
-    "fmov": lambda d, a: [] if d == a else [fsgnj(d, a, a)],
-    "recip": lambda d, a: [addi(T0, ZERO, 1), fcvt_d_w(FA0, T0), fdiv(d, FA0, a)],
-    "round": lambda d, a: [fcvt_l_d(T0, a, 0), fcvt_d_l(d, T0)],
-    "floor": lambda d, a: [fcvt_l_d(T0, a, 2), fcvt_d_l(d, T0)],
-    "not": lambda d, a: [fmv_x_d(T0, a), inv(T0, T0), fmv_d_x(d, T0)],
-    "sign": lambda d, a, t: [fmv_d_x(t, ZERO), flt(T0, t, a), flt(T1, a, t), sub(T0, T0, T1), fcvt_d_w(d, T0)],
-    "frac": lambda d, a, t: [fcvt_l_d(T0, a, 2), fcvt_d_l(t, T0), fsub(d, a, t)],
-    "minus": lambda d, a, b: [fsub(d, a, b)],
-    "times": lambda d, a, b: [fmul(d, a, b)],
-    "divide": lambda d, a, b: [fdiv(d, a, b)],
-    "gt": lambda d, a, b: [flt(T0, b, a), neg(T0, T0), fmv_d_x(d, T0)],
-    "neq": lambda d, a, b: [feq(T0, a, b), neg(T0, T0), inv(T0, T0), fmv_d_x(d, T0)],
-    "and": bitwise(and_),
-    "andnot": lambda d, a, b: [fmv_x_d(T0, a), inv(T0, T0), fmv_x_d(T1, b), and_(T0, T0, T1), fmv_d_x(d, T0)],
-    "or": bitwise(or_),
-    "xor": xor_order,
-    "fused_mul_add": lambda d, a, b, c: [fused(0b1000011, d, a, b, c)],
-    "fused_mul_sub": lambda d, a, b, c: [fused(0b1000111, d, a, b, c)],
-    "fused_neg_mul_add": lambda d, a, b, c: [fused(0b1001011, d, a, b, c)],
-    "fused_neg_mul_sub": lambda d, a, b, c: [fused(0b1001111, d, a, b, c)],
-    "ifelse": ifelse,
-    "load_const": lambda d, k: pair("fld", d, CONST + k),
-    "get": lambda d, place, i: access(fld, d, BASE[place], 8 * i),
-    "put": lambda s, place, i: access(fsd, s, BASE[place], 8 * i),
-    "branch": branch,
-    "label": lambda n: [("label", n)],
-}
-
-
-# ---- frames
 
 
 def copies(count, head, label, first, second):
@@ -277,12 +129,6 @@ def reloads(h):
 
 NUMBER = "(0|[1-9][0-9]*)"
 PATTERN = {c: NUMBER for c in "rlikcm"} | {"p": "(mem|stack|param)", "e": "([01])", "z": "(0|-?[1-9][0-9]*)", "x": "([0-9a-f]{16})"}
-# A line's fields: r register, l label, i cell index, k constant, c count, m mask, p place, e else, z whole number, x 16 digits.
-FIELDS = {"fast": "ccccm", "indirect": "ccccm"}
-FIELDS |= {n: "rr" for n in "fmov recip round floor not".split()}
-FIELDS |= {n: "rrr" for n in "sign frac minus times divide gt neq and andnot or xor".split()}
-FIELDS |= {"fused_" + n: "rrrr" for n in "mul_add mul_sub neg_mul_add neg_mul_sub".split()}
-FIELDS |= {"ifelse": "rrri", "load_const": "rk", "get": "rpi", "put": "rpi", "branch": "rle", "label": "l", "float": "z", "bits": "x"}
 FORM = {name: re.compile((name + "".join("," + PATTERN[k] for k in kinds) + "\n").encode()) for name, kinds in FIELDS.items()}
 
 
@@ -329,7 +175,7 @@ def written(name, v):
     """The float registers that an order's destination and scratch name; `fmov` of a register to itself writes nothing."""
     if name in ("put", "branch", "label", "float", "bits") or (name == "fmov" and v[0] == v[1]):
         return []
-    return [v[0], v[2]] if name in ("sign", "frac") else [v[0]]
+    return [v[0], v[2]] if orders.shape(name) == "scratched" else [v[0]]
 
 
 def fault(name, v, h, constants):
@@ -420,7 +266,7 @@ def routine(file, size=CODE):
         elif name == "bits":
             constants.append(v[0])
         else:
-            code.place(ORDERS[name](*v), n)
+            code.place(orders.ORDERS[name].words(*v), n)
         if name == "label":
             at[v[0]] = n
         body.append((name, v))

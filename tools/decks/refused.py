@@ -1,18 +1,23 @@
-"""Decks that document 01 refuses. Number and line of each are written here by hand or by how the deck is made, from the sentence named beside it
-(of document 01, or a point of docs/DECISIONS.md), and never computed by a reader of decks.
+"""Decks that document 01 refuses. Number and line of each are written here by hand or by how the deck is made, from the sentence named
+beside it (of document 01, or a point of docs/DECISIONS.md), and never computed by a reader of decks.
 
 `refused()` gives (bytes, number, line, size of the buffer, sentence)."""
-from generate import BINARY, CELL, FUSED, PLACES, SCRATCHED, UNARY, ends, filled, line, text
-from reference import CODE, FIELDS
+from generate import CELL, PLACES, ends, filled, line, text
+from reference import CODE, FIELDS, orders
 
 FAST, INDIRECT = "fast,16,2,3,1,0\n", "indirect,16,2,3,4,0\n"
+# Functions of the Rust and other words that are no orders.
+OTHERS = ["plus", "branch_if", "set_label", "neg", "abs", "abs2", "root", "half", "trunc", "ceiling", "geq", "lt", "leq", "eq",
+          "load_mem", "save_mem", "load_stack", "save_stack", "load_param", "call", "fxchg", "ret", "li", "real", "", "#", "//",
+          "fusedmuladd"]
 GOOD = ["get,1,mem,0\n", "minus,2,1,1\n", "label,9\n", "put,2,mem,4\n", "float,3\n", "fmov,8,8\n", "branch,2,9,1\n"]
 HUGE = ["32", "256", "4294967295", "4294967296", "4294967306", "18446744073709551616", "18446744073709551626", "9" * 40]
 # One good line of each name under either head above.
-LINES = {n: line(n, 1, 2) for n in UNARY} | {n: line(n, 1, 2, 3) for n in SCRATCHED + BINARY} | {n: line(n, 1, 2, 3, 4) for n in FUSED}
+REGISTERS = orders.names("unary", "scratched", "binary", "fused")
+LINES = {n: line(n, *range(1, len(FIELDS[n]) + 1)) for n in REGISTERS}
 LINES |= {"ifelse": "ifelse,1,2,3,5\n", "load_const": "load_const,1,0\n", "get": "get,1,stack,3\n", "put": "put,1,stack,3\n"}
 LINES |= {"branch": "branch,1,9,0\n", "label": "label,8\n", "float": "float,-12\n", "bits": "bits,00ff00ff00ff00ff\n"}
-WRITERS = [*UNARY, *SCRATCHED, *BINARY, *FUSED, "ifelse", "load_const", "get"]
+WRITERS = [*REGISTERS, "ifelse", "load_const", "get"]
 PARTS = ["", "00", "01", "-0", "-1", "+1", " 1", "1 ", "0x1", "a", "1\r", "\0", "\xb2", "007", "1.0"]
 
 FIRST = "the first refused one decides"
@@ -21,6 +26,10 @@ FIELD = "a well-formed number too big for its field has that field's refusal"
 DECIMAL = "numbers are decimal, no leading zero and no minus zero; only float takes a minus"
 BEHIND = "code after the body that doesn't fit is placed at the last line"
 ORDER = "order: 12, 8, 1, 3, 2, 9, 10, 11, 4, 7"
+UNSET = "number 5: a jump's label has no place at finishing"
+NO_CONSTANT = "decision 10: no such constant is 5 at its line"
+SAVED = "count: cap at least 16 if the mask has a preserved register"
+MALFORMED = "decision 7: a malformed field gives 12 before any other field's size"
 
 
 def swapped(told, at, word):
@@ -78,11 +87,12 @@ def labels(out):
 def unset(out):
     for head in (FAST, INDIRECT):
         for n in (0, 7, 1023):
-            out.whole([head, "minus,1,2,3\n", line("branch", 1, n, 0), "label,8\n"], 5, 3, "finishing comes after them, placed at the jump's line")
-            out.whole([head, line("branch", 1, 8, 1), line("branch", 1, n, 1), "label,8\n"], 5, 3, "number 5: a jump's label has no place at finishing")
+            placed = "finishing comes after them, placed at the jump's line"
+            out.whole([head, "minus,1,2,3\n", line("branch", 1, n, 0), "label,8\n"], 5, 3, placed)
+            out.whole([head, line("branch", 1, 8, 1), line("branch", 1, n, 1), "label,8\n"], 5, 3, UNSET)
         for k in (0, 1, 1007):
-            out.whole([head, line("load_const", 1, k)], 5, 2, "decision 10: no such constant is 5 at its line")
-            out.whole([head, "float,1\n", "minus,1,1,1\n", line("load_const", 1, k + (k == 0))], 5, 4, "decision 10: no such constant is 5 at its line")
+            out.whole([head, line("load_const", 1, k)], 5, 2, NO_CONSTANT)
+            out.whole([head, "float,1\n", "minus,1,1,1\n", line("load_const", 1, k + (k == 0))], 5, 4, NO_CONSTANT)
         out.whole([head, "branch,1,2,0\n", "branch,1,1,0\n", "load_const,1,3\n", "label,1\n"], 5, 2, "finishing: the first jump with 5")
         out.whole([head, "load_const,1,3\n", "branch,1,2,0\n", "bits,0000000000000000\n"], 5, 2, "finishing: the first jump with 5")
         out.whole([head, "branch,1,2,0\n", "minus,1,2,32\n"], 1, 3, "finishing comes after them")
@@ -98,8 +108,8 @@ def unsaved(out):
             out.put(swapped(LINES[name], 1, r), 11, outside, line("fast", 16, 2, 3, 1, others))
     for r in CELL:
         out.put(line("fmov", r, (r + 1) % 32), 11, outside)
-        out.put(line("sign", 1, 2, r), 11, "decision 12: the scratch of sign and frac")
-        out.put(line("frac", 1, 2, r), 11, "decision 12: the scratch of sign and frac")
+        for name in orders.names("scratched"):
+            out.put(line(name, 1, 2, r), 11, "decision 12: the scratch of sign and frac")
         held = "number 11: stores to a stack cell holding a saved one"
         out.put(line("put", 1, "stack", CELL[r]), 11, held, line("indirect", 16, 2, 3, 4, 1 << r))
         out.put(line("put", r, "stack", CELL[r]), 11, held, line("fast", 17, 2, 3, 1, 1 << r | 1))
@@ -115,11 +125,13 @@ def unsaved(out):
 
 def cells(out):
     index = "count: a cell index below its count"
+    heads = ((FAST, (5, 16, 0)), (INDIRECT, (5, 16, 4)), ("fast,0,0,1,0,0\n", (1, 0, 0)), ("indirect,0,0,0,0,0\n", (0, 0, 0)))
     for name in ("get", "put"):
-        for head, counts in ((FAST, (5, 16, 0)), (INDIRECT, (5, 16, 4)), ("fast,0,0,1,0,0\n", (1, 0, 0)), ("indirect,0,0,0,0,0\n", (0, 0, 0))):
+        for head, counts in heads:
             for place, n in zip(PLACES, counts):
                 out.whole([head, line(name, 1, place, n)], 9, 2, index)
-                out.whole([head, "minus,1,2,3\n", line(name, 1, place, n + (2**32, 2**29, 2**64)[n % 3])], 9, 3, FIELD + ": 9 count or index")
+                far = n + (2**32, 2**29, 2**64)[n % 3]
+                out.whole([head, "minus,1,2,3\n", line(name, 1, place, far)], 9, 3, FIELD + ": 9 count or index")
     for head, n in ((FAST, 16), (INDIRECT, 16), ("fast,0,1,0,0,0\n", 0), ("indirect,4096,0,0,0,0\n", 4096)):
         for i in (n, n + 1, 2**29, 2**32 + 3, 2**61, 10**30):
             out.whole([head, line("ifelse", 1, 2, 3, i)], 9, 2, index)
@@ -148,12 +160,13 @@ def counts(out):
     out.whole(["fast,16,0,0,0,0\n"], 9, 1, "decision 9: a fast frame with no cells is 9")
     for r in CELL:
         for cap in (0, 15):
-            out.whole([line(("fast", "indirect")[r % 2], cap, 1, 0, 0, 1 << r)], 9, 1, "count: cap at least 16 if the mask has a preserved register")
-    out.whole(["fast,15,1,0,0,4294967295\n"], 9, 1, "count: cap at least 16 if the mask has a preserved register")
+            out.whole([line(("fast", "indirect")[r % 2], cap, 1, 0, 0, 1 << r)], 9, 1, SAVED)
+    out.whole(["fast,15,1,0,0,4294967295\n"], 9, 1, SAVED)
     for kind in ("float,1\n", "bits,ffffffffffffffff\n"):
         out.whole([FAST, *["float,7\n"] * 1008, kind], 9, 1010, "count: at most 1,008 constants")
         out.whole([INDIRECT, *["bits,0000000000000007\n"] * 1008, kind, kind], 9, 1010, "count: at most 1,008 constants")
-    out.whole([FAST, *["float,7\n"] * 1008, "minus,1,2,3\n", "float,9007199254740993\n"], 2, 1011, "decision 10: 2 first, if its value is too big")
+    big = "decision 10: 2 first, if its value is too big"
+    out.whole([FAST, *["float,7\n"] * 1008, "minus,1,2,3\n", "float,9007199254740993\n"], 2, 1011, big)
     out.whole([FAST, *["float,7\n"] * 1008, "float,01\n"], 12, 1010, ORDER)
 
 
@@ -168,8 +181,8 @@ def rooms(out):
         for name, told in LINES.items():
             if name not in ("label", "float", "bits"):
                 out.whole([*whole, told, "minus,1,2,3\n"], 7, len(whole) + 1, words)
-        for told, number in (("minus,1,2,32\n", 1), ("float,9007199254740993\n", 2), ("branch,1,1024,0\n", 3), ("get,1,mem,22\n", 9), ("fmov,18,1\n", 11),
-                             ("put,1,stack,4\n", 11), ("label,1\n", 4), ("nop\n", 12)):
+        for told, number in (("minus,1,2,32\n", 1), ("float,9007199254740993\n", 2), ("branch,1,1024,0\n", 3), ("get,1,mem,22\n", 9),
+                             ("fmov,18,1\n", 11), ("put,1,stack,4\n", 11), ("label,1\n", 4), ("nop\n", 12)):
             out.whole([line(*head), "label,1\n", *whole[1:], told], number, len(whole) + 2, ORDER)
         # one word short for an order of two words, and then for the frame's end
         short = filled(head, CODE // 4 - 1, before)
@@ -231,8 +244,9 @@ def forms(out):
         out.put(name[:-1] + "," + body.partition(",")[2] + "\n", 12, "line words are compared with fixed byte strings")
         out.whole([told], 12, 1, "line 1: fast or indirect")
         out.whole([FAST, told + "minus,1,2,3"], 12, 3, "each line ends in byte 10")
-    for other in ["plus", "branch_if", "set_label", "neg", "abs", "abs2", "root", "half", "trunc", "ceiling", "geq", "lt", "leq", "eq", "load_mem",
-                  "save_mem", "load_stack", "save_stack", "load_param", "call", "fxchg", "ret", "li", "real", "", "#", "//", "fusedmuladd"]:
+    for other in OTHERS:
+        if other in FIELDS:
+            continue
         out.put(line(other, 1, 2), 12, "decision 11: functions that document 01 doesn't list are no orders")
         out.put(line(other, 1, 2, 3), 12, "decision 11: functions that document 01 doesn't list are no orders")
     for head in (FAST, INDIRECT):
@@ -247,8 +261,9 @@ def heads(out):
         for at in range(1, 6):
             for word in ("", "00", "01", "-0", "-1", "+1", " 1", "1a", "\0", "x"):
                 out.whole([swapped(head, at, word), "minus,1,2,3\n"], 12, 1, DECIMAL)
-        for odd in (body + ",0\n", body.rsplit(",", 1)[0] + "\n", body + ",\n", body + "\r\n", " " + head, body + " \n", body.upper() + "\n", "\n" + head,
-                    body.replace(",", ";") + "\n", body, "x" + head, body[1:] + "\n", "\xef\xbb\xbf" + head):
+        for odd in (body + ",0\n", body.rsplit(",", 1)[0] + "\n", body + ",\n", body + "\r\n", " " + head, body + " \n",
+                    body.upper() + "\n", "\n" + head, body.replace(",", ";") + "\n", body, "x" + head, body[1:] + "\n",
+                    "\xef\xbb\xbf" + head):
             out.whole([odd], 12, 1, FORM)
         out.whole([swapped(head, 5, 4294967296).rstrip("\n") + ",\n"], 12, 1, ORDER)
         out.whole([swapped(head, 1, 4097).rstrip("\n")], 12, 1, ORDER)
@@ -265,22 +280,23 @@ def odd_fields(out):
     for word in ("2", "3", "00", "01", "10", "-1", "", "true", "4294967296", "18446744073709551617", "9" * 40):
         out.put(line("branch", 1, 9, word), 12, "branch,cond,label,else (0 or 1, any other 12)")
         out.put(line("branch", 99, 9999, word), 12, ORDER)
-    for word in ("", "0", "0123456789abcde", "0123456789abcdef0", "0123456789ABCDEF", "0123456789abcdeg", "0x23456789abcdef", "-123456789abcdef", " 123456789abcdef",
-                 "0123456789abcde\0", "0123456789abcdé"):
+    for word in ("", "0", "0123456789abcde", "0123456789abcdef0", "0123456789ABCDEF", "0123456789abcdeg", "0x23456789abcdef",
+                 "-123456789abcdef", " 123456789abcdef", "0123456789abcde\0", "0123456789abcdé"):
         out.put(line("bits", word), 12, "bits, and 16 lowercase hex digits")
     for word in ("-0", "-00", "-01", "01", "00", "+1", "1.5", "1e3", "", "-", "--1", "1-", "inf", "nan", "0x10", "1 ", "-0001"):
         out.put(line("float", word), 12, DECIMAL)
     for name, told in LINES.items():
         kinds = FIELDS[name]
         if len(kinds) > 1:
-            out.put(swapped(swapped(told, 1, 99), len(kinds), "x"), 12, "decision 7: a malformed field gives 12 before any other field's size")
-    out.put("label,9999999999999999999999x\n", 12, "decision 7: a malformed field gives 12 before any other field's size")
-    out.put("get,1,mem,99999999999999999999 \n", 12, "decision 7: a malformed field gives 12 before any other field's size")
+            out.put(swapped(swapped(told, 1, 99), len(kinds), "x"), 12, MALFORMED)
+    out.put("label,9999999999999999999999x\n", 12, MALFORMED)
+    out.put("get,1,mem,99999999999999999999 \n", 12, MALFORMED)
 
 
 def several(out):
     """More than one fault: the first line decides."""
-    faults = [("minus,1,2,32\n", 1), ("float,9007199254740993\n", 2), ("label,1024\n", 3), ("label,9\nlabel,9\n", 4), ("get,1,mem,99\n", 9), ("fmov,8,1\n", 11), ("nop\n", 12)]
+    faults = [("minus,1,2,32\n", 1), ("float,9007199254740993\n", 2), ("label,1024\n", 3), ("label,9\nlabel,9\n", 4)]
+    faults += [("get,1,mem,99\n", 9), ("fmov,8,1\n", 11), ("nop\n", 12)]
     for i, (a, n) in enumerate(faults):
         for j, (b, _) in enumerate(faults):
             if i != j:

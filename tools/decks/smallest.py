@@ -7,13 +7,14 @@
 name, from which registers are one, and from whether its cell is far (index 256 on), so the shortest text of each is tried; the most words
 that lines of so many bytes have is counted (some twenty kinds, each as often as one likes), for heads with and without far `stack` cells.
 """
-from reference import routine
+from reference import orders, routine
 
 WORDS, JUMPS = 16384, 4096
-ONE = ["fmov,0,1", "recip,0,0", "round,0,0", "floor,0,0", "not,0,0", "load_const,0,0", "branch,0,0,0", "branch,0,0,1", "label,0"]
-TWO = [f"{n},0,0,1" for n in "sign frac minus times divide gt neq and andnot or xor".split()] + ["xor,0,0,0"]
-FUSED = [f"fused_{n},0,0,0,0" for n in "mul_add mul_sub neg_mul_add neg_mul_sub".split()]
-CELLS = [f"{n},0,{p},{i}" for n in ("get", "put") for p in ("mem", "stack", "param") for i in (0, 256)] + ["ifelse,0,0,0,0", "ifelse,0,0,0,256"]
+NAMES = orders.names("unary", "scratched", "binary", "fused")
+REGISTERS = [",".join([name, *"0" * (len(orders.FIELDS[name]) - 1), last]) for name in NAMES for last in "01"]
+CELLS = [f"{n},0,{p},{i}" for n in ("get", "put") for p in ("mem", "stack", "param") for i in (0, 256)]
+CELLS += ["ifelse,0,0,0,0", "ifelse,0,0,0,256"]
+OTHERS = ["load_const,0,0", "branch,0,0,0", "branch,0,0,1", "label,0"]
 CONSTANTS = ["float,0", "bits,0000000000000000"]
 FAR = ("stack,256", "0,0,0,256")
 SAVED = [8, 9, *range(18, 28)]
@@ -67,7 +68,7 @@ def least(caps, lines, limit=40000):
 
 
 def main():
-    lines = ONE + TWO + FUSED + CELLS + CONSTANTS
+    lines = REGISTERS + CELLS + OTHERS + CONSTANTS
     near = [line for line in lines if not line.endswith(FAR)]
     print("by words, far stack cells:", *least([257, 300, 511, 512, 999, 1000, 2048, 4096], lines))
     print("by words, none:", *least([0, 1, 9, 15, 16, 17, 31, 32, 63, 64, 99, 100, 127, 128, 253, 254, 255, 256], near))

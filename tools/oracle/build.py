@@ -32,7 +32,8 @@ def generator(mod):
 
 
 def build(rust, folder, modes=MODES, files=None):
-    """The oracle's programs by the names of modes, with their flags; files beside or in the place of the oracle's own, by their paths below src/."""
+    """The oracle's programs by the names of modes, with their flags; files beside or in the place of the oracle's own, by their paths
+    below src/."""
     rust, folder = pathlib.Path(rust).resolve(), pathlib.Path(folder)
     source = folder / "src"
     (source / "riscv64").mkdir(parents=True)

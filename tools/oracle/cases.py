@@ -1,6 +1,11 @@
 """The calls that are recorded: families of cases, each a list of calls (the Rust's function name and operands) on a fresh assembler.
 A third entry of a call is the step that the Rust is asked in its place."""
+import pathlib
 import random
+import sys
+
+sys.path.insert(0, str(pathlib.Path(__file__).resolve().parent.parent))
+from orders import names  # noqa: E402
 
 SEED = 20261115
 
@@ -9,9 +14,6 @@ FLOATS = [0, 7, 8, 9, 10, 11, 17, 18, 27, 28, 31]
 BASES = [2, 9, 10, 20, 21, 31]
 LIMIT = 0x7FFFF7FF  # the largest offset, stack size and value of li
 
-UNARY = ["fmov", "recip", "round", "floor", "not"]
-BINARY = ["minus", "times", "divide", "gt", "neq", "and", "andnot", "or", "xor"]
-FUSED = ["fused_mul_add", "fused_mul_sub", "fused_neg_mul_add", "fused_neg_mul_sub"]
 CELLS = ["load_mem", "save_mem", "load_stack", "save_stack", "load_param", "save_param"]
 INDEXES = [0, 1, 15, 16, 254, 255, 256, 257, 511, 512, 4095]
 SCRATCH = 11  # what the Rust takes for Reg::Temp
@@ -168,13 +170,13 @@ def choices(rng, count):
 
 
 def orders(rng):
-    for name in UNARY:
+    for name in names("unary"):
         yield from ([(name, row)] for row in choices(rng, 2))
     yield from ([("recip", [d, s])] for d, s in [(10, 10), (10, 12), (12, 10), (11, 11)])
     yield from ([("frac", [*row, SCRATCH])] for row in choices(rng, 2) + [[11, 12], [12, 11], [11, 11]])
-    for name in BINARY:
+    for name in names("binary"):
         yield from ([(name, row)] for row in choices(rng, 3))
-    for name in FUSED:
+    for name in names("fused"):
         yield from ([(name, row)] for row in choices(rng, 4))
 
 
@@ -283,8 +285,8 @@ def body(rng, mem, stack, params, constants, label):
         if kind == 4:
             return ("frac", [regs[0], regs[1], SCRATCH])
         if kind == 5:
-            return (rng.choice(FUSED), regs)
-        return (rng.choice(UNARY), regs[:2]) if kind == 6 else (rng.choice(BINARY), regs[:3])
+            return (rng.choice(names("fused")), regs)
+        return (rng.choice(names("unary")), regs[:2]) if kind == 6 else (rng.choice(names("binary")), regs[:3])
 
     calls = [one() for _ in range(rng.randint(3, 20))]
     at, to = sorted(rng.randrange(len(calls) + 1) for _ in range(2))

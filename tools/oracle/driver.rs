@@ -103,33 +103,48 @@ fn do_step(a: &mut RiscV, name: &str, n: &[i64]) -> Option<u64> {
     None
 }
 
+// The orders of float registers alone, with their operands (the Rust's `frac` has a scratch register of its own; `sign` is below).
+// Where `name` is one of them, its operands are `next`, each in its turn, and the macro `call` gets the order and these; else it's `other`.
+// tools/benchmark shares the list: a new order is one entry.
+macro_rules! float_order {
+    ($name:expr, $next:expr, $call:ident, $other:expr) => {
+        float_order! { [$name, $next, $call, $other]
+            fmov(d, a) recip(d, a) round(d, a) floor(d, a) not(d, a)
+            frac(d, a)
+            minus(d, a, b) times(d, a, b) divide(d, a, b) gt(d, a, b) neq(d, a, b)
+            and(d, a, b) andnot(d, a, b) or(d, a, b) xor(d, a, b)
+            fused_mul_add(d, a, b, c) fused_mul_sub(d, a, b, c) fused_neg_mul_add(d, a, b, c) fused_neg_mul_sub(d, a, b, c)
+        }
+    };
+    ([$name:expr, $next:expr, $call:ident, $other:expr] $($order:ident($($operand:ident),*))*) => {
+        match $name {
+            $(stringify!($order) => {
+                $(let $operand = $next;)*
+                $call!($order, $($operand),*)
+            })*
+            _ => $other,
+        }
+    };
+}
+
 fn order(a: &mut RiscV, name: &str, n: &[i64]) {
+    let mut operands = n.iter().map(|&r| float(r));
+    macro_rules! call {
+        ($order:ident, $($operand:ident),*) => {
+            a.$order($($operand),*)
+        };
+    }
+    float_order!(name, operands.next().unwrap(), call, other_order(a, name, n))
+}
+
+fn other_order(a: &mut RiscV, name: &str, n: &[i64]) {
     let f = |i: usize| float(n[i]);
     let u = |i: usize| u32::try_from(n[i]).unwrap();
     match name {
-        "fmov" => a.fmov(f(0), f(1)),
-        "recip" => a.recip(f(0), f(1)),
-        "round" => a.round(f(0), f(1)),
-        "floor" => a.floor(f(0), f(1)),
-        "not" => a.not(f(0), f(1)),
         "sign" => sign(a, n),
         "rust_sign" => a.sign(f(0), f(1)),
         "xor_two_names" => a.xor(float(12), Reg::Ret, Reg::Gen(30)),
         "fmov_two_names" => a.fmov(Reg::Ret, Reg::Left),
-        "frac" => a.frac(f(0), f(1)),
-        "minus" => a.minus(f(0), f(1), f(2)),
-        "times" => a.times(f(0), f(1), f(2)),
-        "divide" => a.divide(f(0), f(1), f(2)),
-        "gt" => a.gt(f(0), f(1), f(2)),
-        "neq" => a.neq(f(0), f(1), f(2)),
-        "and" => a.and(f(0), f(1), f(2)),
-        "andnot" => a.andnot(f(0), f(1), f(2)),
-        "or" => a.or(f(0), f(1), f(2)),
-        "xor" => a.xor(f(0), f(1), f(2)),
-        "fused_mul_add" => a.fused_mul_add(f(0), f(1), f(2), f(3)),
-        "fused_mul_sub" => a.fused_mul_sub(f(0), f(1), f(2), f(3)),
-        "fused_neg_mul_add" => a.fused_neg_mul_add(f(0), f(1), f(2), f(3)),
-        "fused_neg_mul_sub" => a.fused_neg_mul_sub(f(0), f(1), f(2), f(3)),
         "ifelse" => a.ifelse(f(0), f(1), f(2), u(3)),
         "load_const" => a.load_const(f(0), u(1)),
         "branch_if" => a.branch_if(f(0), &label(n[1]), n[2] != 0),

@@ -3,9 +3,9 @@
 
     record.py RUSTDIR [--out crates/test_functions] [--check] [--differences]
 
-RUSTDIR has the Rust's files as they are (riscv64/mod.rs, riscv64/macros.rs, assembler.rs, utils.rs, config.rs, symbol.rs, code.rs). They are
-compiled unchanged with rustc (the list was made with 1.95.0) behind the driver in this folder, twice: with overflow checks and optimized.
-Cases come from cases.py, with a fixed seed; both programs must give the same answer to each. What document 01 refuses comes from
+RUSTDIR has the Rust's files as they are (riscv64/mod.rs, riscv64/macros.rs, assembler.rs, utils.rs, config.rs, symbol.rs, code.rs). They
+are compiled unchanged with rustc (the list was made with 1.95.0) behind the driver in this folder, twice: with overflow checks and
+optimized. Cases come from cases.py, with a fixed seed; both programs must give the same answer to each. What document 01 refuses comes from
 refusals.py, with document 01's numbers. The Rust's `sign` is not asked for, since document 01's words differ: the driver has those.
 
 A row of the list has a kind (two hexadecimal digits) and four numbers (eight each; negative ones in two's complement):
@@ -29,21 +29,27 @@ import tempfile
 import build
 import cases
 import refusals
+from orders import names
 
 ROW = 39
 # How many of cases.FAMILIES the program knows; refusals are listed where it knows their calls.
 LISTED = 17
 
 FAMILY, WORDS, ZEROS, LAST, VALUE, REFUSED = 0x00, 0x01, 0x02, 0x03, 0x08, 0x09
+# The first number of each block of calls. Orders of registers have 16 numbers a shape, so that a new one is the next of its block.
 CALLS = {
-    0x10: "append_word append_quad set_label add_const add_float apply_jumps align_stack pad jumps beq bne load_x_from_label j",
-    0x20: "li load_float save_float load_int load_complex save_complex sub_stack add_stack allocate_stack",
-    0x30: "fmov recip round floor not sign frac minus times divide gt neq and andnot or xor",
-    0x40: "fused_mul_add fused_mul_sub fused_neg_mul_add fused_neg_mul_sub ifelse load_const branch_if label",
-    0x48: "load_mem load_stack load_param save_mem save_stack save_param",
-    0x50: "prologue_fast prologue_indirect epilogue_fast epilogue_indirect save_used_registers load_used_registers",
+    0x10: "append_word append_quad set_label add_const add_float apply_jumps align_stack pad jumps beq bne load_x_from_label j".split(),
+    0x20: "li load_float save_float load_int load_complex save_complex sub_stack add_stack allocate_stack".split(),
+    0x30: names("unary"),
+    0x40: names("scratched"),
+    0x50: names("binary"),
+    0x60: names("fused"),
+    0x70: "ifelse load_const branch_if label".split(),
+    0x78: "load_mem load_stack load_param save_mem save_stack save_param".split(),
+    0x80: "prologue_fast prologue_indirect epilogue_fast epilogue_indirect save_used_registers load_used_registers".split(),
 }
-NUMBERS = {name: first + i for first, names in CALLS.items() for i, name in enumerate(names.split())}
+NUMBERS = {name: first + i for first, called in CALLS.items() for i, name in enumerate(called)}
+assert len(set(NUMBERS.values())) == len(NUMBERS), "a block of CALLS runs into the next"
 
 
 def row(kind, numbers=()):

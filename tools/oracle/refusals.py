@@ -1,9 +1,10 @@
 """Inputs that document 01 refuses: the calls (the last one is refused), the number and the place that document 01 gives, and why.
 The Rust's answer to each is only looked at (record.py --differences): it is what docs/DIFFERENCES.md tells."""
-LIMIT = 0x7FFFF7FF
+from cases import CELLS, FINISH, LIMIT  # puts tools/ on the path
+from orders import FIELDS, names
+
 BIG = LIMIT + 1
 CELL = BIG // 8  # the first cell whose offset is beyond the limit
-FINISH = ("apply_jumps", [])
 FULL = ("pad", [16384])
 
 
@@ -26,16 +27,11 @@ def registers():
     yield one("j", 0, 32), 1, "register"
     yield one("load_const", 32, 0), 1, "register"
     yield one("load_const", 32, 1008), 1, "register before count"
-    for name in ["fmov", "recip", "round", "floor", "not"]:
-        yield one(name, 32, 0), 1, "register"
-        yield one(name, 0, 32), 1, "register"
-    for name in ["minus", "times", "divide", "gt", "neq", "and", "andnot", "or", "xor"]:
-        yield from ((one(name, *row), 1, "register") for row in ([32, 0, 0], [0, 32, 0], [0, 0, 32]))
-    for name in ["fused_mul_add", "fused_mul_sub", "fused_neg_mul_add", "fused_neg_mul_sub"]:
-        yield from ((one(name, *row), 1, "register") for row in ([32, 0, 0, 0], [0, 32, 0, 0], [0, 0, 32, 0], [0, 0, 0, 32]))
-    yield from ((one(name, *row), 1, "register") for name in ["frac", "sign"] for row in ([32, 0, 0], [0, 32, 0], [0, 0, 32]))
+    for name in [*names("unary"), *names("binary"), *names("fused"), *sorted(names("scratched"))]:
+        count = len(FIELDS[name])
+        yield from ((one(name, *(32 if j == i else 0 for j in range(count))), 1, "register") for i in range(count))
     yield from ((one("ifelse", *row), 1, "register") for row in ([32, 0, 0, 0], [0, 32, 0, 0], [0, 0, 32, 0], [32, 0, 0, CELL]))
-    yield from ((one(name, 32, 0), 1, "register") for name in ["load_mem", "save_mem", "load_stack", "save_stack", "load_param", "save_param"])
+    yield from ((one(name, 32, 0), 1, "register") for name in CELLS)
     yield one("branch_if", 32, 0, 0), 1, "register"
     yield one("branch_if", 32, 1024, 0), 1, "register before label"
     yield one("fmov", 32, 32), 1, "register, even where both are one"
@@ -53,7 +49,7 @@ def values():
         yield one(name, BIG), 2, "size"
         yield one(name, 2**31), 2, "size"
         yield one(name, 2**32 - 1), 2, "size"
-    for name in ["load_mem", "save_mem", "load_stack", "save_stack", "load_param", "save_param"]:
+    for name in CELLS:
         yield one(name, 0, CELL), 2, "8 x index"
         yield one(name, 0, 2**29), 2, "8 x index beyond 32 bits"
     yield one("ifelse", 0, 1, 2, CELL), 2, "8 x index"
@@ -85,7 +81,8 @@ def unset_places():
     yield [("bne", [1]), ("pad", [1023]), ("set_label", [1]), FINISH], 6, 0, "4,096 ahead"
     yield [("set_label", [1]), ("pad", [1025]), ("beq", [1]), FINISH], 6, 4100, "4,100 back"
     yield [("set_label", [1]), ("pad", [1025]), ("bne", [1]), FINISH], 6, 4100, "4,100 back"
-    yield [("beq", [1]), ("pad", [1022]), ("beq", [1]), ("bne", [1]), ("pad", [1022]), ("set_label", [1]), FINISH], 6, 0, "the first that is far"
+    two = [("beq", [1]), ("bne", [1])]
+    yield [("beq", [1]), ("pad", [1022]), *two, ("pad", [1022]), ("set_label", [1]), FINISH], 6, 0, "the first that is far"
     yield [("set_label", [1]), ("beq", [1]), ("pad", [1024]), ("bne", [1]), FINISH], 6, 4100, "the first that is far"
     yield [("beq", [1]), ("beq", [2]), ("pad", [1023]), ("set_label", [1]), FINISH], 5, 4, "unset before far"
 
@@ -112,14 +109,11 @@ def full():
 
 def closed():
     """Number 8, before all others."""
-    for call in [("append_word", [1]), ("append_quad", [1, 1]), ("set_label", [2039]), ("beq", [2039]), FINISH, ("add_const", [1008, 0, 0])]:
-        yield [FINISH, call], 8, "after an accepted finish"
-    for call in [("li", [32, 0]), ("load_float", [10, 9, 0]), ("load_complex", [31, 5, BIG]), ("sub_stack", [BIG]), ("allocate_stack", [0])]:
-        yield [FINISH, call], 8, "after an accepted finish"
-    for call in [("fmov", [32, 0]), ("load_const", [10, 1008]), ("branch_if", [0, 1024, 0]), ("label", [0]), ("load_mem", [0, CELL])]:
-        yield [FINISH, call], 8, "after an accepted finish"
-    for call in [("prologue_fast", [0, 9, 0]), ("epilogue_fast", [0, 1, 0, 256]), ("save_used_registers", [0]), ("load_used_registers", [0])]:
-        yield [FINISH, call], 8, "after an accepted finish"
+    calls = [("append_word", [1]), ("append_quad", [1, 1]), ("set_label", [2039]), ("beq", [2039]), FINISH, ("add_const", [1008, 0, 0])]
+    calls += [("li", [32, 0]), ("load_float", [10, 9, 0]), ("load_complex", [31, 5, BIG]), ("sub_stack", [BIG]), ("allocate_stack", [0])]
+    calls += [("fmov", [32, 0]), ("load_const", [10, 1008]), ("branch_if", [0, 1024, 0]), ("label", [0]), ("load_mem", [0, CELL])]
+    calls += [("prologue_fast", [0, 9, 0]), ("epilogue_fast", [0, 1, 0, 256]), ("save_used_registers", [0]), ("load_used_registers", [0])]
+    yield from (([FINISH, call], 8, "after an accepted finish") for call in calls)
 
 
 def counts():

@@ -15,13 +15,9 @@ use Rattle.refusal.specs.declared.Refusal.the-variants as Refusal
 use Rattle.ast.specs.declared.Place.{Place}
 use Rattle.ast.specs.declared.Place.the-variants.{Mem, Stack, Param}
 use Rattle.ast.specs.declared.Unary as U
-use Rattle.ast.specs.declared.Unary.the-variants.{Fmov, Recip, Round, Floor, Not}
 use Rattle.ast.specs.declared.Scratched as S
-use Rattle.ast.specs.declared.Scratched.the-variants.{Sign, Frac}
 use Rattle.ast.specs.declared.Binary as Bin
-use Rattle.ast.specs.declared.Binary.the-variants.{Minus, Times, Divide, Gt, Neq, And, Andnot, Or, Xor}
 use Rattle.ast.specs.declared.Fused as Fu
-use Rattle.ast.specs.declared.Fused.the-variants.{MulAdd, MulSub, NegMulAdd, NegMulSub}
 use Rattle.ast.specs.declared.Constant.{Constant}
 use Rattle.ast.specs.declared.Constant.the-variants as Constant
 use Rattle.ast.specs.declared.Order.{Order}
@@ -34,8 +30,9 @@ use Rattle.form.specs.declared.Form.{Form}
 use Rattle.form.specs.declared.Form.the-variants as Form
 use Rattle.deck.specs.Judge.{Content, demand, below as is-below, value, register, index, constant-index, label, exact, signed, order, constant, judged, line-judged}
 use Rattle.fast.specs.Fast.{small, small-order, said}
-use Rattle.fast.specs.Inner.Packed.{unary-number, scratched-number, binary-number, fused-number, place-number, flag-number, unary-at, scratched-at, binary-at, fused-at, place-at, below, pack, no-order, number, order-at, unpacked}
-use Rattle.fast.proofs.Names.{few-unary, few-scratched, few-binary, few-fused}
+use Rattle.form.specs.Inner.Names.{unary-number, scratched-number, binary-number, fused-number, unary-at, scratched-at, binary-at, fused-at}
+use Rattle.form.proofs.Names.{unary-back, scratched-back, binary-back, fused-back}
+use Rattle.fast.specs.Inner.Packed.{place-number, flag-number, place-at, below, pack, no-order, number, order-at, unpacked}
 
 -- ---- by shapes
 
@@ -90,34 +87,6 @@ module _ (q : ℕ) where
 
 -- ---- numbers of operations, and back
 
-unary-back : (k : U.Unary) → unary-at (unary-number k) ≡ k
-unary-back Fmov = refl
-unary-back Recip = refl
-unary-back Round = refl
-unary-back Floor = refl
-unary-back Not = refl
-
-scratched-back : (k : S.Scratched) → scratched-at (scratched-number k) ≡ k
-scratched-back Sign = refl
-scratched-back Frac = refl
-
-binary-back : (k : Bin.Binary) → binary-at (binary-number k) ≡ k
-binary-back Minus = refl
-binary-back Times = refl
-binary-back Divide = refl
-binary-back Gt = refl
-binary-back Neq = refl
-binary-back And = refl
-binary-back Andnot = refl
-binary-back Or = refl
-binary-back Xor = refl
-
-fused-back : (k : Fu.Fused) → fused-at (fused-number k) ≡ k
-fused-back MulAdd = refl
-fused-back MulSub = refl
-fused-back NegMulAdd = refl
-fused-back NegMulSub = refl
-
 place-back : (p : Place) → (place-number p < 16) × (place-at (place-number p) ≡ p)
 place-back Mem = (omega arith, refl)
 place-back Stack = (omega arith, refl)
@@ -170,17 +139,19 @@ same-register r h = omega arith
 pub unpack-pack : (o : Order) → Fits o → unpacked (pack o) ≡ o
 unfolding pack
 unpack-pack (Unary k d s) h =
-    is-unary (pack (Unary k d s)) (shape-is 0 (unary-number k) (below d s) (omega arith) (few-unary k))
-    ∙ rw (operation-is 0 (unary-number k) (below d s) (omega arith) (few-unary k), operands-are 0 (unary-number k) (below d s) (omega arith) (few-unary k), first d s (h .0), rest d s (h .0), same-register s (h .1), unary-back k)
+    is-unary (pack (Unary k d s)) (shape-is 0 (unary-number k) (below d s) (omega arith) (unary-back k .0))
+    ∙ rw (operation-is 0 (unary-number k) (below d s) (omega arith) (unary-back k .0), operands-are 0 (unary-number k) (below d s) (omega arith) (unary-back k .0), first d s (h .0), rest d s (h .0), same-register s (h .1), unary-back k .1)
 unpack-pack (Scratched k d s t) h =
-    is-scratched (pack (Scratched k d s t)) (shape-is 1 (scratched-number k) (below d (below s t)) (omega arith) (few-scratched k))
-    ∙ rw (operation-is 1 (scratched-number k) (below d (below s t)) (omega arith) (few-scratched k), operands-are 1 (scratched-number k) (below d (below s t)) (omega arith) (few-scratched k), first d (below s t) (h .0), rest d (below s t) (h .0), first s t (h .1), rest s t (h .1), same-register t (h .2), scratched-back k)
+    is-scratched (pack (Scratched k d s t)) (shape-is 1 (scratched-number k) (below d (below s t)) (omega arith) (scratched-back k .0))
+    ∙ rw (operation-is 1 (scratched-number k) (below d (below s t)) (omega arith) (scratched-back k .0), operands-are 1 (scratched-number k) (below d (below s t)) (omega arith) (scratched-back k .0), first d (below s t) (h .0), rest d (below s t) (h .0), first s t (h .1), rest s t (h .1), same-register t (h .2), scratched-back k .1)
 unpack-pack (Binary k d a b) h =
-    is-binary (pack (Binary k d a b)) (shape-is 2 (binary-number k) (below d (below a b)) (omega arith) (few-binary k))
-    ∙ rw (operation-is 2 (binary-number k) (below d (below a b)) (omega arith) (few-binary k), operands-are 2 (binary-number k) (below d (below a b)) (omega arith) (few-binary k), first d (below a b) (h .0), rest d (below a b) (h .0), first a b (h .1), rest a b (h .1), same-register b (h .2), binary-back k)
+    is-binary (pack (Binary k d a b)) (shape-is 2 (binary-number k) (below d (below a b)) (omega arith) (binary-back k .0))
+    ∙ rw (operation-is 2 (binary-number k) (below d (below a b)) (omega arith) (binary-back k .0), operands-are 2 (binary-number k) (below d (below a b)) (omega arith) (binary-back k .0), first d (below a b) (h .0), rest d (below a b) (h .0), first a b (h .1), rest a b (h .1), same-register b (h .2), binary-back k .1)
 unpack-pack (Fused k d a b c) h =
-    is-fused (pack (Fused k d a b c)) (shape-is 3 (fused-number k) (below d (below a (below b c))) (omega arith) (few-fused k))
-    ∙ rw (operation-is 3 (fused-number k) (below d (below a (below b c))) (omega arith) (few-fused k), operands-are 3 (fused-number k) (below d (below a (below b c))) (omega arith) (few-fused k), first d (below a (below b c)) (h .0), rest d (below a (below b c)) (h .0), first a (below b c) (h .1), rest a (below b c) (h .1), first b c (h .2), rest b c (h .2), same-register c (h .3), fused-back k)
+    let x = below d (below a (below b c)) in
+    let f = fused-back k in
+    is-fused (pack (Fused k d a b c)) (shape-is 3 (fused-number k) x (omega arith) (f .0))
+    ∙ rw (operation-is 3 (fused-number k) x (omega arith) (f .0), operands-are 3 (fused-number k) x (omega arith) (f .0), first d (below a (below b c)) (h .0), rest d (below a (below b c)) (h .0), first a (below b c) (h .1), rest a (below b c) (h .1), first b c (h .2), rest b c (h .2), same-register c (h .3), f .1)
 unpack-pack (Ifelse d a b i) h =
     is-ifelse (pack (Ifelse d a b i)) (shape-is 4 0 (below d (below a (below b i))) (omega arith) (omega arith))
     ∙ rw (operands-are 4 0 (below d (below a (below b i))) (omega arith) (omega arith), first d (below a (below b i)) (h .0), rest d (below a (below b i)) (h .0), first a (below b i) (h .1), rest a (below b i) (h .1), first b i (h .2), rest b i (h .2), same-index i (h .3))
@@ -202,10 +173,10 @@ unpack-pack (SetLabel l) h =
 
 pub pack-small : (o : Order) → Fits o → pack o < no-order
 unfolding pack
-pack-small (Unary k d s) h = omega (arith, few-unary k, h)
-pack-small (Scratched k d s t) h = omega (arith, few-scratched k, h)
-pack-small (Binary k d a b) h = omega (arith, few-binary k, h)
-pack-small (Fused k d a b c) h = omega (arith, few-fused k, h)
+pack-small (Unary k d s) h = omega (arith, unary-back k .0, h)
+pack-small (Scratched k d s t) h = omega (arith, scratched-back k .0, h)
+pack-small (Binary k d a b) h = omega (arith, binary-back k .0, h)
+pack-small (Fused k d a b c) h = omega (arith, fused-back k .0, h)
 pack-small (Ifelse d a b i) h = omega (arith, h)
 pack-small (Load d p i) h = omega (arith, place-back p .0, h)
 pack-small (Save s p i) h = omega (arith, place-back p .0, h)

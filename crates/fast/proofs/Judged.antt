@@ -11,7 +11,8 @@ use Rattle.ast.specs.Mask.{free, open-cell}
 use Rattle.ast.specs.Uses.{unary-writes, index-holds, saves-hold}
 use Rattle.ast.specs.declared.Unary.the-variants.{Recip, Round, Floor, Not}
 use Rattle.ast.specs.declared.Head.{Head}
-use Rattle.fast.specs.Inner.Packed.{unary-at, place-at, unpacked}
+use Rattle.form.specs.Inner.Names.{unary-at}
+use Rattle.fast.specs.Inner.Packed.{place-at, unpacked}
 use Rattle.fast.proofs.Apart.{is-unary, is-scratched, is-binary, is-fused, is-ifelse, is-load, is-save, is-load-const, is-branch, is-label, registers-order}
 
 -- ---- 9

@@ -1,14 +1,15 @@
 -- The packed fields of a kind are the number of the order that the line says. Assumes nothing.
 use mathlib.Core.Path.{_≡_, refl, sym, ap, _∙_}
-use mathlib.Core.Bool.{Bool, true, false, cond, _&&_}
+use mathlib.Core.Bool.{Bool, true, false, cond, not, _&&_, _||_}
 use mathlib.Core.Option.{Option, some, none, Option·map}
 use mathlib.Core.List.{List, [], _∷_}
 use Prim.Native.Nat.{ℕ, suc, _*_, _%_, _+_, _^_, _<_, _≤_}
 use native.Mathlib.Omega.{arith}
-use borrow.Author.Tests.{lt-ltb, le-ltb, ltb-true, ltb-false}
-use lib.Dec.{ltb}
+use borrow.Author.Tests.{lt-ltb, le-ltb, lt-leb, ltb-true, ltb-false, ne-eqb}
+use lib.Dec.{ltb, leb}
 use lib.Ieee.{ofInt, binary64}
 use lib.ListN.{replicate}
+use Rattle.base.proofs.Tested.{tested}
 use Rattle.refusal.specs.Answer.{Answer, accepted}
 use Rattle.refusal.specs.declared.Refusal.{Refusal}
 use Rattle.refusal.specs.declared.Refusal.the-variants.{Register, Count, Label}
@@ -32,7 +33,7 @@ use Rattle.form.specs.declared.Kind.the-variants as Kind
 use Rattle.deck.specs.Judge.{Content, demand, below as is-below, value, register, exact, signed, order, constant, judged, line-judged}
 use Rattle.fast.specs.Fast.{small, small-order}
 use Rattle.fast.specs.Inner.Packed.{place-number, flag-number, below, pack}
-use Rattle.fast.specs.Inner.Names.{kind-code}
+use Rattle.form.specs.Inner.Names.{kind-code}
 use Rattle.fast.specs.Inner.Fields.{bounded, onto, numeric, registers-of, bound-of, behind, fields-packed}
 use Rattle.fast.proofs.Values.{values-packed, read-packed, operands-read, cell-read, cell-values, branch-read, branch-values}
 
@@ -144,6 +145,13 @@ four c f m p d s t v = rw (is-register d, is-register s, is-register t, is-regis
 
 -- ---- each kind
 
+not-numeric : (k : ℕ) → 9 < k → k < 16 → numeric k ≡ false
+not-numeric k g h = go (numeric k) (tested (λ i. leb i 9 || not (numeric i)) 16 k refl h)
+  where
+    go : (t : Bool) → leb k 9 || not t ≡ true → t ≡ false
+    go true e = absurd (let z = rw (lt-leb k 9 g) at e in let y : _≡_ {A = ℕ} 0 1 = cc in omega (arith, y))
+    go false e = refl
+
 no-constant : (t : Bool) (a : Constant) → none ≡ told (demand t Refusal.Value (accepted (constant a)))
 no-constant true a = refl
 no-constant false a = refl
@@ -252,13 +260,13 @@ module _ (fs : List (List ℕ)) where
       go (some vs) = one-register 1024 (omega arith) (omega arith) Label (kind-code Kind.BranchIf + 16 * flag-number (vs .1 .1 .0)) (λ d i. Order.BranchIf d i (vs .1 .1 .0)) (λ d i. refl) (λ d i. omega arith) (vs .0) (vs .1 .0)
 
   -- no order
-  pub nothing : fields-packed 255 fs ≡ none
+  pub nothing : (c : ℕ) → 9 < c % 16 → fields-packed c fs ≡ none
   unfolding fields-packed
-  nothing = refl
+  nothing c h = rw (not-numeric (c % 16) h (omega arith), le-ltb (c % 16) 7 (omega arith), ne-eqb (c % 16) 8 (λ e. omega (arith, e, h)))
 
-  none-said : (q : Kind) → ((o : Option (Values (sorts q))) → none ≡ told (line-judged false (shaped′ q o))) → fields-packed 255 fs ≡ told (line-judged false (shaped q fs))
+  none-said : (q : Kind) → 9 < kind-code q % 16 → ((o : Option (Values (sorts q))) → none ≡ told (line-judged false (shaped′ q o))) → Says q
   unfolding shaped
-  none-said q f = nothing ∙ f (read-values (sorts q) fs)
+  none-said q h f = nothing (kind-code q) h ∙ f (read-values (sorts q) fs)
 
   pub says : (q : Kind) → Says q
   unfolding line-judged judged
@@ -272,13 +280,13 @@ module _ (fs : List (List ℕ)) where
   says Kind.Save = save
   says Kind.BranchIf = branch-if
   says Kind.SetLabel = label
-  says (Kind.Head f) = none-said (Kind.Head f) go
+  says (Kind.Head f) = none-said (Kind.Head f) (omega arith) go
     where
       go : (o : Option (Values (sorts (Kind.Head f)))) → none ≡ told (line-judged false (shaped′ (Kind.Head f) o))
       go none = refl
       go (some vs) = refl
-  says Kind.Float = none-said Kind.Float none-float
-  says Kind.Bits = none-said Kind.Bits go
+  says Kind.Float = none-said Kind.Float (omega arith) none-float
+  says Kind.Bits = none-said Kind.Bits (omega arith) go
     where
       go : (o : Option (Values (sorts Kind.Bits))) → none ≡ told (line-judged false (shaped′ Kind.Bits o))
       go none = refl

@@ -5,10 +5,10 @@ use mathlib.Core.Option.{Option, some, none, Option·map, Option·none-ne-some}
 use mathlib.Core.List.{List, [], _∷_, _++_}
 use Prim.Native.Nat.{ℕ, zero, suc, _*_, _+_, _-_, _%_, _<_, _≤_}
 use native.Mathlib.Omega.{arith}
-use borrow.Author.Tests.{le-ltb, eqb-true, eqb-false, leb-true}
+use borrow.Author.Tests.{le-ltb, ltb-true, eqb-true, eqb-false, leb-true}
 use lib.Dec.{eqb, ltb, leb}
 use lib.ListN.{length, getD, take, length-append}
-use lib.Seq.{getD-take, take-take, take-nil, length-take-le}
+use lib.Seq.{take-take, take-nil, length-take-le}
 use Rattle.text.specs.Digits.{read-decimal, read-integer, read-word}
 use Rattle.text.specs.Fields.{commas, upto, split, same, fields-from, end-from}
 use Rattle.text.proofs.Answers.{first-field, no-field}
@@ -19,13 +19,13 @@ use Rattle.form.specs.Form.{form-of, formed}
 use Rattle.form.specs.Inner.Parts.{shaped, shaped′, named}
 use Rattle.form.specs.declared.Form.the-variants as Form
 use Rattle.form.specs.declared.Kind.{Kind}
+use Rattle.form.proofs.Names.{each, named-is}
 use Rattle.form.proofs.Shapes.{line-is, line-bad, no-line, no-newline, newline}
 use Rattle.deck.specs.Judge.{judged, line-judged}
 use Rattle.fast.specs.Fast.{small-order, said}
 use Rattle.fast.specs.Inner.Packed.{no-order, number as number-of, pack}
-use Rattle.fast.specs.Inner.Names.{kind-code, coded}
+use Rattle.form.specs.Inner.Names.{kind-code, coded}
 use Rattle.fast.specs.Inner.Fields.{numeric, registers-of, bound-of, fields-packed}
-use Rattle.fast.proofs.Names.{each, named-is}
 use Rattle.fast.proofs.Fields.{none-left}
 use Rattle.fast.proofs.Said.{says, nothing}
 
@@ -42,15 +42,6 @@ unsaid l e = rw (← e, malformed)
 first-end : (s : List ℕ) → end-from s 0 ≡ upto s
 unfolding end-from
 first-end s = rw (le-ltb (length s) 0 (omega arith)) (omega arith)
-
-comma-there : (s : List ℕ) → upto s < length s → getD s (upto s) 0 ≡ 44
-unfolding upto
-comma-there [] h = absurd (omega arith)
-comma-there (c ∷ cs) h = go (eqb c 44) refl h (comma-there cs)
-  where
-    go : (t : Bool) → eqb c 44 ≡ t → cond t 0 (suc (upto cs)) < suc (length cs) → (upto cs < length cs → getD cs (upto cs) 0 ≡ 44) → getD (c ∷ cs) (cond t 0 (suc (upto cs))) 0 ≡ 44
-    go true e h r = eqb-true c 44 e
-    go false e h r = r (omega arith)
 
 -- the end among the first m bytes
 near : (l : List ℕ) (m : ℕ) → upto l < m → upto (take m l) ≡ upto l
@@ -89,11 +80,8 @@ module _ (s : List ℕ) (e : ℕ) (he : e ≡ end-from s 0) where
   body-said = go (kind-of (take e s)) refl
     where
       go : (o : Option Kind) → kind-of (take e s) ≡ o → fields-packed (coded o) (fields-from s (e + 1)) ≡ Option·map pack (small-order (line-judged false (formed (read-fields (split s)))))
-      go none eo = rw (← line-bad s e he (ap named eo), malformed) (nothing (fields-from s (e + 1)))
+      go none eo = rw (← line-bad s e he (ap named eo), malformed) (nothing (fields-from s (e + 1)) 255 (omega arith))
       go (some q) eo = rw (← line-is s e he q (ap named eo)) (says (fields-from s (e + 1)) q)
-
-  at-comma : e < length s → getD s e 0 ≡ 44
-  at-comma h = let z : e ≡ upto s = he ∙ first-end s in rw z (comma-there s (omega arith))
 
 -- ---- no fields
 
@@ -131,7 +119,7 @@ has-bytes (q ∷ ss) ((c ∷ f) ∷ fs) vs e = go (read-field q (c ∷ f)) (read
     go (some v) (some ws) ep e r = omega (arith, r ws ep, length-append f (commas fs))
 
 -- an order's name and its fields have seven bytes
-seven : each (λ t k. leb 7 (length t + 2 * length (sorts k)) || eqb (kind-code k) 255) names ≡ true
+seven : each (λ t k. leb 7 (length t + 2 * length (sorts k)) || ltb 9 (kind-code k % 16)) names ≡ true
 seven = refl
 
 module _ (s : List ℕ) (h : length s < 7) where
@@ -149,21 +137,21 @@ module _ (s : List ℕ) (h : length s < 7) where
 
   short-kind : (q : Kind) → kind-of first-word ≡ some q → fields-packed (kind-code q) rest ≡ none
   unfolding shaped
-  short-kind q e = by (leb 7 (length first-word + 2 * length (sorts q))) refl (named-is (λ t k. leb 7 (length t + 2 * length (sorts k)) || eqb (kind-code k) 255) first-word names q seven e)
+  short-kind q e = by (leb 7 (length first-word + 2 * length (sorts q))) refl (named-is (λ t k. leb 7 (length t + 2 * length (sorts k)) || ltb 9 (kind-code k % 16)) first-word names q seven e)
     where
       go : (o : Option (Values (sorts q))) → 7 ≤ length first-word + 2 * length (sorts q) → read-values (sorts q) rest ≡ o → Option·map pack (small-order (line-judged false (shaped′ q o))) ≡ none
       go none g f = ap (Option·map pack) malformed
       go (some vs) g f = absurd (too-short q g vs f)
 
-      by : (t : Bool) → leb 7 (length first-word + 2 * length (sorts q)) ≡ t → t || eqb (kind-code q) 255 ≡ true → fields-packed (kind-code q) rest ≡ none
+      by : (t : Bool) → leb 7 (length first-word + 2 * length (sorts q)) ≡ t → t || ltb 9 (kind-code q % 16) ≡ true → fields-packed (kind-code q) rest ≡ none
       by true f g = says rest q ∙ go (read-values (sorts q) rest) (leb-true 7 (length first-word + 2 * length (sorts q)) f) refl
-      by false f g = rw (eqb-true (kind-code q) 255 g) (nothing rest)
+      by false f g = nothing rest (kind-code q) (ltb-true 9 (kind-code q % 16) g)
 
   short-body : Option·map pack (small-order (line-judged false (formed (read-fields (split s))))) ≡ none
   short-body = sym (body-said s (upto s) (sym (first-end s))) ∙ go (kind-of (take (upto s) s)) refl
     where
       go : (o : Option Kind) → kind-of (take (upto s) s) ≡ o → fields-packed (coded o) rest ≡ none
-      go none e = nothing rest
+      go none e = nothing rest 255 (omega arith)
       go (some q) e = short-kind q e
 
 -- ---- the ways through `order_in`
@@ -194,9 +182,6 @@ module _ (l : List ℕ) where
           rw (← newline l m hm c, ← body-said (take m l) e he, b)
 
       module _ (g : e < m) where
-        pub comma-is : getD l e 0 ≡ 44
-        comma-is = sym (getD-take m l e 0 g) ∙ at-comma (take m l) e he (omega (arith, part))
-
         pub line-said : (k r : ℕ) → k ≡ coded (kind-of (take e l)) → r ≡ number-of (fields-packed k (fields-from (take m l) (e + 1))) → r ≡ number-of (Option·map pack (said l))
         line-said k r ek er =
             let t : take e (take m l) ≡ take e l = take-take e m l (omega arith) in

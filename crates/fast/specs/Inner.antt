@@ -1,4 +1,3 @@
 pub mod Packed
-pub mod Names
 pub mod Fields
 pub mod Plain

@@ -5,9 +5,8 @@ ghost use mathlib.Core.Bool.{true};
 ghost use mathlib.Core.Option.{Option·map};
 ghost use Prim.Native.Nat.{_+_, _*_, _/_, _%_, _≤_, _<_};
 ghost use lib.Dec.{leb};
-ghost use lib.ListN.{length, getD, take};
+ghost use lib.ListN.{length};
 ghost use Rattle.text.specs.Fields.{fields-from};
-ghost use Rattle.form.specs.Read.{kind-of};
 ghost use Rattle.base.specs.Tests.{all};
 ghost use Rattle.ast.specs.Mask.{free};
 ghost use Rattle.ast.specs.Uses.{unary-writes, index-holds, saves-hold};
@@ -18,22 +17,18 @@ ghost use Rattle.orders.specs.Parts.{instrs};
 ghost use Rattle.orders.specs.Wrote.{Wrote, roomy};
 ghost use Rattle.fast.specs.Fast.{said, taken, fast-line, Leaves};
 ghost use Rattle.fast.specs.Inner.Plain.{ready, Kept, Leaves-buf};
-ghost use Rattle.fast.specs.Inner.Packed.{unary-at, scratched-at, binary-at, fused-at, place-at, place-number, flag-number};
+ghost use Rattle.form.specs.Inner.Names.{unary-at};
+ghost use Rattle.fast.specs.Inner.Packed.{place-at, place-number, flag-number};
 ghost use Rattle.fast.specs.Inner.Packed.{number, numbered, pack, unpacked};
-ghost use Rattle.fast.specs.Inner.Names.{name-place, row-at, entry, coded};
 ghost use Rattle.fast.specs.Inner.Fields.{onto, operands, numbers-packed, numeric, registers-of, bound-of, behind, fields-packed};
 ghost use Rattle.fast.specs.Inner.Fields.{cell as cell-packed, branch as branch-packed};
 use assembler::Answer;
 use assembler::Asm;
 use assembler::Jumps;
 use assembler::Labels;
-use ast::Binary;
-use ast::Fused;
 use ast::Head;
 use ast::Order;
 use ast::Place;
-use ast::Scratched;
-use ast::Unary;
 use form::Flag;
 use form::Where;
 
@@ -63,54 +58,6 @@ const BRANCH: u64 = 8;
 
 // Above the number of any order.
 const NONE: u64 = 0x1000000000000;
-
-fn unary_at(n: u64) -> Unary
-    ensures { λ r. ⌜ r ≡ unary-at n ⌝ }
-{
-    match n {
-        0 => Unary::Fmov,
-        1 => Unary::Recip,
-        2 => Unary::Round,
-        3 => Unary::Floor,
-        _ => Unary::Not,
-    }
-}
-
-fn scratched_at(n: u64) -> Scratched
-    ensures { λ r. ⌜ r ≡ scratched-at n ⌝ }
-{
-    match n {
-        0 => Scratched::Sign,
-        _ => Scratched::Frac,
-    }
-}
-
-fn binary_at(n: u64) -> Binary
-    ensures { λ r. ⌜ r ≡ binary-at n ⌝ }
-{
-    match n {
-        0 => Binary::Minus,
-        1 => Binary::Times,
-        2 => Binary::Divide,
-        3 => Binary::Gt,
-        4 => Binary::Neq,
-        5 => Binary::And,
-        6 => Binary::Andnot,
-        7 => Binary::Or,
-        _ => Binary::Xor,
-    }
-}
-
-fn fused_at(n: u64) -> Fused
-    ensures { λ r. ⌜ r ≡ fused-at n ⌝ }
-{
-    match n {
-        0 => Fused::MulAdd,
-        1 => Fused::MulSub,
-        2 => Fused::NegMulAdd,
-        _ => Fused::NegMulSub,
-    }
-}
 
 fn place_at(n: u64) -> Place
     ensures { λ r. ⌜ r ≡ place-at n ⌝ }
@@ -149,87 +96,6 @@ fn index(x: u64) -> u32
     ensures { λ r. ⌜ (r ≡ x % 4096) × (r < 4096) ⌝ }
 {
     (x % 4096) as u32
-}
-
-// ---- the name
-
-const NO_KIND: u64 = 0xff;
-
-// A name of up to six bytes with its comma, and in the last byte its operation and its shape; 0 where none is.
-// The place is `name_place`'s.
-fn name_at(place: u64) -> u64
-    ensures { λ r. ⌜ r ≡ entry (row-at place) ⌝ }
-{
-    match place {
-        0 => text::word_of(b"divide,\x22"),
-        3 => text::word_of(b"sign,\0\0\x01"),
-        4 => text::word_of(b"minus,\0\x02"),
-        5 => text::word_of(b"round,\0\x20"),
-        6 => text::word_of(b"and,\0\0\0\x52"),
-        7 => text::word_of(b"xor,\0\0\0\x82"),
-        8 => text::word_of(b"times,\0\x12"),
-        11 => text::word_of(b"label,\0\x09"),
-        12 => text::word_of(b"recip,\0\x10"),
-        13 => text::word_of(b"floor,\0\x30"),
-        14 => text::word_of(b"fmov,\0\0\x00"),
-        15 => text::word_of(b"neq,\0\0\0\x42"),
-        16 => text::word_of(b"ifelse,\x04"),
-        17 => text::word_of(b"frac,\0\0\x11"),
-        20 => text::word_of(b"get,\0\0\0\x05"),
-        21 => text::word_of(b"not,\0\0\0\x40"),
-        22 => text::word_of(b"put,\0\0\0\x06"),
-        26 => text::word_of(b"branch,\x08"),
-        27 => text::word_of(b"or,\0\0\0\0\x72"),
-        28 => text::word_of(b"gt,\0\0\0\0\x32"),
-        31 => text::word_of(b"andnot,\x62"),
-        _ => 0,
-    }
-}
-
-// The place of a name, by its first four bytes. tools/names finds the multiplier, with which no two names share a place.
-fn name_place(w: u64) -> u64
-    ensures { λ r. ⌜ (r ≡ name-place w) × (r < 32) ⌝ }
-{
-    w % 0x100000000 * 0x16f251 / 0x100000000 % 32
-}
-
-// A longer name.
-fn long_name(s: &[u8]) -> u64
-    requires { ⌜ 6 < length (now s) ⌝ }
-    ensures { λ r. ⌜ r ≡ coded (kind-of (now (s .entry))) ⌝ }
-{
-    if text::same(s, b"fused_mul_add") {
-        return 0x03;
-    }
-    if text::same(s, b"fused_mul_sub") {
-        return 0x13;
-    }
-    if text::same(s, b"fused_neg_mul_add") {
-        return 0x23;
-    }
-    if text::same(s, b"fused_neg_mul_sub") {
-        return 0x33;
-    }
-    if text::same(s, b"load_const") {
-        return 0x07;
-    }
-    NO_KIND
-}
-
-// The operation and the shape of the kind that a line's first e bytes name.
-fn name_code(line: &[u8], e: usize) -> u64
-    requires { ⌜ (8 ≤ length (now line)) × (e < length (now line)) × (getD (now line) e 0 ≡ 44) ⌝ }
-    ensures { λ r. ⌜ r ≡ coded (kind-of (take e (now (line .entry)))) ⌝ }
-{
-    let w = text::word_to(line, e);
-    if w == 0 {
-        return long_name(&line[..e]);
-    }
-    let y = name_at(name_place(w));
-    if y % 0x100000000000000 == w {
-        return y / 0x100000000000000;
-    }
-    NO_KIND
 }
 
 // ---- the fields
@@ -402,11 +268,11 @@ fn order_in(line: &[u8]) -> u64
     if line[m] != 10 {
         return NONE;
     }
-    let e = text::name_end(line);
-    if e >= m {
+    let name = form::read_name(line);
+    if name.end >= m {
         return NONE;
     }
-    order_of(name_code(line, e), &line[..m], e + 1)
+    order_of(name.code, &line[..m], name.end + 1)
 }
 
 // ---- what is asked of every order
@@ -512,15 +378,15 @@ fn write_registers(q: u64, buf: &mut [u8], len: usize) -> usize
     let a = register(y);
     let b = register(z);
     if shape == UNARY {
-        return orders::write_unary(unary_at(n), d, a, buf, len);
+        return orders::write_unary(form::unary_at(n), d, a, buf, len);
     }
     if shape == SCRATCHED {
-        return orders::write_scratched(scratched_at(n), d, a, b, buf, len);
+        return orders::write_scratched(form::scratched_at(n), d, a, b, buf, len);
     }
     if shape == BINARY {
-        return orders::write_binary(binary_at(n), d, a, b, buf, len);
+        return orders::write_binary(form::binary_at(n), d, a, b, buf, len);
     }
-    orders::write_fused(fused_at(n), d, a, b, register(z / 32), buf, len)
+    orders::write_fused(form::fused_at(n), d, a, b, register(z / 32), buf, len)
 }
 
 // The words of any order of instructions alone.

@@ -18,7 +18,8 @@ use Rattle.form.specs.Syntax.{Sort, number, integer, word, place, flag, 
 use Rattle.form.specs.Read.{first, both, all-places, all-flags, kind-in, kind-of, read-field, read-values, with-values, read-kind, read-fields, read}
 use Rattle.form.specs.Form.{cut, form-of}
 use Rattle.form.specs.declared.Kind.{Kind}
-use Rattle.form.proofs.Text.{found-is, name-of, name, field, fields, Holds, All, Fits, text}
+use Rattle.form.proofs.Names.{found-is, name-of}
+use Rattle.form.proofs.Text.{name, field, fields, Holds, All, Fits, text}
 
 -- ---- names
 

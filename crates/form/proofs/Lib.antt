@@ -1,4 +1,4 @@
+pub mod Names
 pub mod Text
-mod Names
 pub mod Inverse
 pub mod Shapes

@@ -1,21 +1,28 @@
 // Document 01, "The deck file": a line's kind and fields. Ranges are judged above (`deck`).
 ghost use mathlib.Core.Path.{_≡_};
 ghost use mathlib.Core.Bool.{cond};
-ghost use mathlib.Core.Option.{some, none};
-ghost use lib.ListN.{drop};
-ghost use Rattle.text.specs.Fields.{same, split, fields-from, next-from};
-ghost use Rattle.form.specs.Syntax.{names, place-name, flag-name, place, flag};
-ghost use Rattle.form.specs.Read.{first, kind-in, kind-of, all-places, all-flags, read-fields};
+ghost use Rattle.text.specs.Fields.{split, fields-from, next-from};
+ghost use Rattle.form.specs.Syntax.{place-name, flag-name, place, flag};
+ghost use Rattle.form.specs.Read.{first, all-places, all-flags, read-fields};
 ghost use Rattle.form.specs.Form.{form-of, formed, placed, flagged};
-ghost use Rattle.form.specs.Inner.Parts.{shaped, named, or-kind};
+ghost use Rattle.form.specs.Inner.Parts.{shaped};
 ghost use Rattle.form.specs.Form.{only};
 ghost use Rattle.form.specs.Inner.Parts.{zeros, read-numbers, of-numbers, first-of};
+
+mod name;
+
 use ast::Binary;
 use ast::Frame;
 use ast::Fused;
 use ast::Place;
 use ast::Scratched;
 use ast::Unary;
+pub use name::NameField;
+pub use name::binary_at;
+pub use name::fused_at;
+pub use name::read_name;
+pub use name::scratched_at;
+pub use name::unary_at;
 use text::Integer;
 use text::Number;
 use text::Numeral;
@@ -82,83 +89,6 @@ struct PlaceField {
 pub enum Flag {
     Is(bool),
     Malformed,
-}
-
-// ---- names, tried one after the other
-
-// A kind found before, or k if s is the name w.
-fn or_kind(found: Named, s: &[u8], w: &[u8], k: Kind) -> Named
-    ensures { λ r. ⌜ r ≡ or-kind found (cond (same (now (s .entry)) (now (w .entry))) (some k) none) ⌝ }
-{
-    match found {
-        Named::Is(_) => found,
-        Named::Unknown => {
-            if text::same(s, w) {
-                return Named::Is(k);
-            }
-            Named::Unknown
-        }
-    }
-}
-
-// The operations of two operands.
-fn binary_named(found: Named, s: &[u8]) -> Named
-    ensures { λ r. ⌜ r ≡ or-kind found (kind-in (now (s .entry)) (drop 21 names)) ⌝ }
-{
-    let n = or_kind(found, s, b"minus", Kind::Binary(Binary::Minus));
-    let n = or_kind(n, s, b"times", Kind::Binary(Binary::Times));
-    let n = or_kind(n, s, b"divide", Kind::Binary(Binary::Divide));
-    let n = or_kind(n, s, b"gt", Kind::Binary(Binary::Gt));
-    let n = or_kind(n, s, b"neq", Kind::Binary(Binary::Neq));
-    let n = or_kind(n, s, b"and", Kind::Binary(Binary::And));
-    let n = or_kind(n, s, b"andnot", Kind::Binary(Binary::Andnot));
-    let n = or_kind(n, s, b"or", Kind::Binary(Binary::Or));
-    or_kind(n, s, b"xor", Kind::Binary(Binary::Xor))
-}
-
-// The operations: first those of one operand, with and without a scratch register, and those of three.
-fn operation_named(found: Named, s: &[u8]) -> Named
-    ensures { λ r. ⌜ r ≡ or-kind found (kind-in (now (s .entry)) (drop 10 names)) ⌝ }
-{
-    let n = or_kind(found, s, b"fmov", Kind::Unary(Unary::Fmov));
-    let n = or_kind(n, s, b"recip", Kind::Unary(Unary::Recip));
-    let n = or_kind(n, s, b"round", Kind::Unary(Unary::Round));
-    let n = or_kind(n, s, b"floor", Kind::Unary(Unary::Floor));
-    let n = or_kind(n, s, b"not", Kind::Unary(Unary::Not));
-    let n = or_kind(n, s, b"sign", Kind::Scratched(Scratched::Sign));
-    let n = or_kind(n, s, b"frac", Kind::Scratched(Scratched::Frac));
-    let n = or_kind(n, s, b"fused_mul_add", Kind::Fused(Fused::MulAdd));
-    let n = or_kind(n, s, b"fused_mul_sub", Kind::Fused(Fused::MulSub));
-    let n = or_kind(n, s, b"fused_neg_mul_add", Kind::Fused(Fused::NegMulAdd));
-    let n = or_kind(n, s, b"fused_neg_mul_sub", Kind::Fused(Fused::NegMulSub));
-    binary_named(n, s)
-}
-
-// The orders: first those of a form of their own.
-fn order_named(s: &[u8]) -> Named
-    ensures { λ r. ⌜ r ≡ named (kind-in (now (s .entry)) (drop 4 names)) ⌝ }
-{
-    let n = or_kind(Named::Unknown, s, b"load_const", Kind::LoadConst);
-    let n = or_kind(n, s, b"get", Kind::Load);
-    let n = or_kind(n, s, b"put", Kind::Save);
-    let n = or_kind(n, s, b"branch", Kind::BranchIf);
-    let n = or_kind(n, s, b"label", Kind::SetLabel);
-    let n = or_kind(n, s, b"ifelse", Kind::Ifelse);
-    operation_named(n, s)
-}
-
-// What a line's first word says: a constant, line 1, or an order.
-fn kind_named(s: &[u8]) -> Named
-    ensures { λ r. ⌜ r ≡ named (kind-of (now (s .entry))) ⌝ }
-{
-    let n = or_kind(Named::Unknown, s, b"float", Kind::Float);
-    let n = or_kind(n, s, b"bits", Kind::Bits);
-    let n = or_kind(n, s, b"fast", Kind::Head(Frame::Fast));
-    let n = or_kind(n, s, b"indirect", Kind::Head(Frame::Indirect));
-    match n {
-        Named::Is(_) => n,
-        Named::Unknown => order_named(s),
-    }
 }
 
 // ---- forms: the fields behind the name start at a
@@ -367,7 +297,7 @@ fn form_body(s: &[u8]) -> Form
     ensures { λ r. ⌜ r ≡ formed (read-fields (split (now (s .entry)))) ⌝ }
 {
     let e = text::field_end(s, 0);
-    match kind_named(&s[..e]) {
+    match name::kind_named(&s[..e]) {
         Named::Is(k) => form_kind(k, s, e + 1),
         Named::Unknown => Form::Malformed,
     }

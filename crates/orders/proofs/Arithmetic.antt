@@ -1,13 +1,14 @@
--- Orders that work on registers alone do what they mean. Assumes nothing.
+-- Orders that work on registers alone, operation by operation: valid instructions, how many, and that they do what is meant. Assumes nothing.
 use mathlib.Core.Path.{_≡_, refl, ap}
 use mathlib.Core.Bool.{Bool, true, false, cond}
 use mathlib.Core.List.{List, [], _∷_, map}
-use Prim.Native.Nat.{ℕ, _<_}
+use Prim.Native.Nat.{ℕ, _≤_, _<_}
 use native.Mathlib.Omega.{arith}
 use borrow.Author.Tests.{eqb-true}
 use lib.Dec.{T, eqb}
 use lib.Bits.{bitXor, xor-self}
-use Rattle.isa.specs.Instr.{Instr, R, M, R4, XOR, FSGNJ-D, FMV-X-D, FMV-D-X}
+use lib.ListN.{length}
+use Rattle.isa.specs.Instr.{Instr, R, M, XOR, FSGNJ-D, FMV-X-D, FMV-D-X}
 use Rattle.machine.specs.Word.{upd}
 use Rattle.machine.specs.Floats.{Floats}
 use Rattle.machine.specs.State.{State, Sound, setx}
@@ -26,7 +27,7 @@ use Rattle.ast.specs.declared.Fused as Fu
 use Rattle.ast.specs.declared.Fused.the-variants.{MulAdd, MulSub, NegMulAdd, NegMulSub}
 use Rattle.assembler.specs.Item.{instr}
 use Rattle.reading.specs.Meaning.{on, unary, scratched, binary, fused}
-use Rattle.orders.specs.Code.{unary-code, scratched-code, binary-code, fused-op}
+use Rattle.orders.specs.Code.{unary-code, scratched-code, binary-code, fused-code}
 use Rattle.orders.specs.Does.{At, Done}
 use Rattle.orders.proofs.Bits.{negated, negated-inverted, sign-converted, own-sign, upd-self}
 use Rattle.orders.proofs.Items.{straight-done}
@@ -63,6 +64,44 @@ binary-valid Or d a b hd ha hb = omega arith
 binary-valid Xor d a b hd ha hb = by (eqb a b)
   where
     by : (t : Bool) → Valids (cond t (M FMV-D-X d 0 ∷ []) (M FMV-X-D 5 a ∷ M FMV-X-D 6 b ∷ R XOR 5 5 6 ∷ M FMV-D-X d 5 ∷ []))
+    by true = omega arith
+    by false = omega arith
+
+pub fused-valid : (k : Fu.Fused) (d a b c : ℕ) → d < 32 → a < 32 → b < 32 → c < 32 → Valids (fused-code k d a b c)
+fused-valid k d a b c hd ha hb hc = omega arith
+
+-- ---- no more than 11 words
+
+pub unary-length : (k : U.Unary) (d s : ℕ) → length (unary-code k d s) ≤ 11
+unfolding unary-code
+unary-length Fmov d s = by (eqb d s)
+  where
+    by : (t : Bool) → length (cond t [] (R FSGNJ-D d s s ∷ [])) ≤ 11
+    by true = omega arith
+    by false = omega arith
+unary-length Recip d s = omega arith
+unary-length Round d s = omega arith
+unary-length Floor d s = omega arith
+unary-length Not d s = omega arith
+
+pub scratched-length : (k : S.Scratched) (d s t : ℕ) → length (scratched-code k d s t) ≤ 11
+unfolding scratched-code
+scratched-length Sign d s t = omega arith
+scratched-length Frac d s t = omega arith
+
+pub binary-length : (k : Bin.Binary) (d a b : ℕ) → length (binary-code k d a b) ≤ 11
+unfolding binary-code
+binary-length Minus d a b = omega arith
+binary-length Times d a b = omega arith
+binary-length Divide d a b = omega arith
+binary-length Gt d a b = omega arith
+binary-length Neq d a b = omega arith
+binary-length And d a b = omega arith
+binary-length Andnot d a b = omega arith
+binary-length Or d a b = omega arith
+binary-length Xor d a b = by (eqb a b)
+  where
+    by : (t : Bool) → length (cond t (M FMV-D-X d 0 ∷ []) (M FMV-X-D 5 a ∷ M FMV-X-D 6 b ∷ R XOR 5 5 6 ∷ M FMV-D-X d 5 ∷ [])) ≤ 11
     by true = omega arith
     by false = omega arith
 
@@ -115,9 +154,9 @@ module _ (places : ℕ → ℕ) (start here : ℕ) (s : State) (Q : Floats) wher
           sets (M FMV-D-X d 0 ∷ []) _ (omega arith) tt (rw q) refl
       by false e = sets (M FMV-X-D 5 a ∷ M FMV-X-D 6 b ∷ R XOR 5 5 6 ∷ M FMV-D-X d 5 ∷ []) _ (omega arith) tt refl refl
 
-  pub fused-does : (k : Fu.Fused) (d a b c : ℕ) → d < 32 → a < 32 → b < 32 → c < 32 → Sets (R4 (fused-op k) d a b c 7 ∷ []) (upd (s .f) d (fused Q (s .rm) k (s .f a) (s .f b) (s .f c)))
+  pub fused-does : (k : Fu.Fused) (d a b c : ℕ) → d < 32 → a < 32 → b < 32 → c < 32 → Sets (fused-code k d a b c) (upd (s .f) d (fused Q (s .rm) k (s .f a) (s .f b) (s .f c)))
   unfolding fused effect apply setx upd temporary
-  fused-does MulAdd d a b c hd ha hb hc = sets (R4 (fused-op MulAdd) d a b c 7 ∷ []) _ (omega arith) tt refl refl
-  fused-does MulSub d a b c hd ha hb hc = sets (R4 (fused-op MulSub) d a b c 7 ∷ []) _ (omega arith) tt refl refl
-  fused-does NegMulAdd d a b c hd ha hb hc = sets (R4 (fused-op NegMulAdd) d a b c 7 ∷ []) _ (omega arith) tt refl refl
-  fused-does NegMulSub d a b c hd ha hb hc = sets (R4 (fused-op NegMulSub) d a b c 7 ∷ []) _ (omega arith) tt refl refl
+  fused-does MulAdd d a b c hd ha hb hc = sets (fused-code MulAdd d a b c) _ (fused-valid MulAdd d a b c hd ha hb hc) tt refl refl
+  fused-does MulSub d a b c hd ha hb hc = sets (fused-code MulSub d a b c) _ (fused-valid MulSub d a b c hd ha hb hc) tt refl refl
+  fused-does NegMulAdd d a b c hd ha hb hc = sets (fused-code NegMulAdd d a b c) _ (fused-valid NegMulAdd d a b c hd ha hb hc) tt refl refl
+  fused-does NegMulSub d a b c hd ha hb hc = sets (fused-code NegMulSub d a b c) _ (fused-valid NegMulSub d a b c hd ha hb hc) tt refl refl

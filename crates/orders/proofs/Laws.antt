@@ -1,25 +1,17 @@
 -- Laws of the orders' code: valid instructions, and how many words. Assumes nothing.
 use mathlib.Core.Path.{_≡_, refl}
-use mathlib.Core.Bool.{Bool, true, false, cond}
 use mathlib.Core.List.{List, [], _∷_, _++_, map}
 use Prim.Native.Nat.{ℕ, _*_, _≤_}
 use native.Mathlib.Omega.{arith}
-use lib.Dec.{eqb}
 use lib.IntN.{pos}
 use lib.ListN.{length, length-append}
-use Rattle.isa.specs.Instr.{Instr, M, R, R4, I, S, LD, FLD, FSD, FSGNJ-D, FMV-X-D, FMV-D-X, XOR}
+use Rattle.isa.specs.Instr.{Instr, I, S, LD, FLD, FSD}
 use Rattle.machine.specs.Step.{words}
 use Rattle.machine.proofs.Placed.{Valids}
 use Rattle.ast.specs.Constant.{constant-label, last-constant}
 use Rattle.ast.specs.declared.Order.{Order}
 use Rattle.ast.specs.declared.Order.the-variants.{Unary, Scratched, Binary, Fused, Ifelse, LoadConst, Load, Save, BranchIf, SetLabel}
 use Rattle.ast.specs.declared.Place.the-variants.{Stack}
-use Rattle.ast.specs.declared.Unary as U
-use Rattle.ast.specs.declared.Unary.the-variants.{Fmov, Recip, Round, Floor, Not}
-use Rattle.ast.specs.declared.Scratched as Sc
-use Rattle.ast.specs.declared.Scratched.the-variants.{Sign, Frac}
-use Rattle.ast.specs.declared.Binary as Bin
-use Rattle.ast.specs.declared.Binary.the-variants.{Minus, Times, Divide, Gt, Neq, And, Andnot, Or, Xor}
 use Rattle.assembler.specs.Item.{instr}
 use Rattle.assembler.specs.Resolved.{resolved}
 use Rattle.accesses.specs.Code.{near-one, load-float-code, save-float-code, load-int-code}
@@ -28,10 +20,10 @@ use Rattle.accesses.proofs.Then.{valids-join}
 use Rattle.accesses.proofs.Runs.{access-length, load-float-valid, save-float-valid, load-int-valid}
 use Rattle.reading.specs.Line.{Line, order, constant, weight}
 use Rattle.ast.specs.Uses.{order-weight}
-use Rattle.orders.specs.Code.{base, unary-code, scratched-code, binary-code, fused-op, choose-code, skip, code, line-code, resolve}
+use Rattle.orders.specs.Code.{base, unary-code, scratched-code, binary-code, fused-code, choose-code, skip, code, line-code, resolve}
 use Rattle.orders.specs.Fault.{fault, last-user-label}
 use Rattle.orders.proofs.Items.{resolve-instrs, resolved-instrs, resolved-length, registers-below, checked-below}
-use Rattle.orders.proofs.Arithmetic.{unary-valid, scratched-valid, binary-valid}
+use Rattle.orders.proofs.Arithmetic.{unary-valid, scratched-valid, binary-valid, fused-valid, unary-length, scratched-length, binary-length}
 use Rattle.orders.proofs.Cells.{cell-accepted}
 use Rattle.orders.proofs.Jumps.{const-valid, branch-valid}
 
@@ -72,7 +64,7 @@ module _ (places : ℕ → ℕ) (here : ℕ) where
       instrs-valid (binary-code k d a b) (binary-valid k d a b (r .0) (r .1 .0) (r .1 .1 .0))
   code-valid (Fused k d a b c) h =
       let r = registers-below (d ∷ a ∷ b ∷ c ∷ []) h in
-      instrs-valid (R4 (fused-op k) d a b c 7 ∷ []) (omega arith)
+      instrs-valid (fused-code k d a b c) (fused-valid k d a b c (r .0) (r .1 .0) (r .1 .1 .0) (r .1 .1 .1 .0))
   code-valid (Ifelse d a b i) h =
       let r = checked-below (d ∷ a ∷ b ∷ []) (8 * i) offset-limit 1 h in
       let is : List Instr = load-int-code 5 (base Stack) (8 * i) in
@@ -93,39 +85,6 @@ module _ (places : ℕ → ℕ) (here : ℕ) where
   code-valid (SetLabel l) h = tt
 
   -- ---- no order has more than 11 words
-
-  unary-length : (k : U.Unary) (d s : ℕ) → length (unary-code k d s) ≤ 11
-  unfolding unary-code
-  unary-length Fmov d s = by (eqb d s)
-    where
-      by : (t : Bool) → length (cond t [] (R FSGNJ-D d s s ∷ [])) ≤ 11
-      by true = omega arith
-      by false = omega arith
-  unary-length Recip d s = omega arith
-  unary-length Round d s = omega arith
-  unary-length Floor d s = omega arith
-  unary-length Not d s = omega arith
-
-  scratched-length : (k : Sc.Scratched) (d s t : ℕ) → length (scratched-code k d s t) ≤ 11
-  unfolding scratched-code
-  scratched-length Sign d s t = omega arith
-  scratched-length Frac d s t = omega arith
-
-  binary-length : (k : Bin.Binary) (d a b : ℕ) → length (binary-code k d a b) ≤ 11
-  unfolding binary-code
-  binary-length Minus d a b = omega arith
-  binary-length Times d a b = omega arith
-  binary-length Divide d a b = omega arith
-  binary-length Gt d a b = omega arith
-  binary-length Neq d a b = omega arith
-  binary-length And d a b = omega arith
-  binary-length Andnot d a b = omega arith
-  binary-length Or d a b = omega arith
-  binary-length Xor d a b = by (eqb a b)
-    where
-      by : (t : Bool) → length (cond t (M FMV-D-X d 0 ∷ []) (M FMV-X-D 5 a ∷ M FMV-X-D 6 b ∷ R XOR 5 5 6 ∷ M FMV-D-X d 5 ∷ [])) ≤ 11
-      by true = omega arith
-      by false = omega arith
 
   instrs-length : (is : List Instr) → length is ≤ 11 → length (resolved places here (map instr is)) ≤ 11
   instrs-length is h = rw (resolved-length places here is) h

@@ -7,7 +7,7 @@ use Prim.Native.Nat.{ℕ, zero, suc, _+_, _*_, _%_, _≤_, _<_}
 use native.Mathlib.Nat.{zero-add}
 use native.Mathlib.Omega.{arith}
 use borrow.Author.Tests.{lt-ltb, le-leb, lt-leb, leb-true, leb-false, eq-eqb, eqb-true}
-use lib.Dec.{T, leb, eqb, leb→le}
+use lib.Dec.{T, leb, leb→le}
 use lib.ListN.{length, length-append, length-map, getD}
 use Rattle.isa.specs.Instr.{Instr}
 use Rattle.isa.specs.Encode.{encode}
@@ -24,6 +24,7 @@ use Rattle.assembler.specs.declared.Asm.{Asm}
 use Rattle.assembler.specs.declared.Fault.{Fault}
 use Rattle.assembler.specs.declared.Plan.{Plan}
 use Rattle.assembler.specs.declared.Tail.{Tail}
+use Rattle.assembler.specs.declared.Tail.the-variants as Tails
 use Rattle.assembler.proofs.Checks.{v-good}
 use Rattle.assembler.proofs.Items.{with-words, placed-append, placed-raw, words-append, jumps-append, labels-append, words-raw, jumps-raw, labels-raw, words-tail, jumps-tail, labels-tail}
 use Rattle.assembler.proofs.Plans.{put-fault, put-same, earlier-none}
@@ -44,7 +45,7 @@ use Rattle.orders.specs.Fault.{operand-fault, fault, last-user-label}
 use Rattle.ast.specs.Constant.{last-constant}
 use Rattle.orders.specs.Parts.{instrs, rest-items, behind-operand, rest-of, rest-fault}
 use Rattle.orders.specs.declared.Rest.{Rest}
-use Rattle.orders.specs.declared.Rest.the-variants.{Jumps, Label}
+use Rattle.orders.specs.declared.Rest.the-variants.{Jumps, Label, Alone}
 use Rattle.orders.specs.Wrote.{word, Puts}
 use Rattle.orders.proofs.Wrote.{words-valid}
 use Rattle.orders.proofs.Items.{below}
@@ -130,22 +131,23 @@ rest-right (Save s p i) = sym (append-nil _)
 rest-right (BranchIf c l e) = refl
 rest-right (SetLabel l) = refl
 
--- a label has no instructions
-abbrev pub Alone : Rest → List Instr → Type 0
-Alone (Jumps t) is = Unit {0}
-Alone (Label l) is = is ≡ []
+-- a label, and jumps alone, have no instructions
+abbrev pub Bare : Rest → List Instr → Type 0
+Bare (Jumps t) is = Unit {0}
+Bare (Label l) is = is ≡ []
+Bare (Alone t) is = is ≡ []
 
-rest-alone : (o : Order) → Alone (rest-of o) (instrs o)
-rest-alone (Unary k d s) = tt
-rest-alone (Scratched k d s t) = tt
-rest-alone (Binary k d a b) = tt
-rest-alone (Fused k d a b c) = tt
-rest-alone (Ifelse d a b i) = tt
-rest-alone (LoadConst d k) = tt
-rest-alone (Load d p i) = tt
-rest-alone (Save s p i) = tt
-rest-alone (BranchIf c l e) = tt
-rest-alone (SetLabel l) = refl
+rest-bare : (o : Order) → Bare (rest-of o) (instrs o)
+rest-bare (Unary k d s) = tt
+rest-bare (Scratched k d s t) = tt
+rest-bare (Binary k d a b) = tt
+rest-bare (Fused k d a b c) = tt
+rest-bare (Ifelse d a b i) = tt
+rest-bare (LoadConst d k) = refl
+rest-bare (Load d p i) = tt
+rest-bare (Save s p i) = tt
+rest-bare (BranchIf c l e) = tt
+rest-bare (SetLabel l) = refl
 
 first-below : (rs : List ℕ) → T (registers-fit rs) → getD rs 0 0 < 32
 first-below [] h = omega arith
@@ -171,10 +173,11 @@ module _ (places : ℕ → ℕ) (js : List Item) where
   front-valid here [] v = tt
   front-valid here (i ∷ is) v = (v .0, front-valid (here + 4) is (v .1))
 
-  front-length : (here : ℕ) (is : List Instr) → length is ≤ length (resolved places here (map instr is ++ js))
-  unfolding resolved
-  front-length here [] = omega arith
-  front-length here (i ∷ is) = omega (arith, front-length (here + 4) is)
+  module _ (k : ℕ) (h : (here : ℕ) → k ≤ length (resolved places here js)) where
+    front-length : (here : ℕ) (is : List Instr) → length is + k ≤ length (resolved places here (map instr is ++ js))
+    unfolding resolved
+    front-length here [] = omega (arith, h here)
+    front-length here (i ∷ is) = omega (arith, front-length (here + 4) is)
 
 nowhere : ℕ → ℕ
 nowhere l = 0
@@ -188,10 +191,20 @@ light : (s : Option ℕ) → weighs s ≤ 1
 light none = omega arith
 light (some l) = omega arith
 
+-- an order's instructions and k words behind them
+together : (o : Order) (js : List Item) (k : ℕ) → code o ≡ map instr (instrs o) ++ js → ((here : ℕ) → k ≤ length (resolved nowhere here js)) → length (instrs o) + k ≤ 11
+together o js k g h =
+    let e : length (resolved nowhere 0 (map instr (instrs o) ++ js)) ≤ 11 * order-weight o = rw g at (code-length nowhere 0 o) in
+    omega (arith, e, front-length nowhere js k h 0 (instrs o), light (sets o))
+
 pub order-short : (o : Order) → length (instrs o) ≤ 11
-order-short o =
-    let e : length (resolved nowhere 0 (map instr (instrs o) ++ rest-items (rest-of o))) ≤ 11 * order-weight o = rw (rest-right o) at (code-length nowhere 0 o) in
-    omega (arith, e, front-length nowhere (rest-items (rest-of o)) 0 (instrs o), light (sets o))
+order-short o = omega (arith, together o (rest-items (rest-of o)) 0 (rest-right o) (λ here. omega arith))
+
+tail-length : (t : Tail) (here : ℕ) → length (tail-items t) ≤ length (resolved nowhere here (tail-items t))
+unfolding resolved
+tail-length Tails.Nothing here = omega arith
+tail-length (Tails.One k l r) here = omega arith
+tail-length (Tails.Pair k l r) here = omega arith
 
 -- ---- asked for
 
@@ -247,6 +260,17 @@ takes w j n a e = by (a .closed) (sound n a) (fits n a w j) refl refl refl e
           jumps-for = leb-true _ _ (z .1);
         }
 
+-- n words are asked for in place of w: none where the longest order has room
+needed-fits : (size : ℕ) (a : Asm) (n w j : ℕ) → w + j ≤ 11 → n ≡ cond (leb (a .len + 44) (room size)) 0 w → fits size a (n + j) j ≡ fits size a (w + j) j
+unfolding fits
+needed-fits size a n w j h e = by (leb (a .len + 44) (room size)) refl e
+  where
+    by : (t : Bool) → leb (a .len + 44) (room size) ≡ t → n ≡ cond t 0 w → leb (a .len + 4 * (n + j)) (room size) && leb (a .jumps + j) 4096 ≡ leb (a .len + 4 * (w + j)) (room size) && leb (a .jumps + j) 4096
+    by true l e =
+        let m : a .len + 44 ≤ room size = leb-true _ _ l in
+        rw (le-leb (a .len + 4 * (n + j)) (room size) (omega (arith, m, e, h)), le-leb (a .len + 4 * (w + j)) (room size) (omega (arith, m, h)))
+    by false l e = rw e
+
 -- w words on, it takes the jumps still
 rest-taken : (w j n : ℕ) (a : Asm) → Takes (w + j) j n a → verdict 0 false j j n (record { len = a .len + 4 * w; jumps = a .jumps; closed = a .closed }) ≡ 0
 unfolding sound fits
@@ -280,9 +304,9 @@ module _ (ws : List ℕ) (t : Tail) (tag : ℕ) (s : State) where
 -- ---- an order
 
 -- what stands behind the instructions, by its case
-pub behind-as : (o : Order) → fault o ≡ 0 → (r : Rest) → rest-of o ≡ r → (code o ≡ map instr (instrs o) ++ rest-items r) × (rest-fault r ≡ 0) × Alone r (instrs o)
+pub behind-as : (o : Order) → fault o ≡ 0 → (r : Rest) → rest-of o ≡ r → (code o ≡ map instr (instrs o) ++ rest-items r) × (rest-fault r ≡ 0) × Bare r (instrs o)
 behind-as o h r e =
-    subst (λ (q : Rest). (code o ≡ map instr (instrs o) ++ rest-items q) × (rest-fault q ≡ 0) × Alone q (instrs o)) e (rest-right o, rest-fits o h, rest-alone o)
+    subst (λ (q : Rest). (code o ≡ map instr (instrs o) ++ rest-items q) × (rest-fault q ≡ 0) × Bare q (instrs o)) e (rest-right o, rest-fits o h, rest-bare o)
 
 -- refused for an operand
 pub order-refused : (o : Order) (tag : ℕ) (s : State) (f : Fault) (x : Outcome) → fault-number f ≡ fault o → (fault-number f ≡ 0 → ⊥) → x ≡ settled (verdict (earlier (fault-number f) 0) (twice (s .labels) []) 0 0 (length (s .buf)) (s .asm)) s s → x ≡ put tag (fault o) (code o) s
@@ -300,11 +324,11 @@ module _ (o : Order) (t : Tail) (tag : ℕ) (s : State) (z : fault o ≡ 0) (g :
   as-words : put tag 0 (map raw ws ++ tail-items t) s ≡ put tag (fault o) (code o) s
   as-words = put-same (tail-items t) tag 0 (instrs o) s ∙ ap₂ (λ (k : ℕ) (l : List Item). put tag k l s) (sym z) (sym g)
 
-  -- asked for n words and j jumps
-  module _ (n j : ℕ) (x : Outcome) (en : n ≡ length (instrs o)) (ej : j ≡ length (tail-items t)) (q : x ≡ settled (verdict 0 (twice (s .labels) []) (n + j) j (length (s .buf)) (s .asm)) s s) where
+  -- asked for n words and j jumps: n is the count of instructions, or 0 where any order has room
+  module _ (n j : ℕ) (x : Outcome) (en : n ≡ cond (leb (s .asm .len + 44) (room (length (s .buf)))) 0 (length (instrs o))) (ej : j ≡ length (tail-items t)) (q : x ≡ settled (verdict 0 (twice (s .labels) []) (n + j) j (length (s .buf)) (s .asm)) s s) where
     number : verdict 0 (twice (s .labels) []) (n + j) j (length (s .buf)) (s .asm) ≡ verdict 0 false (length ws + length (tail-items t)) (length (tail-items t)) (length (s .buf)) (s .asm)
-    unfolding twice
-    number = rw (en, ej, length-map (instrs o) encode)
+    unfolding twice verdict
+    number = rw (ej, needed-fits (length (s .buf)) (s .asm) n (length (instrs o)) (length (tail-items t)) (together o (tail-items t) _ g (tail-length t)) en, length-map (instrs o) encode)
 
     pub order-full : mark (x .answer) ≡ 1 → x ≡ put tag (fault o) (code o) s
     unfolding put
@@ -330,6 +354,11 @@ pub order-label : (o : Order) (tag : ℕ) (s : State) (l : ℕ) → fault o ≡ 
 order-label o tag s l h g z n =
     let e : code o ≡ label l ∷ [] = g ∙ ap (λ (is : List Instr). map instr is ++ (label l ∷ [])) n in
     put-label 0 tag (label-fault l) l s ∙ ap₂ (λ (k : ℕ) (is : List Item). put tag k is s) (z ∙ sym h) (sym e)
+
+pub order-alone : (o : Order) (tag : ℕ) (s : State) (t : Tail) (p : Plan) → fault o ≡ 0 → code o ≡ map instr (instrs o) ++ tail-items t → tail-fault t ≡ 0 → instrs o ≡ [] → p ≡ no-words → put tag (plan-fault p t) (plan-items p t) s ≡ put tag (fault o) (code o) s
+order-alone o tag s t p h g z n q =
+    let e : code o ≡ tail-items t = g ∙ ap (λ (is : List Instr). map instr is ++ tail-items t) n in
+    rw (q, z) (ap₂ (λ (k : ℕ) (is : List Item). put tag k is s) (sym h) (sym e))
 
 -- ---- an order of a deck
 

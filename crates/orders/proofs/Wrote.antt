@@ -7,23 +7,25 @@ use native.Mathlib.Nat.{mod-eq-of-lt}
 use native.Mathlib.Omega.{arith}
 use borrow.Author.Tests.{lt-ltb, le-ltb, le-leb, lt-leb, leb-true, leb-false}
 use lib.Dec.{leb}
-use lib.IntN.{ℤ, pos}
+use lib.IntN.{pos}
 use lib.ListN.{length, length-append, length-map, length-drop, take, drop}
 use lib.Seq.{length-take-le, drop-length, drop-drop}
 use Rattle.isa.specs.Immediate.{hi, lo}
-use Rattle.isa.specs.Instr.{Instr, R, I, U, ADD, ADDI, LUI}
+use Rattle.isa.specs.Instr.{Instr, R, I, U, ADD, ADDI, LUI, operands, registers-hold, valid}
 use Rattle.isa.specs.Encode.{encode}
 use Rattle.machine.proofs.Placed.{Valids}
 use Rattle.encoder.specs.Answer.{word-answer, encoded}
 use Rattle.encoder.specs.declared.Encoded.{Encoded}
+use Rattle.encoder.specs.declared.Encoded.the-variants.{Word, Refused}
+use Rattle.refusal.specs.declared.Refusal.the-variants.{Register, Value}
+use Rattle.encoder.proofs.Answers.{good, bad-value, bad-register}
 use Rattle.assembler.specs.Bytes.{bytes, written, room}
 use Rattle.assembler.proofs.Writes.{written-is, written-none, written-then}
 use Rattle.accesses.specs.Code.{point-code, access-code}
-use Rattle.accesses.specs.Plans.{word-of, access-instr, one-code}
+use Rattle.accesses.specs.Plans.{answer-of, word-of, access-instr, one-code}
 use Rattle.accesses.specs.declared.Cell.{Cell}
 use Rattle.accesses.proofs.Collect.{answered, li-far, word as answers-word}
-use Rattle.accesses.proofs.Numbers.{answered-at}
-use Rattle.orders.specs.Wrote.{word, no-room, roomy, offset, Puts, Fits}
+use Rattle.orders.specs.Wrote.{word, no-room, roomy, offset, Puts, Fits, Is, far-code}
 
 -- words written at the start
 start-written : (b ws : List ℕ) → 4 * length ws ≤ length b → written b 0 ws ≡ bytes ws ++ drop (4 * length ws) b
@@ -56,12 +58,20 @@ put-then b len xs ys {c} p q = (
   omega (arith, p .1, q .1, length-append xs ys),
 )
 
--- the encoder's word
-pub word-is : (e : Encoded) (i : Instr) {w : ℕ} → w ≡ word-of e → word-answer e ≡ encoded i → w ≡ word i
+-- ---- the encoder's answers
+
+-- a word of it
+pub word-is : (e : Encoded) (i : Instr) {w : ℕ} → w ≡ word-of e → Is e i → w ≡ word i
 word-is e i h t = h ∙ ap word-of (answered e i t)
 
-pub word-at : (e : Encoded) (f : ℤ → Instr) {w : ℕ} {z y : ℤ} → w ≡ word-of e → word-answer e ≡ encoded (f z) → z ≡ y → w ≡ word (f y)
-word-at e f h t q = h ∙ ap word-of (answered-at e f t q)
+-- told by the answer itself
+pub is-answer : (e : Encoded) (i : Instr) → e ≡ answer-of i → Is e i
+is-answer e i h = ap word-answer h ∙ by (registers-hold (operands i)) (valid i) refl refl
+  where
+    by : (b c : Bool) → registers-hold (operands i) ≡ b → valid i ≡ c → word-answer (cond b (cond c (Word (encode i)) (Refused Value 0)) (Refused Register 0)) ≡ encoded i
+    by true true p q = good i q (encode i) refl p
+    by true false p q = bad-value i p q
+    by false c p q = bad-register i p
 
 abbrev pub Words : List ℕ → List Instr → Type 0
 Words [] [] = Unit {0}
@@ -77,9 +87,6 @@ same-words (w ∷ ws) (i ∷ is) h = ap₂ _∷_ (h .0) (same-words ws is (h .1)
 
 pub wrote : (b : List ℕ) (len : ℕ) (ws : List ℕ) (is : List Instr) {d : List ℕ} {r : ℕ} → Words ws is → Puts ws b len d r → Puts (map word is) b len d r
 wrote b len ws is {d} {r} h g = subst (λ (l : List ℕ). Puts l b len d r) (same-words ws is h) g
-
-pub wrote-far : (b : List ℕ) (len last : ℕ) {x y z u v w : ℕ} {d : List ℕ} {r : ℕ} → x ≡ u → y ≡ v → z ≡ w → Puts (x ∷ y ∷ z ∷ last ∷ []) b len d r → Puts (u ∷ v ∷ w ∷ last ∷ []) b len d r
-wrote-far b len last p q s g = rw (p, q, s) at g
 
 pub wrote-then : (b : List ℕ) (len : ℕ) (is js : List Instr) {c d : List ℕ} {k r : ℕ} → Puts (map word is) b len c k → Puts (map word js) c k d r → Puts (map word (is ++ js)) b len d r
 wrote-then b len is js {d = d} {r = r} p q =
@@ -114,15 +121,12 @@ offset-small i h = ap (λ (n : ℕ). 8 * n) (mod-eq-of-lt h)
 
 -- ---- accesses: one word, or four
 
-abbrev pub far-code : Cell → (r base n : ℕ) → List Instr
-far-code k r base n = U LUI 5 (pos (hi n)) ∷ I ADDI 5 5 (lo n) ∷ R ADD 5 5 base ∷ access-instr k r 5 (pos 0) ∷ []
-
 module _ (k : Cell) (r base n : ℕ) where
   pub near-is : n < 2048 → one-code k r base n ≡ access-instr k r base (pos n) ∷ []
   unfolding access-code
   near-is l = rw (lt-ltb n 2048 l)
 
-  pub far-is : 2048 ≤ n → n < 2 ^ 32 → one-code k r base n ≡ far-code k r base n
+  pub far-is : 2048 ≤ n → n < 2 ^ 32 → one-code k r base n ≡ far-code (access-instr k r 5 (pos 0)) base n
   unfolding access-code point-code
   far-is l m =
       rw (le-ltb n 2048 l)

@@ -19,7 +19,7 @@ use Rattle.ast.specs.declared.Order.{Order}
 use Rattle.ast.specs.declared.Order.the-variants.{Unary, Scratched, Binary, Fused, Ifelse, LoadConst, Load, Save, BranchIf, SetLabel}
 use Rattle.orders.specs.Code.{base, unary-code, scratched-code, binary-code, fused-code, ifelse-code, skip}
 use Rattle.orders.specs.declared.Rest.{Rest}
-use Rattle.orders.specs.declared.Rest.the-variants.{Jumps, Label}
+use Rattle.orders.specs.declared.Rest.the-variants.{Jumps, Label, Alone}
 
 -- the branch over a jump
 abbrev pub skip-code : (c : ℕ) → Bool → List Instr
@@ -41,13 +41,14 @@ instrs (SetLabel l) = []
 abbrev pub rest-items : Rest → List Item
 rest-items (Jumps t) = tail-items t
 rest-items (Label l) = label l ∷ []
+rest-items (Alone t) = tail-items t
 
 -- by the operand that is no register, and the first register
 abbrev pub behind-operand : Operand → (d : ℕ) → Rest
 behind-operand Nothing d = Jumps Tail.Nothing
 behind-operand (Loaded p i) d = Jumps Tail.Nothing
 behind-operand (Stored p i) d = Jumps Tail.Nothing
-behind-operand (Constant k) d = Jumps (Tail.Pair Fld (constant-label k) d)
+behind-operand (Constant k) d = Alone (Tail.Pair Fld (constant-label k) d)
 behind-operand (GoneTo l) d = Jumps (Tail.Pair Jalr l zero)
 behind-operand (Set l) d = Label l
 
@@ -57,3 +58,4 @@ rest-of o = behind-operand (uses o .operand) (getD (uses o .registers) 0 0)
 abbrev pub rest-fault : Rest → ℕ
 rest-fault (Jumps t) = tail-fault t
 rest-fault (Label l) = label-fault l
+rest-fault (Alone t) = tail-fault t

@@ -2,20 +2,18 @@
 ghost use mathlib.Core.Path.{_≡_};
 ghost use mathlib.Core.Bool.{cond};
 ghost use mathlib.Core.List.{_++_, map};
-ghost use Prim.Native.Nat.{ℕ, _≤_};
+ghost use Prim.Native.Nat.{_≤_};
 ghost use lib.Dec.{leb};
 ghost use lib.ListN.{length};
 ghost use Rattle.assembler.specs.Item.{instr};
 ghost use Rattle.assembler.specs.State.{before, after};
 ghost use Rattle.assembler.specs.Plan.{fault-number, tail-items, tail-fault};
-ghost use Rattle.accesses.specs.Plans.{one-code};
-ghost use Rattle.accesses.specs.declared.Cell.{Cell};
-ghost use Rattle.orders.specs.Code.{code, unary-code, scratched-code, binary-code};
+ghost use Rattle.orders.specs.Code.{code};
 ghost use Rattle.orders.specs.Fault.{fault as fault-of, operand-fault};
 ghost use Rattle.orders.specs.Emitted.{emitted, emitted-in};
 ghost use Rattle.orders.specs.Parts.{instrs, rest-of};
 
-mod named;
+pub mod named;
 mod write;
 
 use assembler::Answer;
@@ -27,44 +25,10 @@ use assembler::Jumps;
 use assembler::Labels;
 use assembler::Sets;
 use assembler::Tail;
-use ast::Binary;
 use ast::Head;
 use ast::Operand;
 use ast::Order;
-use ast::Scratched;
-use ast::Unary;
 use encoder::ZERO;
-pub use named::and;
-pub use named::andnot;
-pub use named::branch_if;
-pub use named::divide;
-pub use named::floor;
-pub use named::fmov;
-pub use named::frac;
-pub use named::fused_mul_add;
-pub use named::fused_mul_sub;
-pub use named::fused_neg_mul_add;
-pub use named::fused_neg_mul_sub;
-pub use named::gt;
-pub use named::ifelse;
-pub use named::load_const;
-pub use named::load_d_from_loc;
-pub use named::load_mem;
-pub use named::load_param;
-pub use named::load_stack;
-pub use named::minus;
-pub use named::neq;
-pub use named::not;
-pub use named::or;
-pub use named::recip;
-pub use named::round;
-pub use named::save_d_to_loc;
-pub use named::save_mem;
-pub use named::save_stack;
-pub use named::set_label;
-pub use named::sign;
-pub use named::times;
-pub use named::xor;
 use refusal::Refusal;
 pub use write::NO_ROOM;
 pub use write::write_binary;
@@ -75,10 +39,11 @@ pub use write::write_save;
 pub use write::write_scratched;
 pub use write::write_unary;
 
-// What stands behind the instructions of an order: jumps; or it is a label, and has no instructions.
+// What stands behind the instructions of an order: jumps. Or it has no instructions, and is a label or jumps alone.
 enum Rest {
     Jumps(Tail),
     Label(u32),
+    Alone(Tail),
 }
 
 // ---- refusals
@@ -122,69 +87,6 @@ pub fn fault(o: Order) -> Fault
     Fault::Register
 }
 
-// ---- how many instructions
-
-fn unary_count(k: Unary, d: u32, s: u32) -> usize
-    ensures { λ r. ⌜ r ≡ length (unary-code k d s) ⌝ }
-{
-    match k {
-        Unary::Fmov => if d == s { 0 } else { 1 },
-        Unary::Recip => 3,
-        Unary::Round => 2,
-        Unary::Floor => 2,
-        Unary::Not => 3,
-    }
-}
-
-fn scratched_count(k: Scratched) -> usize
-    ensures { λ r. ⌜ ((d s t : ℕ) → r ≡ length (scratched-code k d s t)) ⌝ }
-{
-    match k {
-        Scratched::Sign => 5,
-        Scratched::Frac => 3,
-    }
-}
-
-fn binary_count(k: Binary, a: u32, b: u32) -> usize
-    ensures { λ r. ⌜ ((d : ℕ) → r ≡ length (binary-code k d a b)) ⌝ }
-{
-    match k {
-        Binary::Minus => 1,
-        Binary::Times => 1,
-        Binary::Divide => 1,
-        Binary::Gt => 3,
-        Binary::Neq => 4,
-        Binary::And => 4,
-        Binary::Andnot => 5,
-        Binary::Or => 4,
-        Binary::Xor => if a == b { 1 } else { 4 },
-    }
-}
-
-fn access_count(n: u32) -> usize
-    ensures { λ r. ⌜ (r ≤ 4) × ((k : Cell) (x base : ℕ) → r ≡ length (one-code k x base n)) ⌝ }
-{
-    if n < 2048 { 1 } else { 4 }
-}
-
-fn count(o: Order) -> usize
-    requires { ⌜ fault-of o ≡ 0 ⌝ }
-    ensures { λ r. ⌜ r ≡ length (instrs o) ⌝ }
-{
-    match o {
-        Order::Unary(k, d, s) => unary_count(k, d, s),
-        Order::Scratched(k, _, _, _) => scratched_count(k),
-        Order::Binary(k, _, a, b) => binary_count(k, a, b),
-        Order::Fused(_, _, _, _, _) => 1,
-        Order::Ifelse(_, _, _, i) => access_count(8 * i) + 7,
-        Order::LoadConst(_, _) => 0,
-        Order::Load(_, _, i) => access_count(8 * i),
-        Order::Save(_, _, i) => access_count(8 * i),
-        Order::BranchIf(_, _, _) => 2,
-        Order::SetLabel(_) => 0,
-    }
-}
-
 // ---- placed
 
 fn behind(o: Order) -> Rest
@@ -197,7 +99,7 @@ fn behind(o: Order) -> Rest
         Operand::Nothing => Rest::Jumps(Tail::Nothing),
         Operand::Loaded(_, _) => Rest::Jumps(Tail::Nothing),
         Operand::Stored(_, _) => Rest::Jumps(Tail::Nothing),
-        Operand::Constant(k) => Rest::Jumps(Tail::Pair(JumpKind::Fld, 1024 + k, u.a)),
+        Operand::Constant(k) => Rest::Alone(Tail::Pair(JumpKind::Fld, 1024 + k, u.a)),
         Operand::GoneTo(l) => Rest::Jumps(Tail::Pair(JumpKind::Jalr, l, ZERO)),
         Operand::Set(l) => Rest::Label(l),
     }
@@ -230,7 +132,7 @@ fn place(
     let d = assembler::check_whole(
         Fault::Nothing,
         Sets::Nothing,
-        count(o) + j,
+        write::needed(o, buf.len(), asm.len) + j,
         j,
         buf,
         labels,
@@ -271,6 +173,7 @@ pub fn emit(
     match r {
         Rest::Jumps(t) => place(o, t, tag, buf, labels, jumps, asm),
         Rest::Label(l) => assembler::set_label(l, buf, labels, jumps, asm),
+        Rest::Alone(t) => assembler::place(assembler::no_plan(), t, tag, buf, labels, jumps, asm),
     }
 }
 

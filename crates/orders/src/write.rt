@@ -1,17 +1,18 @@
 // The instructions of the orders, written into the buffer from numbers alone.
 ghost use mathlib.Core.Path.{_≡_};
+ghost use mathlib.Core.Bool.{cond};
 ghost use mathlib.Core.List.{[], _∷_};
 ghost use Prim.Native.Nat.{_+_, _≤_};
 ghost use lib.Dec.{leb};
 ghost use lib.ListN.{length};
-ghost use Rattle.isa.specs.Instr.{R4};
+ghost use Rattle.isa.specs.Instr.{Instr, R4};
 ghost use Rattle.assembler.specs.Bytes.{room};
 ghost use Rattle.accesses.specs.Code.{load-float-code, save-float-code};
-ghost use Rattle.accesses.specs.Plans.{answer-of, one-code};
+ghost use Rattle.accesses.specs.Plans.{one-code};
 ghost use Rattle.orders.specs.Code.{base, unary-code, scratched-code, binary-code, fused-op, fused-code, choose-code, ifelse-code};
 ghost use Rattle.orders.specs.Fault.{fault as fault-of};
 ghost use Rattle.orders.specs.Parts.{instrs, skip-code};
-ghost use Rattle.orders.specs.Wrote.{Wrote, offset, Put, Put-code, Fits, bits-words, far-words};
+ghost use Rattle.orders.specs.Wrote.{Wrote, offset, Is, Put-code, Fits, bits-code, far-code};
 use accesses::Cell;
 use ast::Binary;
 use ast::Fused;
@@ -32,7 +33,7 @@ use encoder::ZERO;
 const F10: u32 = 10;
 
 fn fused(k: Fused, d: u32, a: u32, b: u32, c: u32) -> Encoded
-    ensures { λ r. ⌜ r ≡ answer-of (R4 (fused-op k) d a b c 7) ⌝ }
+    ensures { λ r. ⌜ Is r (R4 (fused-op k) d a b c 7) ⌝ }
 {
     match k {
         Fused::MulAdd => encoder::fmadd_d(d, a, b, c),
@@ -52,45 +53,57 @@ fn base_of(p: Place) -> u32
     }
 }
 
-// ---- one to five words
+// ---- one to five words, from the encoder's answers for instructions
 
-fn put_one(buf: &mut [u8], len: usize, a: u32) -> usize
+fn put_one(buf: &mut [u8], len: usize, a: Encoded) -> usize
     requires { ⌜ len + 4 ≤ length (now buf) ⌝ }
-    ensures { λ r. ⌜ Put (a ∷ []) len buf r ⌝ }
+    ensures { λ r. ⌜ (r ≡ len + 4) × ((i : Instr) → Is a i → Put-code (i ∷ []) len buf r) ⌝ }
 {
     let end = len + 4;
-    assembler::write_word(&mut buf[len..end], 0, a);
+    assembler::write_word(&mut buf[len..end], 0, accesses::word(a));
     end
 }
 
-fn put_two(buf: &mut [u8], len: usize, a: u32, b: u32) -> usize
+fn put_two(buf: &mut [u8], len: usize, a: Encoded, b: Encoded) -> usize
     requires { ⌜ len + 8 ≤ length (now buf) ⌝ }
-    ensures { λ r. ⌜ Put (a ∷ b ∷ []) len buf r ⌝ }
+    ensures { λ r. ⌜ (r ≡ len + 8) × ((i j : Instr) → Is a i → Is b j → Put-code (i ∷ j ∷ []) len buf r) ⌝ }
 {
     let next = put_one(buf, len, a);
     put_one(buf, next, b)
 }
 
-fn put_three(buf: &mut [u8], len: usize, a: u32, b: u32, c: u32) -> usize
+fn put_three(buf: &mut [u8], len: usize, a: Encoded, b: Encoded, c: Encoded) -> usize
     requires { ⌜ len + 12 ≤ length (now buf) ⌝ }
-    ensures { λ r. ⌜ Put (a ∷ b ∷ c ∷ []) len buf r ⌝ }
+    ensures { λ r. ⌜ (r ≡ len + 12) × ((i j k : Instr) → Is a i → Is b j → Is c k → Put-code (i ∷ j ∷ k ∷ []) len buf r) ⌝ }
 {
     let next = put_two(buf, len, a, b);
     put_one(buf, next, c)
 }
 
-fn put_four(buf: &mut [u8], len: usize, a: u32, b: u32, c: u32, d: u32) -> usize
+fn put_four(buf: &mut [u8], len: usize, a: Encoded, b: Encoded, c: Encoded, d: Encoded) -> usize
     requires { ⌜ len + 16 ≤ length (now buf) ⌝ }
-    ensures { λ r. ⌜ Put (a ∷ b ∷ c ∷ d ∷ []) len buf r ⌝ }
+    ensures { λ r. ⌜ (r ≡ len + 16) × ((i j k l : Instr) → Is a i → Is b j → Is c k → Is d l → Put-code (i ∷ j ∷ k ∷ l ∷ []) len buf r) ⌝ }
 {
+    let w = accesses::word(a);
+    let x = accesses::word(b);
+    let y = accesses::word(c);
+    let z = accesses::word(d);
     let end = len + 16;
-    assembler::write_four(&mut buf[len..end], 0, a, b, c, d);
+    assembler::write_four(&mut buf[len..end], 0, w, x, y, z);
     end
 }
 
-fn put_five(buf: &mut [u8], len: usize, a: u32, b: u32, c: u32, d: u32, e: u32) -> usize
+fn put_five(
+    buf: &mut [u8],
+    len: usize,
+    a: Encoded,
+    b: Encoded,
+    c: Encoded,
+    d: Encoded,
+    e: Encoded,
+) -> usize
     requires { ⌜ len + 20 ≤ length (now buf) ⌝ }
-    ensures { λ r. ⌜ Put (a ∷ b ∷ c ∷ d ∷ e ∷ []) len buf r ⌝ }
+    ensures { λ r. ⌜ (r ≡ len + 20) × ((i j k l m : Instr) → Is a i → Is b j → Is c k → Is d l → Is e m → Put-code (i ∷ j ∷ k ∷ l ∷ m ∷ []) len buf r) ⌝ }
 {
     let next = put_four(buf, len, a, b, c, d);
     put_one(buf, next, e)
@@ -107,33 +120,33 @@ fn put_unary(k: Unary, d: u32, s: u32, buf: &mut [u8], len: usize) -> usize
             if d == s {
                 return len;
             }
-            put_one(buf, len, accesses::word(encoder::fmv_d(d, s)))
+            put_one(buf, len, encoder::fmv_d(d, s))
         }
         Unary::Recip => put_three(
             buf,
             len,
-            accesses::word(encoder::addi(T0, ZERO, 1)),
-            accesses::word(encoder::fcvt_d_w(F10, T0)),
-            accesses::word(encoder::fdiv_d(d, F10, s)),
+            encoder::addi(T0, ZERO, 1),
+            encoder::fcvt_d_w(F10, T0),
+            encoder::fdiv_d(d, F10, s),
         ),
         Unary::Round => put_two(
             buf,
             len,
-            accesses::word(encoder::fcvt_l_d(T0, s, 0)),
-            accesses::word(encoder::fcvt_d_l(d, T0)),
+            encoder::fcvt_l_d(T0, s, 0),
+            encoder::fcvt_d_l(d, T0),
         ),
         Unary::Floor => put_two(
             buf,
             len,
-            accesses::word(encoder::fcvt_l_d(T0, s, 2)),
-            accesses::word(encoder::fcvt_d_l(d, T0)),
+            encoder::fcvt_l_d(T0, s, 2),
+            encoder::fcvt_d_l(d, T0),
         ),
         Unary::Not => put_three(
             buf,
             len,
-            accesses::word(encoder::fmv_x_d(T0, s)),
-            accesses::word(encoder::not(T0, T0)),
-            accesses::word(encoder::fmv_d_x(d, T0)),
+            encoder::fmv_x_d(T0, s),
+            encoder::not(T0, T0),
+            encoder::fmv_d_x(d, T0),
         ),
     }
 }
@@ -146,34 +159,34 @@ fn put_scratched(k: Scratched, d: u32, s: u32, t: u32, buf: &mut [u8], len: usiz
         Scratched::Sign => put_five(
             buf,
             len,
-            accesses::word(encoder::fmv_d_x(t, ZERO)),
-            accesses::word(encoder::flt_d(T0, t, s)),
-            accesses::word(encoder::flt_d(T1, s, t)),
-            accesses::word(encoder::sub(T0, T0, T1)),
-            accesses::word(encoder::fcvt_d_w(d, T0)),
+            encoder::fmv_d_x(t, ZERO),
+            encoder::flt_d(T0, t, s),
+            encoder::flt_d(T1, s, t),
+            encoder::sub(T0, T0, T1),
+            encoder::fcvt_d_w(d, T0),
         ),
         Scratched::Frac => put_three(
             buf,
             len,
-            accesses::word(encoder::fcvt_l_d(T0, s, 2)),
-            accesses::word(encoder::fcvt_d_l(t, T0)),
-            accesses::word(encoder::fsub_d(d, s, t)),
+            encoder::fcvt_l_d(T0, s, 2),
+            encoder::fcvt_d_l(t, T0),
+            encoder::fsub_d(d, s, t),
         ),
     }
 }
 
 // The bits of a and b through t0 and t1, and `op` on them.
-fn put_bits(op: u32, d: u32, a: u32, b: u32, buf: &mut [u8], len: usize) -> usize
+fn put_bits(op: Encoded, d: u32, a: u32, b: u32, buf: &mut [u8], len: usize) -> usize
     requires { ⌜ len + 16 ≤ length (now buf) ⌝ }
-    ensures { λ r. ⌜ Put (bits-words op d a b) len buf r ⌝ }
+    ensures { λ r. ⌜ ((i : Instr) → Is op i → Put-code (bits-code i d a b) len buf r) ⌝ }
 {
     put_four(
         buf,
         len,
-        accesses::word(encoder::fmv_x_d(T0, a)),
-        accesses::word(encoder::fmv_x_d(T1, b)),
+        encoder::fmv_x_d(T0, a),
+        encoder::fmv_x_d(T1, b),
         op,
-        accesses::word(encoder::fmv_d_x(d, T0)),
+        encoder::fmv_d_x(d, T0),
     )
 }
 
@@ -182,9 +195,9 @@ fn put_xor(d: u32, a: u32, b: u32, buf: &mut [u8], len: usize) -> usize
     ensures { λ r. ⌜ Put-code (binary-code Binary.Xor d a b) len buf r ⌝ }
 {
     if a == b {
-        return put_one(buf, len, accesses::word(encoder::fmv_d_x(d, ZERO)));
+        return put_one(buf, len, encoder::fmv_d_x(d, ZERO));
     }
-    put_bits(accesses::word(encoder::xor(T0, T0, T1)), d, a, b, buf, len)
+    put_bits(encoder::xor(T0, T0, T1), d, a, b, buf, len)
 }
 
 fn put_binary(k: Binary, d: u32, a: u32, b: u32, buf: &mut [u8], len: usize) -> usize
@@ -192,35 +205,35 @@ fn put_binary(k: Binary, d: u32, a: u32, b: u32, buf: &mut [u8], len: usize) -> 
     ensures { λ r. ⌜ Put-code (binary-code k d a b) len buf r ⌝ }
 {
     match k {
-        Binary::Minus => put_one(buf, len, accesses::word(encoder::fsub_d(d, a, b))),
-        Binary::Times => put_one(buf, len, accesses::word(encoder::fmul_d(d, a, b))),
-        Binary::Divide => put_one(buf, len, accesses::word(encoder::fdiv_d(d, a, b))),
+        Binary::Minus => put_one(buf, len, encoder::fsub_d(d, a, b)),
+        Binary::Times => put_one(buf, len, encoder::fmul_d(d, a, b)),
+        Binary::Divide => put_one(buf, len, encoder::fdiv_d(d, a, b)),
         Binary::Gt => put_three(
             buf,
             len,
-            accesses::word(encoder::fgt_d(T0, a, b)),
-            accesses::word(encoder::neg(T0, T0)),
-            accesses::word(encoder::fmv_d_x(d, T0)),
+            encoder::fgt_d(T0, a, b),
+            encoder::neg(T0, T0),
+            encoder::fmv_d_x(d, T0),
         ),
         Binary::Neq => put_four(
             buf,
             len,
-            accesses::word(encoder::feq_d(T0, a, b)),
-            accesses::word(encoder::neg(T0, T0)),
-            accesses::word(encoder::not(T0, T0)),
-            accesses::word(encoder::fmv_d_x(d, T0)),
+            encoder::feq_d(T0, a, b),
+            encoder::neg(T0, T0),
+            encoder::not(T0, T0),
+            encoder::fmv_d_x(d, T0),
         ),
-        Binary::And => put_bits(accesses::word(encoder::and(T0, T0, T1)), d, a, b, buf, len),
+        Binary::And => put_bits(encoder::and(T0, T0, T1), d, a, b, buf, len),
         Binary::Andnot => put_five(
             buf,
             len,
-            accesses::word(encoder::fmv_x_d(T0, a)),
-            accesses::word(encoder::not(T0, T0)),
-            accesses::word(encoder::fmv_x_d(T1, b)),
-            accesses::word(encoder::and(T0, T0, T1)),
-            accesses::word(encoder::fmv_d_x(d, T0)),
+            encoder::fmv_x_d(T0, a),
+            encoder::not(T0, T0),
+            encoder::fmv_x_d(T1, b),
+            encoder::and(T0, T0, T1),
+            encoder::fmv_d_x(d, T0),
         ),
-        Binary::Or => put_bits(accesses::word(encoder::or(T0, T0, T1)), d, a, b, buf, len),
+        Binary::Or => put_bits(encoder::or(T0, T0, T1), d, a, b, buf, len),
         Binary::Xor => put_xor(d, a, b, buf, len),
     }
 }
@@ -229,20 +242,20 @@ fn put_fused(k: Fused, d: u32, a: u32, b: u32, c: u32, buf: &mut [u8], len: usiz
     requires { ⌜ Fits (fused-code k d a b c) len (now buf) ⌝ }
     ensures { λ r. ⌜ Put-code (fused-code k d a b c) len buf r ⌝ }
 {
-    put_one(buf, len, accesses::word(fused(k, d, a, b, c)))
+    put_one(buf, len, fused(k, d, a, b, c))
 }
 
 // The access `last` through t0 = base + n.
-fn put_far(last: u32, base: u32, n: u32, buf: &mut [u8], len: usize) -> usize
+fn put_far(last: Encoded, base: u32, n: u32, buf: &mut [u8], len: usize) -> usize
     requires { ⌜ len + 16 ≤ length (now buf) ⌝ }
-    ensures { λ r. ⌜ Put (far-words last base n) len buf r ⌝ }
+    ensures { λ r. ⌜ ((i : Instr) → Is last i → Put-code (far-code i base n) len buf r) ⌝ }
 {
     put_four(
         buf,
         len,
-        accesses::word(encoder::lui(T0, encoder::hi(n))),
-        accesses::word(encoder::addi(T0, T0, encoder::lo(n))),
-        accesses::word(encoder::add(T0, T0, base)),
+        encoder::lui(T0, encoder::hi(n)),
+        encoder::addi(T0, T0, encoder::lo(n)),
+        encoder::add(T0, T0, base),
         last,
     )
 }
@@ -253,19 +266,9 @@ fn put_access(k: Cell, r: u32, base: u32, n: u32, buf: &mut [u8], len: usize) ->
     ensures { λ x. ⌜ Put-code (one-code k r base n) len buf x ⌝ }
 {
     if n < 2048 {
-        return put_one(
-            buf,
-            len,
-            accesses::word(accesses::access_at(k, r, base, n as i32)),
-        );
+        return put_one(buf, len, accesses::access_at(k, r, base, n as i32));
     }
-    put_far(
-        accesses::word(accesses::access_at(k, r, T0, 0)),
-        base,
-        n,
-        buf,
-        len,
-    )
+    put_far(accesses::access_at(k, r, T0, 0), base, n, buf, len)
 }
 
 // t0 holds the cell's bits.
@@ -276,17 +279,17 @@ fn put_choose(d: u32, a: u32, b: u32, buf: &mut [u8], len: usize) -> usize
     let next = put_four(
         buf,
         len,
-        accesses::word(encoder::fmv_x_d(T1, a)),
-        accesses::word(encoder::fmv_x_d(T2, b)),
-        accesses::word(encoder::and(T1, T1, T0)),
-        accesses::word(encoder::not(T0, T0)),
+        encoder::fmv_x_d(T1, a),
+        encoder::fmv_x_d(T2, b),
+        encoder::and(T1, T1, T0),
+        encoder::not(T0, T0),
     );
     put_three(
         buf,
         next,
-        accesses::word(encoder::and(T2, T2, T0)),
-        accesses::word(encoder::or(T0, T1, T2)),
-        accesses::word(encoder::fmv_d_x(d, T0)),
+        encoder::and(T2, T2, T0),
+        encoder::or(T0, T1, T2),
+        encoder::fmv_d_x(d, T0),
     )
 }
 
@@ -303,11 +306,11 @@ fn put_skip(c: u32, e: bool, buf: &mut [u8], len: usize) -> usize
     requires { ⌜ Fits (skip-code c e) len (now buf) ⌝ }
     ensures { λ r. ⌜ Put-code (skip-code c e) len buf r ⌝ }
 {
-    let first = accesses::word(encoder::fmv_x_d(T0, c));
+    let first = encoder::fmv_x_d(T0, c);
     if e {
-        return put_two(buf, len, first, accesses::word(encoder::beq(T0, ZERO, 12)));
+        return put_two(buf, len, first, encoder::beq(T0, ZERO, 12));
     }
-    put_two(buf, len, first, accesses::word(encoder::bne(T0, ZERO, 12)))
+    put_two(buf, len, first, encoder::bne(T0, ZERO, 12))
 }
 
 // Of an order that is not refused.
@@ -329,10 +332,7 @@ pub(crate) fn put_instrs(o: Order, buf: &mut [u8], len: usize) -> usize
     }
 }
 
-// ---- the orders of instructions alone, written where the longest order has room
-
-// No length: there is no room.
-pub const NO_ROOM: usize = 0x100000000;
+// ---- room
 
 // Whether the longest order, of eleven words, has room behind len in a buffer of n bytes.
 fn is_roomy(n: usize, len: usize) -> bool
@@ -346,6 +346,23 @@ fn is_roomy(n: usize, len: usize) -> bool
     }
     len <= n - 44
 }
+
+// How many instructions an order has, found by writing them elsewhere; 0 where the longest order has room, and no count is needed.
+pub(crate) fn needed(o: Order, n: usize, len: usize) -> usize
+    requires { ⌜ fault-of o ≡ 0 ⌝ }
+    ensures { λ r. ⌜ (r ≤ 11) × (r ≡ cond (leb (len + 44) (room n)) 0 (length (instrs o))) ⌝ }
+{
+    if is_roomy(n, len) {
+        return 0;
+    }
+    let mut own: [u8; 44] = [0; 44];
+    put_instrs(o, &mut own, 0) / 4
+}
+
+// ---- the orders of instructions alone, written where the longest order has room
+
+// No length: there is no room.
+pub const NO_ROOM: usize = 0x100000000;
 
 pub fn write_unary(k: Unary, d: u32, s: u32, buf: &mut [u8], len: usize) -> usize
     ensures { λ r. ⌜ Wrote (unary-code k d s) len buf r ⌝ }

@@ -15,7 +15,7 @@ use ast::Constant;
 use refusal::Refusal;
 
 // What no row expects.
-fn unknown(asm: Asm) -> EmitResult {
+pub(crate) fn unknown(asm: Asm) -> EmitResult {
     EmitResult {
         asm,
         answer: Answer::Refused(Refusal::Line, 1),
@@ -158,11 +158,11 @@ fn framed(
 ) -> EmitResult {
     let k = r.kind;
     match k {
-        0x50 => frames::prologue_fast(r.a, r.b, r.c, r.d, buf, labels, jumps, asm),
-        0x51 => frames::prologue_indirect(r.a, r.b, r.c, r.d, 0, buf, labels, jumps, asm),
-        0x52 => frames::epilogue_fast(r.a, r.b, r.c, r.d, buf, labels, jumps, asm),
-        0x53 => frames::epilogue_indirect(r.a, r.b, r.c, r.d, 0, buf, labels, jumps, asm),
-        0x54 => frames::save_used_registers(r.a, buf, labels, jumps, asm),
+        0x80 => frames::prologue_fast(r.a, r.b, r.c, r.d, buf, labels, jumps, asm),
+        0x81 => frames::prologue_indirect(r.a, r.b, r.c, r.d, 0, buf, labels, jumps, asm),
+        0x82 => frames::epilogue_fast(r.a, r.b, r.c, r.d, buf, labels, jumps, asm),
+        0x83 => frames::epilogue_indirect(r.a, r.b, r.c, r.d, 0, buf, labels, jumps, asm),
+        0x84 => frames::save_used_registers(r.a, buf, labels, jumps, asm),
         _ => frames::load_used_registers(r.a, buf, labels, jumps, asm),
     }
 }
@@ -178,8 +178,8 @@ fn answered(
     match k {
         0x10..=0x1c => assembling(r, buf, labels, jumps, asm),
         0x20..=0x28 => access(r, buf, labels, jumps, asm),
-        0x30..=0x4d => crate::named::ordered(r, buf, labels, jumps, asm),
-        0x50..=0x55 => framed(r, buf, labels, jumps, asm),
+        0x30..=0x7f => crate::named::ordered(r, buf, labels, jumps, asm),
+        0x80..=0x85 => framed(r, buf, labels, jumps, asm),
         _ => unknown(asm),
     }
 }

@@ -294,7 +294,8 @@ pub fn same(s: &[u8], w: &[u8]) -> bool
 
 // ---- eight bytes at a time
 
-fn wide(b: u8) -> u64
+// A byte as a number of 64 bits.
+pub fn wide(b: u8) -> u64
     ensures { λ r. ⌜ (r ≡ b) × (r < 256) ⌝ }
 {
     b as u64

@@ -1,4 +1,4 @@
--- An order as one number: its shape and its operation, two digits of base 16, then its operands in base 32, the first one lowest.
+-- An order as one number: its kind's number, two digits of base 16, then its operands in base 32, the first one lowest.
 -- The last operand may be an index.
 use mathlib.Core.Bool.{Bool, cond}
 use mathlib.Core.Option.{Option, some, none}
@@ -6,46 +6,12 @@ use Prim.Native.Nat.{ℕ, _+_, _*_, _/_, _%_, _^_}
 use lib.Dec.{eqb, ltb}
 use Rattle.ast.specs.declared.Place.{Place}
 use Rattle.ast.specs.declared.Place.the-variants.{Mem, Stack, Param}
-use Rattle.ast.specs.declared.Unary as U
-use Rattle.ast.specs.declared.Unary.the-variants.{Fmov, Recip, Round, Floor, Not}
-use Rattle.ast.specs.declared.Scratched as S
-use Rattle.ast.specs.declared.Scratched.the-variants.{Sign, Frac}
-use Rattle.ast.specs.declared.Binary as Bin
-use Rattle.ast.specs.declared.Binary.the-variants.{Minus, Times, Divide, Gt, Neq, And, Andnot, Or, Xor}
-use Rattle.ast.specs.declared.Fused as Fu
-use Rattle.ast.specs.declared.Fused.the-variants.{MulAdd, MulSub, NegMulAdd, NegMulSub}
+use Rattle.form.specs.Inner.Names.{unary-number, scratched-number, binary-number, fused-number}
+use Rattle.form.specs.Inner.Names.{unary-at, scratched-at, binary-at, fused-at, code}
 use Rattle.ast.specs.declared.Order.{Order}
 use Rattle.ast.specs.declared.Order.the-variants.{Unary, Scratched, Binary, Fused, Ifelse, LoadConst, Load, Save, BranchIf, SetLabel}
 
--- ---- operations within a shape
-
-abbrev pub unary-number : U.Unary → ℕ
-unary-number Fmov = 0
-unary-number Recip = 1
-unary-number Round = 2
-unary-number Floor = 3
-unary-number Not = 4
-
-abbrev pub scratched-number : S.Scratched → ℕ
-scratched-number Sign = 0
-scratched-number Frac = 1
-
-abbrev pub binary-number : Bin.Binary → ℕ
-binary-number Minus = 0
-binary-number Times = 1
-binary-number Divide = 2
-binary-number Gt = 3
-binary-number Neq = 4
-binary-number And = 5
-binary-number Andnot = 6
-binary-number Or = 7
-binary-number Xor = 8
-
-abbrev pub fused-number : Fu.Fused → ℕ
-fused-number MulAdd = 0
-fused-number MulSub = 1
-fused-number NegMulAdd = 2
-fused-number NegMulSub = 3
+-- ---- what stands in place of an operation
 
 -- of `get` and `put`
 abbrev pub place-number : Place → ℕ
@@ -59,34 +25,10 @@ flag-number e = cond e 1 0
 
 -- ---- and back
 
-abbrev pub unary-at : ℕ → U.Unary
-unary-at n = cond (eqb n 0) Fmov (cond (eqb n 1) Recip (cond (eqb n 2) Round (cond (eqb n 3) Floor Not)))
-
-abbrev pub scratched-at : ℕ → S.Scratched
-scratched-at n = cond (eqb n 0) Sign Frac
-
-abbrev pub binary-at : ℕ → Bin.Binary
-binary-at n =
-    cond (eqb n 0) Minus
-    (cond (eqb n 1) Times
-    (cond (eqb n 2) Divide
-    (cond (eqb n 3) Gt
-    (cond (eqb n 4) Neq
-    (cond (eqb n 5) And
-    (cond (eqb n 6) Andnot
-    (cond (eqb n 7) Or Xor)))))))
-
-abbrev pub fused-at : ℕ → Fu.Fused
-fused-at n = cond (eqb n 0) MulAdd (cond (eqb n 1) MulSub (cond (eqb n 2) NegMulAdd NegMulSub))
-
 abbrev pub place-at : ℕ → Place
 place-at n = cond (eqb n 0) Mem (cond (eqb n 1) Stack Param)
 
 -- ---- an order's number
-
--- The shapes: 0 unary, 1 scratched, 2 binary, 3 fused, 4 `ifelse`, 5 `get`, 6 `put`, 7 `load_const`, 8 `branch`, 9 `label`.
-abbrev pub code : (shape operation : ℕ) → ℕ
-code shape operation = shape + 16 * operation
 
 -- a register below what stands behind it
 abbrev pub below : (r x : ℕ) → ℕ

@@ -30,11 +30,6 @@ abbrev pub named : Option Kind → Named
 named none = Named.Unknown
 named (some k) = Named.Is k
 
--- a kind found before, or this one
-abbrev pub or-kind : Named → Option Kind → Named
-or-kind (Named.Is k) o = Named.Is k
-or-kind Named.Unknown o = named o
-
 -- one number more behind four of five
 abbrev pub behind : Numbers → Number → Numbers
 behind Numbers.Malformed n = Numbers.Malformed

@@ -1,23 +1,29 @@
 use mathlib.Core.List.{[], _∷_}
+use native.Mathlib.Omega.{arith}
 use denote.Ref.{now}
+use Rattle.orders.specs.Wrote.{word}
 use Rattle.orders.proofs.Wrote.{put-then}
 use borrow.Author.Needs.{needs}
 use Rattle.orders.proofs.write.put_three.Statement.{statement}
 use Rattle.orders.proofs.write.put_three.Tie as tie
 
-put-two-requires : tie.Need-put-two-requires
-put-two-requires c κs = search needs
-
-put-one-requires : tie.Need-put-one-requires
-put-one-requires c κs = search needs
-
-same-length : tie.Need-same-length
-same-length c = search needs
-
 returns : tie.Need-returns
 returns c =
-    let a = c .before .before .before .before .before .before .before .before .before .args in
-    put-then (now (a .buf)) (a .len) (a .a ∷ a .b ∷ []) (a .c ∷ []) (c .before .before .before .before .before .before .put-two .ensures) (c .before .before .put-one .ensures)
+    let last = c .before .before in
+    let first = last .before .before .before .before in
+    let a = first .before .before .before .args in (
+      omega (arith, first .put-two .ensures .0, last .put-one .ensures .0),
+      λ i j k p q r.
+          put-then (now (a .buf)) (a .len) (word i ∷ word j ∷ []) (word k ∷ [])
+          (first .put-two .ensures .1 i j p q)
+          (last .put-one .ensures .1 k r),
+    )
 
 pub put-three-spec : {M : Type 1} → statement M
-put-three-spec = tie.close (tie.spec put-two-requires put-one-requires same-length returns)
+put-three-spec =
+    tie.close
+    (tie.spec
+    (λ c κs. search needs)
+    (λ c κs. search needs)
+    (λ c. search needs)
+    returns)

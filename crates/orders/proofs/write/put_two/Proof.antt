@@ -1,23 +1,29 @@
 use mathlib.Core.List.{[], _∷_}
+use native.Mathlib.Omega.{arith}
 use denote.Ref.{now}
+use Rattle.orders.specs.Wrote.{word}
 use Rattle.orders.proofs.Wrote.{put-then}
 use borrow.Author.Needs.{needs}
 use Rattle.orders.proofs.write.put_two.Statement.{statement}
 use Rattle.orders.proofs.write.put_two.Tie as tie
 
-put-one-requires : tie.Need-put-one-requires
-put-one-requires c κs = search needs
-
-put-one-requires-2 : tie.Need-put-one-requires-2
-put-one-requires-2 c κs = search needs
-
-same-length : tie.Need-same-length
-same-length c = search needs
-
 returns : tie.Need-returns
 returns c =
-    let a = c .before .before .before .before .before .before .before .before .before .args in
-    put-then (now (a .buf)) (a .len) (a .a ∷ []) (a .b ∷ []) (c .before .before .before .before .before .before .put-one .ensures) (c .before .before .put-one2 .ensures)
+    let last = c .before .before in
+    let first = last .before .before .before .before in
+    let a = first .before .before .before .args in (
+      omega (arith, first .put-one .ensures .0, last .put-one2 .ensures .0),
+      λ i j p q.
+          put-then (now (a .buf)) (a .len) (word i ∷ []) (word j ∷ [])
+          (first .put-one .ensures .1 i p)
+          (last .put-one2 .ensures .1 j q),
+    )
 
 pub put-two-spec : {M : Type 1} → statement M
-put-two-spec = tie.close (tie.spec put-one-requires put-one-requires-2 same-length returns)
+put-two-spec =
+    tie.close
+    (tie.spec
+    (λ c κs. search needs)
+    (λ c κs. search needs)
+    (λ c. search needs)
+    returns)

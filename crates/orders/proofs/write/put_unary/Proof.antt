@@ -1,15 +1,17 @@
-use mathlib.Core.Path.{_≡_, _∙_, ap}
-use mathlib.Core.List.{[], _∷_}
+use mathlib.Core.Path.{_≡_, ap}
 use denote.Ref.{now}
-use Prim.Native.Nat.{ℕ}
 use borrow.Author.Tests.{eq-eqb, ne-eqb}
-use Rattle.isa.specs.Instr.{R, FSGNJ-D}
-use Rattle.ast.specs.declared.Unary.the-variants.{Fmov, Recip, Round, Floor, Not}
+use Rattle.ast.specs.declared.Unary.{Unary}
 use Rattle.orders.specs.Code.{unary-code}
-use Rattle.orders.proofs.Wrote.{fits-as, put-none, word-is, wrote}
+use Rattle.orders.specs.Wrote.{Fits}
+use Rattle.orders.proofs.Wrote.{fits-as, put-none}
 use borrow.Author.Needs.{needs}
 use Rattle.orders.proofs.write.put_unary.Statement.{statement}
 use Rattle.orders.proofs.write.put_unary.Tie as tie
+
+-- the instructions of the operation that is told have room
+room : (s : tie.Start) {k : Unary} → s .args .k ≡ k → Fits (unary-code k (s .args .d) (s .args .s)) (s .args .len) (now (s .args .buf))
+room s e = fits-as (s .args .len) (now (s .args .buf)) (ap (λ k. unary-code k (s .args .d) (s .args .s)) e) (s .pre)
 
 returns : tie.Need-returns
 unfolding unary-code
@@ -17,139 +19,67 @@ returns c =
     let a = c .before .before .before .before .args in
     rw (c .before .enum-told .given .1, eq-eqb _ _ (c .if1 .taken)) (put-none (now (a .buf)) (a .len))
 
-moves : (d s : ℕ) → (d ≡ s → ⊥) → unary-code Fmov d s ≡ R FSGNJ-D d s s ∷ []
-unfolding unary-code
-moves d s h = rw (ne-eqb d s h)
-
-abbrev differ : tie.After-word → tie.Else1
-differ c = c .before .before .before
-
 put-one-requires : tie.Need-put-one-requires
 unfolding unary-code
 put-one-requires c κs =
-    let o = differ c in
-    let s = o .before .before .before .before in
-    let a = s .args in
-    fits-as (a .len) (now (a .buf)) (ap (λ k. unary-code k (a .d) (a .s)) (o .before .enum-told .given .1) ∙ moves (a .d) (a .s) (o .if1 .left)) (s .pre)
+    let t = c .before .before in
+    let o = t .before in
+    rw (ne-eqb _ _ (t .if1 .left)) at (room (o .before .before .before) (o .enum-told .given .1))
 
 returns-2 : tie.Need-returns-2
 unfolding unary-code
 returns-2 c =
     let w = c .before .before .before in
-    let o = differ w in
-    let a = o .before .before .before .before .args in
-    rw (o .before .enum-told .given .1, ne-eqb _ _ (o .if1 .left))
-    (wrote (now (a .buf)) (a .len) (w .word .result ∷ []) (R FSGNJ-D (a .d) (a .s) (a .s) ∷ [])
-    (word-is (w .before .fmv-d .result) _ (w .word .ensures) (w .before .fmv-d .ensures), tt)
-    (c .before .before .put-one .ensures))
-
-abbrev told-2 : tie.After-word4 → tie.After-enum-told2
-told-2 c = c .before .before .before .before .before .before .before
+    let t = w .before .before in
+    rw (t .before .enum-told .given .1, ne-eqb _ _ (t .if1 .left)) (c .before .before .put-one .ensures .1 _ (w .fmv-d .ensures))
 
 put-three-requires : tie.Need-put-three-requires
 unfolding unary-code
-put-three-requires c κs =
-    let o = told-2 c in
-    let s = o .before .before .before in
-    let a = s .args in
-    fits-as (a .len) (now (a .buf)) (ap (λ k. unary-code k (a .d) (a .s)) (o .enum-told2 .given .1)) (s .pre)
+put-three-requires c κs = let o = c .before .before .before .before in room (o .before .before .before) (o .enum-told2 .given .1)
 
 returns-3 : tie.Need-returns-3
 unfolding unary-code
 returns-3 c =
     let w = c .before .before .before in
-    let o = told-2 w in
-    let a = o .before .before .before .args in
-    let v = w .before .before in
-    let u = v .before .before in
-    rw (o .enum-told2 .given .1)
-    (wrote (now (a .buf)) (a .len) (u .word2 .result ∷ v .word3 .result ∷ w .word4 .result ∷ []) (unary-code Recip (a .d) (a .s)) (
-      word-is (u .before .addi .result) _ (u .word2 .ensures) (u .before .addi .ensures),
-      (
-        word-is (v .before .fcvt-d-w .result) _ (v .word3 .ensures) (v .before .fcvt-d-w .ensures),
-        (word-is (w .before .fdiv-d .result) _ (w .word4 .ensures) (w .before .fdiv-d .ensures), tt),
-      ),
-    )
-    (c .before .before .put-three .ensures))
-
-abbrev told-3 : tie.After-word6 → tie.After-enum-told3
-told-3 c = c .before .before .before .before .before
+    let v = w .before in
+    let u = v .before in
+    rw (u .before .before .enum-told2 .given .1)
+    (c .before .before .put-three .ensures .1 _ _ _ (u .addi .ensures) (v .fcvt-d-w .ensures) (w .fdiv-d .ensures))
 
 put-two-requires : tie.Need-put-two-requires
 unfolding unary-code
-put-two-requires c κs =
-    let o = told-3 c in
-    let s = o .before .before .before in
-    let a = s .args in
-    fits-as (a .len) (now (a .buf)) (ap (λ k. unary-code k (a .d) (a .s)) (o .enum-told3 .given .1)) (s .pre)
+put-two-requires c κs = let o = c .before .before .before in room (o .before .before .before) (o .enum-told3 .given .1)
 
 returns-4 : tie.Need-returns-4
 unfolding unary-code
 returns-4 c =
     let w = c .before .before .before in
-    let o = told-3 w in
-    let a = o .before .before .before .args in
-    let v = w .before .before in
-    rw (o .enum-told3 .given .1)
-    (wrote (now (a .buf)) (a .len) (v .word5 .result ∷ w .word6 .result ∷ []) (unary-code Round (a .d) (a .s)) (
-      word-is (v .before .fcvt-l-d .result) _ (v .word5 .ensures) (v .before .fcvt-l-d .ensures),
-      (word-is (w .before .fcvt-d-l .result) _ (w .word6 .ensures) (w .before .fcvt-d-l .ensures), tt),
-    )
-    (c .before .before .put-two .ensures))
-
-abbrev told-4 : tie.After-word8 → tie.After-enum-told4
-told-4 c = c .before .before .before .before .before
+    let v = w .before in
+    rw (v .before .before .enum-told3 .given .1) (c .before .before .put-two .ensures .1 _ _ (v .fcvt-l-d .ensures) (w .fcvt-d-l .ensures))
 
 put-two-requires-2 : tie.Need-put-two-requires-2
 unfolding unary-code
-put-two-requires-2 c κs =
-    let o = told-4 c in
-    let s = o .before .before .before in
-    let a = s .args in
-    fits-as (a .len) (now (a .buf)) (ap (λ k. unary-code k (a .d) (a .s)) (o .enum-told4 .given .1)) (s .pre)
+put-two-requires-2 c κs = let o = c .before .before .before in room (o .before .before .before) (o .enum-told4 .given .1)
 
 returns-5 : tie.Need-returns-5
 unfolding unary-code
 returns-5 c =
     let w = c .before .before .before in
-    let o = told-4 w in
-    let a = o .before .before .before .args in
-    let v = w .before .before in
-    rw (o .enum-told4 .given .1)
-    (wrote (now (a .buf)) (a .len) (v .word7 .result ∷ w .word8 .result ∷ []) (unary-code Floor (a .d) (a .s)) (
-      word-is (v .before .fcvt-l-d2 .result) _ (v .word7 .ensures) (v .before .fcvt-l-d2 .ensures),
-      (word-is (w .before .fcvt-d-l2 .result) _ (w .word8 .ensures) (w .before .fcvt-d-l2 .ensures), tt),
-    )
-    (c .before .before .put-two2 .ensures))
-
-abbrev told-5 : tie.After-word11 → tie.After-enum-told5
-told-5 c = c .before .before .before .before .before .before .before
+    let v = w .before in
+    rw (v .before .before .enum-told4 .given .1) (c .before .before .put-two2 .ensures .1 _ _ (v .fcvt-l-d2 .ensures) (w .fcvt-d-l2 .ensures))
 
 put-three-requires-2 : tie.Need-put-three-requires-2
 unfolding unary-code
-put-three-requires-2 c κs =
-    let o = told-5 c in
-    let s = o .before .before .before in
-    let a = s .args in
-    fits-as (a .len) (now (a .buf)) (ap (λ k. unary-code k (a .d) (a .s)) (o .enum-told5 .given .1)) (s .pre)
+put-three-requires-2 c κs = let o = c .before .before .before .before in room (o .before .before .before) (o .enum-told5 .given .1)
 
 returns-6 : tie.Need-returns-6
 unfolding unary-code
 returns-6 c =
     let w = c .before .before .before in
-    let o = told-5 w in
-    let a = o .before .before .before .args in
-    let v = w .before .before in
-    let u = v .before .before in
-    rw (o .enum-told5 .given .1)
-    (wrote (now (a .buf)) (a .len) (u .word9 .result ∷ v .word10 .result ∷ w .word11 .result ∷ []) (unary-code Not (a .d) (a .s)) (
-      word-is (u .before .fmv-x-d .result) _ (u .word9 .ensures) (u .before .fmv-x-d .ensures),
-      (
-        word-is (v .before .not .result) _ (v .word10 .ensures) (v .before .not .ensures),
-        (word-is (w .before .fmv-d-x .result) _ (w .word11 .ensures) (w .before .fmv-d-x .ensures), tt),
-      ),
-    )
-    (c .before .before .put-three2 .ensures))
+    let v = w .before in
+    let u = v .before in
+    rw (u .before .before .enum-told5 .given .1)
+    (c .before .before .put-three2 .ensures .1 _ _ _ (u .fmv-x-d .ensures) (v .not .ensures) (w .fmv-d-x .ensures))
 
 pub put-unary-spec : {M : Type 1} → statement M
 put-unary-spec =
@@ -158,12 +88,8 @@ put-unary-spec =
     (λ c. search needs)
     returns
     (λ c κs. search needs)
-    (λ c κs. search needs)
     put-one-requires
     (λ c. search needs)
-    (λ c κs. search needs)
-    (λ c κs. search needs)
-    (λ c κs. search needs)
     (λ c κs. search needs)
     (λ c κs. search needs)
     (λ c κs. search needs)
@@ -171,19 +97,12 @@ put-unary-spec =
     (λ c. search needs)
     (λ c κs. search needs)
     (λ c κs. search needs)
-    (λ c κs. search needs)
-    (λ c κs. search needs)
     put-two-requires
     (λ c. search needs)
     (λ c κs. search needs)
     (λ c κs. search needs)
-    (λ c κs. search needs)
-    (λ c κs. search needs)
     put-two-requires-2
     (λ c. search needs)
-    (λ c κs. search needs)
-    (λ c κs. search needs)
-    (λ c κs. search needs)
     (λ c κs. search needs)
     (λ c κs. search needs)
     (λ c κs. search needs)
