@@ -1,7 +1,7 @@
 """The orders, one row each: the list that all Python tools share.
 
 A row has an order's name in a deck, its shape, its words and, where it works on float registers alone, what it gives. Names, fields and
-values are document 01's; which instructions an order has is the source document's, since the bytes of accepted inputs are those of the
+values are document 01's; which instructions an order has is the Rust's, since the bytes of accepted inputs are those of the
 Rust, but for `sign`, which is document 01's. Nothing is taken from crates/. A new order is one row, the last of its shape, and the float
 instruction it needs.
 """

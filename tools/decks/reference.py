@@ -4,7 +4,7 @@
     reference.py [--buffer BYTES] < FILE        prints what `deckwords` prints
 
 Encodings are laid out by the ISA Manual's formats; refusals, their order and the deck's grammar are document 01's, with the points that
-docs/DECISIONS.md decides. Which instructions a frame has is the source document's, since the bytes of accepted inputs are those of the
+docs/DECISIONS.md decides. Which instructions a frame has is the Rust's, since the bytes of accepted inputs are those of the
 Rust; tools/orders.py has the orders.
 """
 import argparse

@@ -3,13 +3,14 @@ use mathlib.Core.Path.{_≡_, refl, sym, ap, subst, _∙_}
 use mathlib.Core.Bool.{Bool, true, false, cond}
 use mathlib.Core.Option.{Option, some, none, Option·map, Option·some-injective, Option·none-ne-some}
 use mathlib.Core.List.{List, [], _∷_, append-nil}
-use Prim.Native.Nat.{ℕ, zero, suc, _*_, _/_, _%_, _+_, _-_, _<_, _≤_}
+use Prim.Native.Nat.{ℕ, zero, suc, _*_, _/_, _%_, _+_, _-_, _^_, _<_, _≤_}
 use native.Mathlib.Nat.{mul-add, mul-assoc, mul-le-mul-left}
 use native.Mathlib.Omega.{arith}
-use borrow.Author.Tests.{lt-ltb, le-ltb, ltb-true, ltb-false, eq-eqb, ne-eqb}
-use lib.Dec.{ltb}
+use borrow.Author.Tests.{eqb-true, lt-ltb, le-ltb, ltb-true, ltb-false, eq-eqb, ne-eqb}
+use lib.Dec.{eqb, ltb}
 use lib.ListN.{length, take, drop, length-drop}
 use lib.Seq.{take-all}
+use Rattle.base.proofs.Tested.{tested}
 use Rattle.text.specs.Digits.{short-of}
 use Rattle.text.specs.Fields.{commas, split, fields-from, end-from}
 use Rattle.text.proofs.Answers.{field-is, next-is, no-field, first-field}
@@ -22,14 +23,25 @@ use Rattle.form.specs.Form.{only, placed, flagged}
 use Rattle.form.specs.declared.Where.the-variants as Where
 use Rattle.form.specs.declared.Flag.the-variants as Flag
 use Rattle.fast.specs.Inner.Packed.{place-number, flag-number, below, no-order, number, numbered}
-use Rattle.fast.specs.Inner.Fields.{bounded, onto, last, operands, numbers-packed, numeric, behind, with-place, cell, with-flag, branch, fields-packed}
+use Rattle.fast.specs.Inner.Fields.{bounded, onto, last, operands, numbers-packed, numeric, registers-of, behind, with-place, cell, with-flag, branch, fields-packed}
+
+-- ---- the shapes, as the bits of a constant
+
+as-numbers : (t u : Bool) → eqb (cond t 1 0) (cond u 1 0) ≡ true → t ≡ u
+as-numbers true true e = refl
+as-numbers true false e = absurd (let z : _≡_ {A = ℕ} 0 1 = cc in omega (arith, z))
+as-numbers false true e = absurd (let z : _≡_ {A = ℕ} 0 1 = cc in omega (arith, z))
+as-numbers false false e = refl
+
+pub shape-bit : (k : ℕ) → k < 16 → eqb (0x29f / 2 ^ k % 2) 1 ≡ numeric k
+shape-bit k h = as-numbers (eqb (0x29f / 2 ^ k % 2) 1) (numeric k) (tested (λ i. eqb (cond (eqb (0x29f / 2 ^ i % 2) 1) 1 0) (cond (numeric i) 1 0)) 16 k refl h)
+
+pub shape-registers : (k : ℕ) → k < 16 → (0x43e9 / 2 ^ (2 * k) % 4 ≡ registers-of k) × (0x43e9 / 2 ^ (2 * k) % 4 ≤ 3)
+shape-registers k h = (eqb-true _ _ (tested (λ i. eqb (0x43e9 / 2 ^ (2 * i) % 4) (registers-of i)) 16 k refl h), omega arith)
 
 -- ---- the last field
 
 module _ (b x : ℕ) where
-  pub bounded-yes : x < b → bounded b x ≡ some x
-  bounded-yes h = rw (lt-ltb x b h)
-
   pub bounded-no : b ≤ x → bounded b x ≡ none
   bounded-no h = rw (le-ltb x b h)
 

@@ -19,7 +19,8 @@ use Rattle.form.specs.Form.{form-of, formed}
 use Rattle.form.specs.Inner.Parts.{shaped, shaped′, named}
 use Rattle.form.specs.declared.Form.the-variants as Form
 use Rattle.form.specs.declared.Kind.{Kind}
-use Rattle.form.proofs.Names.{each, named-is}
+use Rattle.base.specs.Tests.{all}
+use Rattle.form.proofs.Names.{named-is}
 use Rattle.form.proofs.Shapes.{line-is, line-bad, no-line, no-newline, newline}
 use Rattle.deck.specs.Judge.{judged, line-judged}
 use Rattle.fast.specs.Fast.{small-order, said}
@@ -119,7 +120,7 @@ has-bytes (q ∷ ss) ((c ∷ f) ∷ fs) vs e = go (read-field q (c ∷ f)) (read
     go (some v) (some ws) ep e r = omega (arith, r ws ep, length-append f (commas fs))
 
 -- an order's name and its fields have seven bytes
-seven : each (λ t k. leb 7 (length t + 2 * length (sorts k)) || ltb 9 (kind-code k % 16)) names ≡ true
+seven : all (λ m. leb 7 (length (m .0) + 2 * length (sorts (m .1))) || ltb 9 (kind-code (m .1) % 16)) names ≡ true
 seven = refl
 
 module _ (s : List ℕ) (h : length s < 7) where

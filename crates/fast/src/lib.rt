@@ -468,7 +468,8 @@ fn jumping(
 
 // ---- the whole
 
-// A line of a deck with this head, tagged with its number. The answer is the new length, and with it the count of jumps where that changes.
+// A line of a deck with this head, tagged with its number.
+// The answer is the new length, and with it, for an order with jumps and for a label, the count of jumps.
 pub fn line(
     head: Head,
     tag: u32,

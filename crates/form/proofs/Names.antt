@@ -1,16 +1,15 @@
 -- Names and numbers of kinds: each name is in the table or among the long ones, and nothing else is. Assumes nothing.
-use mathlib.Core.Path.{_≡_, refl, sym, ap, _∙_}
+use mathlib.Core.Path.{_≡_, refl, sym, _∙_}
 use mathlib.Core.Bool.{Bool, true, false, cond, _&&_, _||_}
 use mathlib.Core.Option.{Option, some, none, Option·map, Option·some-injective, Option·none-ne-some}
-use mathlib.Core.List.{List, [], _∷_, _++_}
+use mathlib.Core.List.{List, [], _∷_}
 use Prim.Native.Nat.{ℕ, zero, suc, _+_, _*_, _/_, _%_, _^_, _≤_, _<_}
 use native.Mathlib.Omega.{arith}
-use native.Mathlib.Numerals.{add-one}
-use borrow.Author.Tests.{eqb-true, ne-eqb, ltb-true, lt-ltb, lt-leb, leb-true}
+use borrow.Author.Tests.{eqb-true, ne-eqb, ltb-true, lt-ltb, lt-leb}
 use lib.Dec.{eqb, ltb, leb}
-use lib.ListN.{length, length-drop, getD, take, drop}
+use lib.ListN.{length, length-drop, getD, drop}
 use lib.Pow.{areBytes}
-use lib.Seq.{take-suc, length-take-le, drop-length, drop-cons}
+use lib.Seq.{drop-length, drop-cons}
 use Rattle.ast.specs.declared.Frame.{Frame}
 use Rattle.ast.specs.declared.Frame.the-variants as Frame
 use Rattle.ast.specs.declared.Unary as U
@@ -22,10 +21,9 @@ use Rattle.ast.specs.declared.Binary.the-variants as Binary
 use Rattle.ast.specs.declared.Fused as F
 use Rattle.ast.specs.declared.Fused.the-variants as Fused
 use Rattle.text.specs.Ascii.{bytes}
-use Rattle.text.specs.Bytes.{joined, word-to}
 use Rattle.text.specs.Fields.{same}
 use Rattle.text.proofs.Joined.{free, same-is}
-use Rattle.base.specs.Tests.{member}
+use Rattle.base.specs.Tests.{all, member}
 use Rattle.base.proofs.Bools.{both}
 use Rattle.base.proofs.Tested.{tested}
 use Rattle.form.specs.Syntax.{names}
@@ -116,21 +114,17 @@ kind-back (some Kind.Bits) = refl
 
 -- ---- a test that all names pass is passed by the one that is named
 
-abbrev pub each : (List ℕ → Kind → Bool) → List (List ℕ × Kind) → Bool
-each q [] = true
-each q (n ∷ ns) = q (n .0) (n .1) && each q ns
-
-pub named-is : (q : List ℕ → Kind → Bool) (s : List ℕ) (ns : List (List ℕ × Kind)) (k : Kind) → each q ns ≡ true → kind-in s ns ≡ some k → q s k ≡ true
+pub named-is : (q : List ℕ → Kind → Bool) (s : List ℕ) (ns : List (List ℕ × Kind)) (k : Kind) → all (λ m. q (m .0) (m .1)) ns ≡ true → kind-in s ns ≡ some k → q s k ≡ true
 unfolding first
 named-is q s [] k h e = absurd (Option·none-ne-some k e)
-named-is q s (n ∷ ns) k h e = go (same s (n .0)) refl e (both (q (n .0) (n .1)) (each q ns) h) (named-is q s ns k)
+named-is q s (n ∷ ns) k h e = go (same s (n .0)) refl e (both (q (n .0) (n .1)) (all (λ m. q (m .0) (m .1)) ns) h) (named-is q s ns k)
   where
-    go : (t : Bool) → same s (n .0) ≡ t → Option·map (λ m. m .1) (cond t (some n) (first (λ m. m .0) s ns)) ≡ some k → (q (n .0) (n .1) ≡ true) × (each q ns ≡ true) → (each q ns ≡ true → kind-in s ns ≡ some k → q s k ≡ true) → q s k ≡ true
+    go : (t : Bool) → same s (n .0) ≡ t → Option·map (λ m. m .1) (cond t (some n) (first (λ m. m .0) s ns)) ≡ some k → (q (n .0) (n .1) ≡ true) × (all (λ m. q (m .0) (m .1)) ns ≡ true) → (all (λ m. q (m .0) (m .1)) ns ≡ true → kind-in s ns ≡ some k → q s k ≡ true) → q s k ≡ true
     go true g e p r = rw (same-is s (n .0) g, ← (Option·some-injective (n .1) k e)) (p .0)
     go false g e p r = r (p .1) e
 
 -- what fails it names nothing
-none-named : (q : List ℕ → Bool) → each (λ t k. q t) names ≡ true → (s : List ℕ) → q s ≡ false → 255 ≡ coded (kind-of s)
+none-named : (q : List ℕ → Bool) → all (λ m. q (m .0)) names ≡ true → (s : List ℕ) → q s ≡ false → 255 ≡ coded (kind-of s)
 none-named q h s f = go (kind-of s) refl
   where
     go : (o : Option Kind) → kind-of s ≡ o → 255 ≡ coded o
@@ -148,13 +142,13 @@ long-name s =
     || (same s (bytes "load_const")
     || same s (bytes "indirect")))))
 
-long-names : each (λ t k. leb (length t) 6 || long-name t) names ≡ true
+long-names : all (λ m. leb (length (m .0)) 6 || long-name (m .0)) names ≡ true
 unfolding same
 long-names = refl
 
 -- the numbers of these names
 module _ (s : List ℕ) where
-  pub is-name : (w : List ℕ) (c : ℕ) → c ≡ coded (kind-of w) → same s w ≡ true → c ≡ coded (kind-of s)
+  is-name : (w : List ℕ) (c : ℕ) → c ≡ coded (kind-of w) → same s w ≡ true → c ≡ coded (kind-of s)
   is-name w c h e = rw (same-is s w e) h
 
   pub is-mul-add : same s (bytes "fused_mul_add") ≡ true → 0x03 ≡ coded (kind-of s)
@@ -245,7 +239,7 @@ all-right p h = tested (λ i. right (row-at i)) 32 p refl h
 abbrev in-table : List ℕ → Bool
 in-table s = eqb (entry (row-at (name-place (name-word s))) % 2 ^ 56) (name-word s)
 
-short-names : each (λ t k. leb 7 (length t) || in-table t) names ≡ true
+short-names : all (λ m. leb 7 (length (m .0)) || in-table (m .0)) names ≡ true
 short-names = refl
 
 module _ (t : List ℕ) (b : areBytes t ≡ true) (h : length t < 7) where
@@ -301,22 +295,6 @@ module _ (s : List ℕ) where
   spelled-more i w h b p =
       let d = drop-cons s i 0 h in
       (omega arith, rw (d, p .1), rw (d, lt-ltb _ _ b, p .2))
-
--- ---- the word of a line
-
-pub line-word : (s : List ℕ) (e w : ℕ) → w ≡ word-to s e → (w ≡ 0 → ⊥) → (w ≡ name-word (take e s)) × (length (take e s) < 7)
-unfolding word-to
-line-word s e w g n = go (leb 8 (length s) && (leb e 6 && eqb (getD s e 0) 44)) refl g
-  where
-    go : (t : Bool) → leb 8 (length s) && (leb e 6 && eqb (getD s e 0) 44) ≡ t → w ≡ cond t (joined (take (e + 1) s)) 0 → (w ≡ name-word (take e s)) × (length (take e s) < 7)
-    go false f k = absurd (n k)
-    go true f k =
-        let p = both (leb 8 (length s)) _ f in
-        let q = both (leb e 6) _ (p .1) in
-        let l = leb-true 8 (length s) (p .0) in
-        let m = leb-true e 6 (q .0) in
-        let z : take (e + 1) s ≡ take e s ++ (44 ∷ []) = rw (add-one e, take-suc s e 0 (omega arith), eqb-true (getD s e 0) 44 (q .1)) in
-        (rw (k, z), rw (length-take-le e s (omega arith)) (omega arith))
 
 -- ---- a kind's name: it says this kind, and has no comma
 

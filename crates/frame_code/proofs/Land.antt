@@ -33,9 +33,6 @@ module _ (P P′ : ℕ → Type 0) (h : (x : ℕ) → P x → P′ x) where
   landing-wider Q [] s l = tt
   landing-wider Q (i ∷ is) s l = (lands-wider (effect Q i s) (l .0), landing-wider Q is (exec Q i s) (l .1))
 
-  pub same-wider : (m m′ : ℕ → ℕ) → Same P m m′ → Same P′ m m′
-  same-wider m m′ s x b o = s x b (λ p. o (h x p))
-
 pub landing-join : (P : ℕ → Type 0) (Q : Floats) (is js : List Instr) (s : State) → Landing P Q is s → Landing P Q js (execs Q is s) → Landing P Q (is ++ js) s
 landing-join P Q [] js s l k = k
 landing-join P Q (i ∷ is) js s l k = (l .0, landing-join P Q is js (exec Q i s) (l .1) k)

@@ -81,7 +81,8 @@ module _ (places : ℕ → ℕ) (start here : ℕ) (s : State) (Q : Floats) wher
       (save-float-runs d (base p) (8 * i) (cell-accepted d p (8 * i) hd hi) Q s (at-stands places start here s is o)))
 
   -- one list behind another, the first to a state that is known
-  both-end : (is js : List Instr) (x f f′ m′ : ℕ → ℕ) → ((r : ℕ) → T (not (temporary r)) → x r ≡ s .x r) → Goes Q is s (behind is s x f (s .mem)) → Ends Q temporary (behind is s x f (s .mem)) (length js) (length js) (w64 ((behind is s x f (s .mem)) .pc + 4 * length js)) f′ m′ → Ends Q temporary s (length (is ++ js)) (length (is ++ js)) (w64 (s .pc + 4 * length (is ++ js))) f′ m′
+  both-end : (is js : List Instr) (x f f′ m′ : ℕ → ℕ) → ((r : ℕ) → T (not (temporary r)) → x r ≡ s .x r) → Goes Q is s (behind is s x f (s .mem)) → Ends Q temporary (behind is s x f (s .mem)) (length js) (length js) (w64 ((behind is s x f (s .mem)) .pc + 4 * length js)) f′ m′
+      → Ends Q temporary s (length (is ++ js)) (length (is ++ js)) (w64 (s .pc + 4 * length (is ++ js))) f′ m′
   unfolding kept-ends
   both-end is js x f f′ m′ h r e =
       let n = length-append is js in

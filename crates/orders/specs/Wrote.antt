@@ -61,6 +61,6 @@ Is e i = word-answer e ≡ encoded i
 abbrev pub bits-code : (op : Instr) → (d a b : ℕ) → List Instr
 bits-code op d a b = M FMV-X-D t0 a ∷ M FMV-X-D t1 b ∷ op ∷ M FMV-D-X d t0 ∷ []
 
--- the instruction `last` through t0 = base + n
+-- the instruction `last` through t0, which is made of base and n
 abbrev pub far-code : (last : Instr) → (base n : ℕ) → List Instr
 far-code last base n = U LUI t0 (pos (hi n)) ∷ I ADDI t0 t0 (lo n) ∷ R ADD t0 t0 base ∷ last ∷ []

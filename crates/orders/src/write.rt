@@ -82,7 +82,8 @@ fn put_three(buf: &mut [u8], len: usize, a: Encoded, b: Encoded, c: Encoded) -> 
 
 fn put_four(buf: &mut [u8], len: usize, a: Encoded, b: Encoded, c: Encoded, d: Encoded) -> usize
     requires { ⌜ len + 16 ≤ length (now buf) ⌝ }
-    ensures { λ r. ⌜ (r ≡ len + 16) × ((i j k l : Instr) → Is a i → Is b j → Is c k → Is d l → Put-code (i ∷ j ∷ k ∷ l ∷ []) len buf r) ⌝ }
+    ensures { λ r. ⌜ (r ≡ len + 16)
+        × ((i j k l : Instr) → Is a i → Is b j → Is c k → Is d l → Put-code (i ∷ j ∷ k ∷ l ∷ []) len buf r) ⌝ }
 {
     let w = accesses::word(a);
     let x = accesses::word(b);
@@ -103,7 +104,8 @@ fn put_five(
     e: Encoded,
 ) -> usize
     requires { ⌜ len + 20 ≤ length (now buf) ⌝ }
-    ensures { λ r. ⌜ (r ≡ len + 20) × ((i j k l m : Instr) → Is a i → Is b j → Is c k → Is d l → Is e m → Put-code (i ∷ j ∷ k ∷ l ∷ m ∷ []) len buf r) ⌝ }
+    ensures { λ r. ⌜ (r ≡ len + 20)
+        × ((i j k l m : Instr) → Is a i → Is b j → Is c k → Is d l → Is e m → Put-code (i ∷ j ∷ k ∷ l ∷ m ∷ []) len buf r) ⌝ }
 {
     let next = put_four(buf, len, a, b, c, d);
     put_one(buf, next, e)

@@ -140,7 +140,8 @@ fn words_fit(code: &[u8], room: usize) -> bool
 
 fn put_words(code: &[u8], out: &mut [u8]) -> usize
     requires { ⌜ length (code-lines (now code)) ≤ length (now out) ⌝ }
-    ensures { λ r. ⌜ (now (out .exit) ≡ sets (now (out .entry)) 0 (code-lines (now (code .entry)))) × (r ≡ length (code-lines (now (code .entry)))) ⌝ }
+    ensures { λ r. ⌜ (now (out .exit) ≡ sets (now (out .entry)) 0 (code-lines (now (code .entry))))
+        × (r ≡ length (code-lines (now (code .entry)))) ⌝ }
 {
     let mut at = 0;
     let mut i = 0;

@@ -46,7 +46,8 @@ pub scratches : map f31 (Scratched Sign 31 0 30 ∷ Scratched Sign 31 1 30 ∷ S
 unfolding meaning scratched upd binary64
 scratches = refl
 
-pub binaries : map f31 (Binary Minus 31 2 3 ∷ Binary Times 31 2 3 ∷ Binary Divide 31 3 10 ∷ Binary Gt 31 2 3 ∷ Binary Gt 31 3 2 ∷ Binary Neq 31 5 5 ∷ Binary Neq 31 3 3 ∷ Binary And 31 6 7 ∷ Binary Andnot 31 6 7 ∷ Binary Or 31 6 7 ∷ Binary Xor 31 6 7 ∷ []) ≡ one ∷ 0x4018000000000000 ∷ 0x3fe0000000000000 ∷ all-ones ∷ 0 ∷ all-ones ∷ 0 ∷ 0b1000 ∷ 0b0010 ∷ 0b1110 ∷ 0b0110 ∷ []
+pub binaries : map f31 (Binary Minus 31 2 3 ∷ Binary Times 31 2 3 ∷ Binary Divide 31 3 10 ∷ Binary Gt 31 2 3 ∷ Binary Gt 31 3 2 ∷ Binary Neq 31 5 5 ∷ Binary Neq 31 3 3 ∷ Binary And 31 6 7 ∷ Binary Andnot 31 6 7 ∷ Binary Or 31 6 7 ∷ Binary Xor 31 6 7 ∷ [])
+    ≡ one ∷ 0x4018000000000000 ∷ 0x3fe0000000000000 ∷ all-ones ∷ 0 ∷ all-ones ∷ 0 ∷ 0b1000 ∷ 0b0010 ∷ 0b1110 ∷ 0b0110 ∷ []
 unfolding meaning binary upd binary64
 binaries = refl
 

@@ -10,14 +10,10 @@ use borrow.Author.Tests.{lt-ltb, le-leb, leb-true, eq-eqb, eqb-true}
 use lib.Dec.{eqb, leb}
 use lib.ListN.{length, getD, take, drop}
 use lib.Pow.{areBytes, field, shl-shr, mod-pow-add}
+use lib.Seq.{take-suc, length-take-le}
 use Rattle.text.specs.Bytes.{joined, word-to}
 use Rattle.text.proofs.Steps.{at}
 use Rattle.text.proofs.Eights.{bytes-are}
-
-one-more : (s : List ℕ) (e : ℕ) → e < length s → getD s e 0 ≡ 44 → take (e + 1) s ≡ take e s ++ (44 ∷ [])
-one-more [] e h c = absurd (omega arith)
-one-more (x ∷ s) zero h c = rw c
-one-more (x ∷ s) (suc e) h c = rw (suc-add e 1) (ap (λ (l : List ℕ). x ∷ l) (one-more s e (omega arith) c))
 
 module _ (f : List ℕ) where
   fewer : (k j i x : ℕ) → bytes-are f i (k + j) x → bytes-are f i k x
@@ -57,13 +53,18 @@ module _ (f : List ℕ) where
         by true h = absurd (let z : _≡_ {A = ℕ} 0 1 = cc in omega arith)
         by false h = refl
 
--- a word is the bytes and the comma
-pub with-comma : (s : List ℕ) (e : ℕ) → (word-to s e ≡ 0 → ⊥) → word-to s e ≡ joined (take e s ++ (44 ∷ []))
+-- a word is the bytes, at most six, and the comma
+pub with-comma : (s : List ℕ) (e : ℕ) → (word-to s e ≡ 0 → ⊥) → (word-to s e ≡ joined (take e s ++ (44 ∷ []))) × (length (take e s) < 7)
 unfolding word-to
 with-comma s e n = by (leb 8 (length s)) (leb e 6) (eqb (getD s e 0) 44) refl refl refl n
   where
-    by : (t u v : Bool) → leb 8 (length s) ≡ t → leb e 6 ≡ u → eqb (getD s e 0) 44 ≡ v → (cond (t && (u && v)) (joined (take (e + 1) s)) 0 ≡ 0 → ⊥) → cond (t && (u && v)) (joined (take (e + 1) s)) 0 ≡ joined (take e s ++ (44 ∷ []))
-    by true true true a b c n = ap joined (one-more s e (omega (arith, leb-true 8 (length s) a, leb-true e 6 b)) (eqb-true _ 44 c))
+    by : (t u v : Bool) → leb 8 (length s) ≡ t → leb e 6 ≡ u → eqb (getD s e 0) 44 ≡ v → (cond (t && (u && v)) (joined (take (e + 1) s)) 0 ≡ 0 → ⊥)
+        → (cond (t && (u && v)) (joined (take (e + 1) s)) 0 ≡ joined (take e s ++ (44 ∷ []))) × (length (take e s) < 7)
+    by true true true a b c n =
+        let l = leb-true 8 (length s) a in
+        let m = leb-true e 6 b in
+        let z : take (e + 1) s ≡ take e s ++ (44 ∷ []) = rw (add-one e, take-suc s e 0 (omega (arith, l, m)), eqb-true (getD s e 0) 44 c) in
+        (ap joined z, rw (length-take-le e s (omega (arith, l, m))) (omega (arith, m)))
     by true true false a b c n = absurd (n refl)
     by true false v a b c n = absurd (n refl)
     by false u v a b c n = absurd (n refl)

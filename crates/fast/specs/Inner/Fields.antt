@@ -2,8 +2,10 @@
 use mathlib.Core.Bool.{Bool, cond}
 use mathlib.Core.Option.{Option, some, none, Option·map}
 use mathlib.Core.List.{List, [], _∷_}
-use Prim.Native.Nat.{ℕ, zero, suc, _+_, _*_, _/_, _%_, _^_}
+use Prim.Native.Nat.{ℕ, zero, suc, _+_, _*_, _%_}
 use lib.Dec.{eqb, ltb}
+use lib.ListN.{getD}
+use Rattle.base.specs.Tests.{member}
 use Rattle.text.specs.Digits.{short-of}
 use Rattle.ast.specs.declared.Place.{Place}
 use Rattle.form.specs.Syntax.{flag, place-name}
@@ -37,11 +39,11 @@ operands (suc k) b (f ∷ fs) = onto (short-of f) (operands k b fs)
 
 -- of numbers alone
 abbrev pub numeric : (shape : ℕ) → Bool
-numeric k = eqb (0x29f / 2 ^ k % 2) 1
+numeric k = member k (0 ∷ 1 ∷ 2 ∷ 3 ∷ 4 ∷ 7 ∷ 9 ∷ [])
 
 -- how many registers stand before the last operand, and that one's bound; only numbers below 1,000 are packed
 abbrev pub registers-of : (shape : ℕ) → ℕ
-registers-of k = 0x43e9 / 2 ^ (2 * k) % 4
+registers-of k = getD (1 ∷ 2 ∷ 2 ∷ 3 ∷ 3 ∷ 0 ∷ 0 ∷ 1 ∷ 0 ∷ 0 ∷ []) k 0
 
 abbrev pub bound-of : (shape : ℕ) → ℕ
 bound-of k = cond (ltb k 4) 32 1000

@@ -1,5 +1,5 @@
--- An order as one number: its kind's number, two digits of base 16, then its operands in base 32, the first one lowest.
--- The last operand may be an index.
+-- An order as one number: its shape and its operation (the place of `get` and `put`, the flag of `branch`), two digits of base 16,
+-- then its operands in base 32, the first one lowest. The last operand may be an index.
 use mathlib.Core.Bool.{Bool, cond}
 use mathlib.Core.Option.{Option, some, none}
 use Prim.Native.Nat.{ℕ, _+_, _*_, _/_, _%_, _^_}

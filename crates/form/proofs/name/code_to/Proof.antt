@@ -4,7 +4,8 @@ use denote.Ref.{now}
 use lib.Seq.{length-take-le}
 use borrow.Author.Needs.{needs}
 use Rattle.form.specs.Inner.Names.{code-at}
-use Rattle.form.proofs.Names.{short-coded, line-word}
+use Rattle.text.proofs.Words.{with-comma}
+use Rattle.form.proofs.Names.{short-coded}
 use Rattle.form.proofs.name.code_to.Statement.{statement}
 use Rattle.form.proofs.name.code_to.Tie as tie
 
@@ -16,8 +17,8 @@ returns-2 c =
     let i = c .before in
     let w = i .before .word-to in
     let a = i .before .before .before .args in
-    let l = line-word (now (a .s)) (a .e) (w .result) (w .ensures .0) (i .if1 .left) in
-    c .short-code .ensures ∙ ap code-at (l .0) ∙ short-coded _ (w .ensures .1 (omega (arith, i .if1 .left))) (l .1)
+    let l = with-comma (now (a .s)) (a .e) (λ z. i .if1 .left (w .ensures .0 ∙ z)) in
+    c .short-code .ensures ∙ ap code-at (w .ensures .0 ∙ l .0) ∙ short-coded _ (w .ensures .1 (omega (arith, i .if1 .left))) (l .1)
 
 pub code-to-spec : {M : Type 1} → statement M
 code-to-spec =
