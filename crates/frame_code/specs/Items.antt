@@ -97,14 +97,12 @@ states-from i (suc n) = S FSD s1 (fa0 + i) (pos (8 * i)) ∷ states-from (suc i)
 -- A state cell, by its pointer, to the cell at t1; s2 and t1 go on.
 abbrev pub state-copy : List Instr
 state-copy =
-    I LD t0 s2 (pos 0) ∷ R ADD t0 t0 s3 ∷ I FLD fa0 t0 (pos 0) ∷ S FSD t1 fa0 (pos 0)
-    ∷ I ADDI s2 s2 (pos 16) ∷ I ADDI t1 t1 (pos 8) ∷ []
+    I LD t0 s2 (pos 0) ∷ R ADD t0 t0 s3 ∷ I FLD fa0 t0 (pos 0) ∷ S FSD t1 fa0 (pos 0) ∷ I ADDI s2 s2 (pos 16) ∷ I ADDI t1 t1 (pos 8) ∷ []
 
 -- The cell at t1 to an observation cell.
 abbrev pub obs-copy : List Instr
 obs-copy =
-    I LD t0 s2 (pos 0) ∷ R ADD t0 t0 s3 ∷ I FLD fa0 t1 (pos 0) ∷ S FSD t0 fa0 (pos 0)
-    ∷ I ADDI s2 s2 (pos 16) ∷ I ADDI t1 t1 (pos 8) ∷ []
+    I LD t0 s2 (pos 0) ∷ R ADD t0 t0 s3 ∷ I FLD fa0 t1 (pos 0) ∷ S FSD t0 fa0 (pos 0) ∷ I ADDI s2 s2 (pos 16) ∷ I ADDI t1 t1 (pos 8) ∷ []
 
 abbrev pub prologue-fast : Head → List Item
 prologue-fast H =
