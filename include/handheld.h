@@ -1,8 +1,8 @@
 /* Deck files and single orders as RV64 machine words: libhandheld.a (`rt staticlib handheld`).
 
    Every function is proved to answer and leave what crates/handheld says, for all arguments that
-   meet the terms below. The library keeps nothing between calls, allocates nothing and calls no
-   other library.
+   meet the terms below. The library keeps nothing between calls, allocates nothing and calls nothing
+   but memcpy and memset.
 
    What the caller owes, since C cannot state it:
    - A pointer with a length: that many bytes may be read, and written where it is not const. It is
@@ -11,7 +11,12 @@
    - No memory of a call overlaps another one's of the same call.
    - 256 KiB of stack.
 
-   A refusal is one of the numbers below; 0 is none. */
+   What the loader owes, who copies the code to where it will run: the proofs assume that fetches see
+   memory as it is. So behind the last byte copied, and before the first call, `fence.i` is executed on
+   the hart that will run the code, and no hart runs a routine while its bytes are being replaced. Flags
+   and traps of float arithmetic are not modelled; nothing may hang on them.
+
+   A refusal is one of the numbers below; 0 is none. refusal_text says it in words. */
 #ifndef HANDHELD_H
 #define HANDHELD_H
 
@@ -40,12 +45,14 @@ enum {
 enum {
     DECK_FILE = 65536,  /* the longest file that is not refused for its length */
     DECK_ROOM = 65536,  /* so many bytes of a buffer count; those behind never change */
-    DECK_TEXT = 245760, /* no text is longer */
+    DECK_TEXT = 245760, /* no text of deck_text is longer */
+    REFUSAL_TEXT = 80,  /* no sentence is longer */
     DECK_LABELS = 2039,
     DECK_JUMPS = 20480
 };
 
-/* What deck_emit and deck_emit_in tell. The last five are 0 in a refusal, the line in an accepted file. */
+/* What deck_emit and deck_emit_in tell. A refusal has its number and line, and 0 in the last five; an
+   accepted file has 0 for number and line. */
 enum {
     DECK_TOLD_NUMBER,
     DECK_TOLD_LINE,
@@ -69,6 +76,11 @@ uint32_t deck_emit_in(const uint8_t *file, size_t file_length, uint8_t *buf, siz
 /* What deckwords prints of a file, into out: a line for each word, or the refusal. Answers the text's
    length; 0 where out is too short, which is then as it was. */
 size_t deck_text(const uint8_t *file, size_t file_length, uint8_t *out, size_t out_length);
+
+/* A refusal's number in words, into out: one plain sentence of ASCII, as docs/DECK.md's table has it,
+   with no zero byte behind it. Answers the sentence's length; 0 where out is too short or there is no
+   such number, and out is then as it was. */
+size_t refusal_text(uint32_t number, uint8_t *out, size_t out_length);
 
 /* The record of single orders. All zeros before the first order, as is the label memory; the jump
    memory may hold anything.

@@ -17,6 +17,13 @@ static uint8_t text[DECK_TEXT];
 static uint64_t labels[DECK_LABELS];
 static uint32_t jumps[DECK_JUMPS];
 
+/* A refusal in words; nothing for 0. */
+static void reason(uint32_t number) {
+    uint8_t sentence[REFUSAL_TEXT];
+    size_t length = refusal_text(number, sentence, sizeof sentence);
+    if (length) printf("%.*s\n", (int)length, (const char *)sentence);
+}
+
 static void deck(size_t length) {
     uint32_t told[DECK_TOLD];
     uint32_t number = deck_emit(file, length, code, sizeof code, told);
@@ -25,6 +32,7 @@ static void deck(size_t length) {
            ", jumps %" PRIu32 ", frame %" PRIu32 "\n",
            number, told[DECK_TOLD_LINE], told[DECK_TOLD_LENGTH], told[DECK_TOLD_CONSTANTS],
            told[DECK_TOLD_OFFSET], told[DECK_TOLD_JUMPS], told[DECK_TOLD_FRAME]);
+    reason(number);
 }
 
 static void words(const uint8_t *at, size_t length) {
@@ -36,12 +44,14 @@ static void words(const uint8_t *at, size_t length) {
 static void lay(const char *line, uint32_t tag, uint64_t record[ORDER_RECORD]) {
     uint32_t number = order_emit((const uint8_t *)line, strlen(line), tag, code, sizeof code, labels, jumps, record);
     printf("%" PRIu32 " %s", number, line);
+    reason(number);
 }
 
 /* Lays a line's constant as constant k. */
 static void lay_constant(const char *line, uint32_t k, uint64_t record[ORDER_RECORD]) {
     uint32_t number = order_constant((const uint8_t *)line, strlen(line), k, code, sizeof code, labels, jumps, record);
     printf("%" PRIu32 " constant %" PRIu32 ": %s", number, k, line);
+    reason(number);
 }
 
 /* Orders, and behind them the constants that they load, each with its number among the constants. */
@@ -55,6 +65,7 @@ static void by_hand(const char *const *lines, uint32_t count, const char *const 
     uint32_t number = order_finish(code, sizeof code, labels, jumps, record, told);
     printf("%" PRIu32 " finish: place %" PRIu32 ", tag %" PRIu32 ", length %" PRIu64 ", jumps %" PRIu64 ", closed %" PRIu64 "\n",
            number, told[0], told[1], record[ORDER_LENGTH], record[ORDER_JUMPS], record[ORDER_CLOSED]);
+    reason(number);
     lay(lines[0], 0, record);
     words(code, record[ORDER_LENGTH]);
 }

@@ -3,7 +3,7 @@
 //! tools/handheld builds and tries this. By hand, from the root of the repository:
 //!
 //!     rt staticlib handheld
-//!     rustc -L target/staticlib -l static=handheld examples/rust/main.rs -o target/handheld_rust
+//!     rustc --edition 2021 -L target/staticlib -l static=handheld examples/rust/main.rs -o target/handheld_rust
 //!     target/handheld_rust examples/free_bays.deck
 
 use std::io::Write;
@@ -13,6 +13,7 @@ use std::io::Write;
 mod handheld {
     pub const ROOM: usize = 65536;
     pub const TEXT: usize = 245760;
+    pub const SENTENCE: usize = 80;
     pub const LABELS: usize = 2039;
     pub const JUMPS: usize = 20480;
 
@@ -21,6 +22,7 @@ mod handheld {
         extern "C" {
             pub fn deck_emit(file: *const u8, n: usize, buf: *mut u8, m: usize, told: &mut [u32; 7]) -> u32;
             pub fn deck_text(file: *const u8, n: usize, out: *mut u8, m: usize) -> usize;
+            pub fn refusal_text(number: u32, out: *mut u8, m: usize) -> usize;
             pub fn order_emit(
                 line: *const u8,
                 n: usize,
@@ -64,6 +66,14 @@ mod handheld {
         let n = unsafe { c::deck_text(file.as_ptr(), file.len(), out.as_mut_ptr(), out.len()) };
         out.truncate(n);
         out
+    }
+
+    /// A refusal in words; nothing for 0.
+    pub fn refusal_text(number: u32) -> String {
+        let mut out = vec![0; SENTENCE];
+        let n = unsafe { c::refusal_text(number, out.as_mut_ptr(), out.len()) };
+        out.truncate(n);
+        String::from_utf8(out).unwrap()
     }
 
     /// Single orders, with their record and memories.
@@ -133,6 +143,12 @@ mod handheld {
     }
 }
 
+fn reason(number: u32) {
+    if number != 0 {
+        println!("{}", handheld::refusal_text(number));
+    }
+}
+
 fn deck(file: &[u8]) {
     let mut code = vec![0; handheld::ROOM];
     let (number, [_, line, length, offset, constants, jumps, frame]) = handheld::deck_emit(file, &mut code);
@@ -140,21 +156,37 @@ fn deck(file: &[u8]) {
     println!(
         "number {number}, line {line}, length {length}, constants {constants} at {offset}, jumps {jumps}, frame {frame}"
     );
+    reason(number);
+}
+
+/// Lays a line's order, with a tag for its jumps.
+fn lay(orders: &mut handheld::Orders, line: &str, tag: u32) {
+    let number = orders.emit(line.as_bytes(), tag);
+    print!("{number} {line}");
+    reason(number);
+}
+
+/// Lays a line's constant as constant k.
+fn lay_constant(orders: &mut handheld::Orders, line: &str, k: u32) {
+    let number = orders.constant(line.as_bytes(), k);
+    print!("{number} constant {k}: {line}");
+    reason(number);
 }
 
 /// Lays the lines' orders, each with its number among them as the tag, and behind them the constants that they load.
 fn by_hand(lines: &[&str], constants: &[&str]) {
     let mut orders = handheld::Orders::new();
     for (i, line) in lines.iter().enumerate() {
-        print!("{} {line}", orders.emit(line.as_bytes(), i as u32 + 1));
+        lay(&mut orders, line, i as u32 + 1);
     }
     for (k, line) in constants.iter().enumerate() {
-        print!("{} constant {k}: {line}", orders.constant(line.as_bytes(), k as u32));
+        lay_constant(&mut orders, line, k as u32);
     }
     let (number, [place, tag]) = orders.finish();
     let [length, jumps, closed] = orders.record;
     println!("{number} finish: place {place}, tag {tag}, length {length}, jumps {jumps}, closed {closed}");
-    print!("{} {}", orders.emit(lines[0].as_bytes(), 0), lines[0]);
+    reason(number);
+    lay(&mut orders, lines[0], 0);
     for (i, word) in orders.buf[..orders.record[0] as usize].chunks(4).enumerate() {
         println!("{},{:08x}", 4 * i, u32::from_le_bytes(word.try_into().unwrap()));
     }

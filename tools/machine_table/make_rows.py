@@ -11,7 +11,7 @@ qemu-riscv64 7.2.22 (Debian 1:7.2+dfsg-7+deb12u18), GNU as 2.40 and gcc 12.2.0.
 Each test is one instruction in assembler text with the values of some registers and one cell. GNU as gives the word, and
 harness.c (built here, run by qemu-riscv64) runs it once and says what all registers, the rounding mode, the pc and memory are
 then. Nothing is computed here: a row's right side is what the outside machine gave. Two short lists are not run: words that are
-no instruction of ours (`NOT`; document 01 says that they have no next state), and what float instructions ask of any `Floats`
+no instruction of ours (`NOT`; docs/DECISIONS.md, 51: they have no next state), and what float instructions ask of any `Floats`
 (`ASKED`; the Manual says it).
 """
 import collections

@@ -1,4 +1,4 @@
-// The driver: record.py puts this file in the place of riscv64's own tests, so that it sees the private functions.
+// The driver: build.py puts this file in the place of riscv64's own tests, so that it sees the private functions.
 // A line is a list of steps parted by `;`, each a function's name and its operands; a fresh assembler does them in turn.
 // The answer is the code's bytes in hexadecimal digits, or the value of the last step where that step has one (`=` and the number).
 use super::*;

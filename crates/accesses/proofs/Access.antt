@@ -12,7 +12,8 @@ use Rattle.machine.specs.Word.{w64, upd, load8, store8}
 use Rattle.machine.specs.Floats.{Floats}
 use Rattle.machine.specs.State.{State, getx, setx, next}
 use Rattle.machine.specs.Effect.{effect, apply}
-use Rattle.machine.specs.Step.{Among, execs}
+use Rattle.machine.specs.Step.{Among}
+use Rattle.machine.proofs.Exec.{execs}
 use Rattle.machine.proofs.Effects.{setx-twice}
 use Rattle.machine.proofs.Memory.{wrap-r, Apart, load4-store}
 use Rattle.machine.proofs.Straight.{aligned, at-first, path-run}

@@ -15,7 +15,7 @@ use lib.Signed.{mag}
 use mir.Syntax.{w32}
 use mir.Val.{SFits}
 use Rattle.isa.specs.Immediate.{twos, hi, lo}
-use Rattle.isa.specs.Instr.{Instr, I, U, ADDI, LUI, Valid, operands, registers-hold, valid}
+use Rattle.isa.specs.Instr.{Instr, I, U, ADDI, LUI, operands, registers-hold, valid}
 use Rattle.isa.specs.Encode.{encode}
 use Rattle.refusal.specs.Answer.{accepted, refused}
 use Rattle.refusal.specs.Number.{number-of}
@@ -23,16 +23,16 @@ use Rattle.refusal.specs.declared.Refusal.{Refusal}
 use Rattle.refusal.specs.declared.Refusal.the-variants.{Register, Value, Label, Twice, Unset, Far, Full, Closed, Count, Base, Unsaved, Line}
 use Rattle.encoder.specs.Answer.{word-answer, encoded}
 use Rattle.encoder.proofs.Answers.{bad-register, bad-value, good}
-use Rattle.encoder.specs.Field.{sign-of}
+use Rattle.encoder.specs.Sign.{sign-of}
 use Rattle.encoder.specs.declared.Sign.the-variants.{NonNeg, Neg}
 use Rattle.encoder.specs.declared.Encoded.{Encoded}
 use Rattle.encoder.specs.declared.Encoded.the-variants.{Word, Refused}
 use Rattle.machine.proofs.Placed.{Valids}
-use Rattle.isa.proofs.Validity.{Valid-valid, Valid-registers}
-use Rattle.assembler.specs.Plan.{no-words, pushed}
+use Rattle.isa.proofs.Validity.{Valid, Valid-valid, Valid-registers}
+use Rattle.assembler.specs.Plan.{no-words, pushed, plan-words}
 use Rattle.assembler.specs.declared.Fault.the-variants as Fault
 use Rattle.assembler.specs.declared.Plan.{Plan}
-use Rattle.accesses.specs.Plans.{answer-of, pushes-from, pushes, plan-of, Built}
+use Rattle.accesses.specs.Plans.{answer-of, pushes-from, pushes, plan-of}
 use Rattle.accesses.specs.Code.{li-code}
 use Rattle.accesses.specs.Fault.{li-takes, offset-limit}
 
@@ -115,6 +115,11 @@ collect (i ∷ is) p ws a l h =
 
 empty : Holding no-words []
 empty = record { n = refl; fault = refl; size = refl; words = refl }
+
+-- the plan holds the words of these instructions, and no fault
+pub record Built (p : Plan) (is : List Instr) : Type 0 where
+  pub words : plan-words p ≡ map encode is
+  pub fault : p .fault ≡ Fault.Nothing
 
 -- The plan of up to twelve valid instructions holds their words.
 pub built : (is : List Instr) → length is ≤ 12 → AllValid is → Built (plan-of is) is

@@ -4,6 +4,7 @@ pub mod LoadImmediate
 pub mod Access
 pub mod Stack
 pub mod Runs
+pub mod Claims
 pub mod Table
 pub mod Edges
 pub mod Collect

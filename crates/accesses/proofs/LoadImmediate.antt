@@ -12,14 +12,13 @@ use Rattle.isa.specs.Immediate.{twos, hi, lo}
 use Rattle.isa.specs.Instr.{Instr, I, U, ADDI, LUI}
 use Rattle.isa.proofs.HiLo.{lo-fits, hi-fits}
 use Rattle.machine.specs.Word.{w64}
-use Rattle.machine.specs.Floats.{Floats}
-use Rattle.machine.specs.State.{State, setx}
+use Rattle.machine.specs.State.{setx}
 use Rattle.machine.specs.Effect.{effect, apply}
 use Rattle.machine.proofs.Effects.{setx-zero, setx-same, setx-twice, twos-small}
 use Rattle.machine.proofs.Placed.{Valids}
-use Rattle.accesses.specs.Code.{near-li, li-code}
+use Rattle.accesses.specs.Code.{near, li-code}
 use Rattle.accesses.specs.Fault.{li-takes, li-fault}
-use Rattle.accesses.specs.Stands.{Stands, Goes, behind}
+use Rattle.accesses.specs.Stands.{Stands, Goes, behind, Leaves}
 use Rattle.accesses.proofs.Parts.{parts}
 use Rattle.accesses.proofs.Then.{leads}
 use Rattle.base.proofs.Bools.{passed}
@@ -47,17 +46,17 @@ module _ (d : ℕ) (z : ℤ) (hd : d < 32) where
 
   pub li-valid : Valids (li-code d z)
   unfolding li-code
-  li-valid = by (ltb (mag z) near-li) refl
+  li-valid = by (ltb (mag z) near) refl
     where
-      by : (b : Bool) → ltb (mag z) near-li ≡ b → Valids (form b)
-      by true e = let h : mag z < near-li = ltb-true _ _ e in omega arith
+      by : (b : Bool) → ltb (mag z) near ≡ b → Valids (form b)
+      by true e = let h : mag z < near = ltb-true _ _ e in omega arith
       by false e = ((hd, (hi-fits (twos 32 z), tt)), ((hd, (hd, (lo-fits (twos 32 z), tt))), tt))
 
-  module _ (t : T (li-takes z)) (Q : Floats) (s : State) where
+  module _ (t : T (li-takes z)) where
     -- The register holds the number, sign-extended to 64 bits; nothing else changes.
-    pub li-runs : Stands (li-code d z) s → Goes Q (li-code d z) s (behind (li-code d z) s (setx (s .x) d (twos 64 z)) (s .f) (s .mem))
+    pub li-runs : Leaves (li-code d z) (λ s. setx (s .x) d (twos 64 z)) (λ s. s .f) (λ s. s .mem)
     unfolding li-code effect apply
-    li-runs = by (ltb (mag z) near-li) li-valid
+    li-runs Q s = by (ltb (mag z) near) li-valid
       where
         by : (b : Bool) → Valids (form b) → Stands (form b) s → Goes Q (form b) s (behind (form b) s (setx (s .x) d (twos 64 z)) (s .f) (s .mem))
         by true v o = let e : w64 (0 + twos 64 z) ≡ twos 64 z = omega (arith, twos-small z) in leads Q (form true) s _ v tt (rw e) o

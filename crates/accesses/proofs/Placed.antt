@@ -18,11 +18,12 @@ use Rattle.assembler.specs.declared.Fault.{Fault}
 use Rattle.assembler.specs.declared.Plan.{Plan}
 use Rattle.assembler.specs.declared.Tail.{Tail}
 use Rattle.assembler.specs.declared.Tail.the-variants.{Nothing}
-use Rattle.accesses.specs.Plans.{plan-of, settled-plan, Built}
+use Rattle.accesses.specs.Plans.{plan-of}
+use Rattle.accesses.specs.Inner.Plans.{settled-plan}
 use Rattle.accesses.specs.Fault.{offset-limit, one-fault, last-pair, pair-fault, stack-fault}
 use Rattle.accesses.proofs.Runs.{pair-taken}
 use Rattle.accesses.proofs.Stack.{size-fits}
-use Rattle.accesses.proofs.Collect.{AllValid, built}
+use Rattle.accesses.proofs.Collect.{Built, AllValid, built}
 
 -- A plan's fault alone is answered.
 pub own-fault : (f : Fault) (w : List ℕ) → plan-fault (record { n = 0; fault = f; w = w }) Nothing ≡ fault-number f

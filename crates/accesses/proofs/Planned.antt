@@ -12,29 +12,29 @@ use Rattle.encoder.specs.Answer.{word-answer, encoded}
 use Rattle.encoder.specs.declared.Encoded.{Encoded}
 use Rattle.assembler.specs.Plan.{pushed}
 use Rattle.assembler.specs.declared.Plan.{Plan}
-use Rattle.accesses.specs.Code.{near-one, near-pair, near-size, li-code, point-code, access-code, allocate-stack-code}
+use Rattle.accesses.specs.Code.{near, near-pair, li-code, point-code, access-code, allocate-stack-code}
 use Rattle.accesses.specs.Plans.{answer-of, pushes-from, pushes, plan-of}
 use Rattle.accesses.proofs.Collect.{Answers, answered, collected, pushed-behind, pushed-last}
 use Rattle.accesses.proofs.Stack.{sized}
 use Rattle.accesses.proofs.Numbers.{back-small}
 
 -- an access by the instructions `is`, from a base and an offset
-module _ (near : ℕ) (is : ℕ → ℕ → List Instr) (b n : ℕ) (es : List Encoded) where
-  direct : n < near → Answers es (is b n) → pushes es ≡ plan-of (access-code near is b n)
+module _ (limit : ℕ) (is : ℕ → ℕ → List Instr) (b n : ℕ) (es : List Encoded) where
+  direct : n < limit → Answers es (is b n) → pushes es ≡ plan-of (access-code limit is b n)
   unfolding access-code
-  direct h a = rw (lt-ltb n near h) (collected es (is b n) a)
+  direct h a = rw (lt-ltb n limit h) (collected es (is b n) a)
 
-  through : near ≤ n → Answers es (is 5 0) → pushes-from (plan-of (point-code b n)) es ≡ plan-of (access-code near is b n)
+  through : limit ≤ n → Answers es (is 5 0) → pushes-from (plan-of (point-code b n)) es ≡ plan-of (access-code limit is b n)
   unfolding access-code
-  through h a = rw (le-ltb n near h) (pushed-behind (point-code b n) (is 5 0) es a)
+  through h a = rw (le-ltb n limit h) (pushed-behind (point-code b n) (is 5 0) es a)
 
 -- of one cell
 module _ (i : ℕ → ℤ → Instr) (b n : ℕ) (e : Encoded) where
-  pub one-direct : n < near-one → e ≡ answer-of (i b (toZ w32 n)) → pushes (e ∷ []) ≡ plan-of (access-code near-one (λ b n. i b (pos n) ∷ []) b n)
-  one-direct h p = direct near-one _ b n (e ∷ []) h (p ∙ ap (λ (z : ℤ). answer-of (i b z)) (back-small n (omega arith)), tt)
+  pub one-direct : n < near → e ≡ answer-of (i b (toZ w32 n)) → pushes (e ∷ []) ≡ plan-of (access-code near (λ b n. i b (pos n) ∷ []) b n)
+  one-direct h p = direct near _ b n (e ∷ []) h (p ∙ ap (λ (z : ℤ). answer-of (i b z)) (back-small n (omega arith)), tt)
 
-  pub one-through : near-one ≤ n → e ≡ answer-of (i 5 (pos 0)) → pushed (plan-of (point-code b n)) e ≡ plan-of (access-code near-one (λ b n. i b (pos n) ∷ []) b n)
-  one-through h p = through near-one _ b n (e ∷ []) h (p, tt)
+  pub one-through : near ≤ n → e ≡ answer-of (i 5 (pos 0)) → pushed (plan-of (point-code b n)) e ≡ plan-of (access-code near (λ b n. i b (pos n) ∷ []) b n)
+  one-through h p = through near _ b n (e ∷ []) h (p, tt)
 
 -- of two cells, with the registers r and r + 1
 module _ (i : ℕ → ℕ → ℤ → Instr) (r b n : ℕ) (d e : Encoded) where
@@ -49,11 +49,11 @@ module _ (i : ℕ → ℕ → ℤ → Instr) (r b n : ℕ) (d e : Encoded) where
 
 -- a stack size
 module _ (n : ℕ) (i : Instr) (z : ℤ) (j : Instr) (e : Encoded) where
-  pub size-direct : n < near-size → e ≡ answer-of i → pushes (e ∷ []) ≡ plan-of (sized n i z j)
-  size-direct h p = rw (lt-ltb n near-size h) (collected (e ∷ []) (i ∷ []) (p, tt))
+  pub size-direct : n < near → e ≡ answer-of i → pushes (e ∷ []) ≡ plan-of (sized n i z j)
+  size-direct h p = rw (lt-ltb n near h) (collected (e ∷ []) (i ∷ []) (p, tt))
 
-  pub size-through : near-size ≤ n → word-answer e ≡ encoded j → pushed (plan-of (li-code 5 z)) e ≡ plan-of (sized n i z j)
-  size-through h p = rw (le-ltb n near-size h) (pushed-last (li-code 5 z) j (answered e j p))
+  pub size-through : near ≤ n → word-answer e ≡ encoded j → pushed (plan-of (li-code 5 z)) e ≡ plan-of (sized n i z j)
+  size-through h p = rw (le-ltb n near h) (pushed-last (li-code 5 z) j (answered e j p))
 
 -- s5 is then sp
 pub then-base : (n : ℕ) {p : Plan} (e : Encoded) → p ≡ plan-of (sized n (I ADDI 2 2 (negℤ (pos n))) (pos n) (R SUB 2 2 5)) → word-answer e ≡ encoded (R ADD 21 2 0) → pushed p e ≡ plan-of (allocate-stack-code n)

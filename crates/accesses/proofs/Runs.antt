@@ -16,24 +16,24 @@ use Rattle.machine.specs.State.{State, getx, setx, next}
 use Rattle.base.proofs.Bools.{and-l, and-r}
 use Rattle.machine.proofs.Memory.{Apart, dist-ahead}
 use Rattle.machine.proofs.Placed.{Valids}
-use Rattle.accesses.specs.Code.{near-li, li-code, point-code, access-code, near-one, near-pair, load-float-code, save-float-code, load-int-code, load-complex-code, save-complex-code}
+use Rattle.accesses.specs.Code.{near, li-code, point-code, access-code, near-pair, load-float-code, save-float-code, load-int-code, load-complex-code, save-complex-code}
 use Rattle.accesses.specs.Fault.{offset-limit, one-fault, last-pair, pair-fault}
-use Rattle.accesses.specs.Plans.{one-code, pair-code}
+use Rattle.accesses.specs.Inner.Plans.{one-code, pair-code}
 use Rattle.accesses.specs.declared.Cell.{Cell}
 use Rattle.accesses.specs.declared.Cell.the-variants.{LoadFloat, SaveFloat, LoadInt}
-use Rattle.accesses.specs.Stands.{Stands, Goes, behind, cell-at, with-t0}
+use Rattle.accesses.specs.Stands.{Stands, Goes, behind, Leaves, cell-at, Misses, with-t0}
 use Rattle.accesses.proofs.Then.{valids-join}
 use Rattle.accesses.proofs.LoadImmediate.{li-valid}
 use Rattle.accesses.proofs.Access.{Accepted, accepted, access-runs, load-float-direct, load-int-direct, save-float-direct, load-pair-direct, save-pair-direct}
 
 -- ---- validity
 
-access-valid : (near : ℕ) (is : ℕ → ℕ → List Instr) (b n : ℕ) → b < 32 → (n < near → Valids (is b n)) → Valids (is 5 0) → Valids (access-code near is b n)
+access-valid : (limit : ℕ) (is : ℕ → ℕ → List Instr) (b n : ℕ) → b < 32 → (n < limit → Valids (is b n)) → Valids (is 5 0) → Valids (access-code limit is b n)
 unfolding access-code point-code
-access-valid near is b n hb v w = by (ltb n near) refl
+access-valid limit is b n hb v w = by (ltb n limit) refl
   where
-    by : (t : Bool) → ltb n near ≡ t → Valids (cond t (is b n) (point-code b n ++ is 5 0))
-    by true e = v (ltb-true n near e)
+    by : (t : Bool) → ltb n limit ≡ t → Valids (cond t (is b n) (point-code b n ++ is 5 0))
+    by true e = v (ltb-true n limit e)
     by false e =
         valids-join (point-code b n) (is 5 0) (valids-join (li-code 5 (pos n)) (R ADD 5 5 b ∷ []) (li-valid 5 (pos n) (omega arith)) (omega arith)) w
 
@@ -41,15 +41,15 @@ access-valid near is b n hb v w = by (ltb n near) refl
 
 point-length : (b n : ℕ) → length (point-code b n) ≤ 3
 unfolding point-code li-code
-point-length b n = by (ltb n near-li)
+point-length b n = by (ltb n near)
   where
     by : (t : Bool) → length (cond t (I ADDI 5 0 (pos n) ∷ []) (U LUI 5 (pos (hi (n % 2 ^ 32))) ∷ I ADDI 5 5 (lo (n % 2 ^ 32)) ∷ []) ++ (R ADD 5 5 b ∷ [])) ≤ 3
     by true = omega arith
     by false = omega arith
 
-pub access-length : (near : ℕ) (is : ℕ → ℕ → List Instr) (b n k : ℕ) → length (is b n) ≤ k → length (is 5 0) ≤ k → length (access-code near is b n) ≤ 3 + k
+pub access-length : (limit : ℕ) (is : ℕ → ℕ → List Instr) (b n k : ℕ) → length (is b n) ≤ k → length (is 5 0) ≤ k → length (access-code limit is b n) ≤ 3 + k
 unfolding access-code
-access-length near is b n k h l = by (ltb n near)
+access-length limit is b n k h l = by (ltb n limit)
   where
     by : (t : Bool) → length (cond t (is b n) (point-code b n ++ is 5 0)) ≤ 3 + k
     by true = omega arith
@@ -78,58 +78,57 @@ last-word a p k l h x g u v = h x g u (omega (arith, dist-ahead p (4 * k) x (ome
 -- ---- single accesses
 
 module _ (d b n : ℕ) (h : one-fault d b n ≡ 0) where
-  one-ok : Accepted near-one (ltb d 32 && ltb b 32) b n
-  one-ok = accepted near-one (ltb d 32 && ltb b 32) b n h
+  one-ok : Accepted near (ltb d 32 && ltb b 32) b n
+  one-ok = accepted near (ltb d 32 && ltb b 32) b n h
 
   one-fits : (d < 32) × (b < 32)
   one-fits = one-registers d b (one-ok .registers-fit)
 
   pub load-float-valid : Valids (load-float-code d b n)
-  load-float-valid = let p = one-fits in access-valid near-one _ b n (p .1) (λ l. omega arith) (omega arith)
+  load-float-valid = let p = one-fits in access-valid near _ b n (p .1) (λ l. omega arith) (omega arith)
 
   pub save-float-valid : Valids (save-float-code d b n)
-  save-float-valid = let p = one-fits in access-valid near-one _ b n (p .1) (λ l. omega arith) (omega arith)
+  save-float-valid = let p = one-fits in access-valid near _ b n (p .1) (λ l. omega arith) (omega arith)
 
   pub load-int-valid : Valids (load-int-code d b n)
-  load-int-valid = let p = one-fits in access-valid near-one _ b n (p .1) (λ l. omega arith) (omega arith)
+  load-int-valid = let p = one-fits in access-valid near _ b n (p .1) (λ l. omega arith) (omega arith)
 
-  module _ (Q : Floats) (s : State) where
-    -- the float register holds the cell
-    pub load-float-runs : Stands (load-float-code d b n) s → Goes Q (load-float-code d b n) s (behind (load-float-code d b n) s (with-t0 near-one b n s) (upd (s .f) d (load8 (s .mem) (cell-at s b n))) (s .mem))
-    unfolding setx upd
-    load-float-runs =
-        let p = one-fits in
-        access-runs Q s b n (one-ok .within-limit) near-one _ (λ x. x) _ _ (p .1) (one-ok .base-free)
-        (λ l. load-float-direct Q s b n _ (p .1) l refl d (p .0))
-        (λ l. load-float-direct Q _ 5 0 _ (omega arith) (omega arith) (at-zero (getx s b) n) d (p .0))
+  -- the float register holds the cell
+  pub load-float-runs : Leaves (load-float-code d b n) (with-t0 near b n) (λ s. upd (s .f) d (load8 (s .mem) (cell-at s b n))) (λ s. s .mem)
+  unfolding setx upd
+  load-float-runs Q s =
+      let p = one-fits in
+      access-runs Q s b n (one-ok .within-limit) near _ (λ x. x) _ _ (p .1) (one-ok .base-free)
+      (λ l. load-float-direct Q s b n _ (p .1) l refl d (p .0))
+      (λ l. load-float-direct Q _ 5 0 _ (omega arith) (omega arith) (at-zero (getx s b) n) d (p .0))
 
-    -- the register holds the cell; x0 stays 0
-    pub load-int-runs : Stands (load-int-code d b n) s → Goes Q (load-int-code d b n) s (behind (load-int-code d b n) s (setx (with-t0 near-one b n s) d (load8 (s .mem) (cell-at s b n))) (s .f) (s .mem))
-    unfolding setx upd
-    load-int-runs =
-        let p = one-fits in
-        access-runs Q s b n (one-ok .within-limit) near-one _ (λ x. setx x d (load8 (s .mem) (cell-at s b n))) _ _ (p .1) (one-ok .base-free)
-        (λ l. load-int-direct Q s b n _ (p .1) l refl d (p .0))
-        (λ l. load-int-direct Q _ 5 0 _ (omega arith) (omega arith) (at-zero (getx s b) n) d (p .0))
+  -- the register holds the cell; x0 stays 0
+  pub load-int-runs : Leaves (load-int-code d b n) (λ s. setx (with-t0 near b n s) d (load8 (s .mem) (cell-at s b n))) (λ s. s .f) (λ s. s .mem)
+  unfolding setx upd
+  load-int-runs Q s =
+      let p = one-fits in
+      access-runs Q s b n (one-ok .within-limit) near _ (λ x. setx x d (load8 (s .mem) (cell-at s b n))) _ _ (p .1) (one-ok .base-free)
+      (λ l. load-int-direct Q s b n _ (p .1) l refl d (p .0))
+      (λ l. load-int-direct Q _ 5 0 _ (omega arith) (omega arith) (at-zero (getx s b) n) d (p .0))
 
-    -- the cell holds the float register
-    pub save-float-runs : Stands (save-float-code d b n) s → Goes Q (save-float-code d b n) s (behind (save-float-code d b n) s (with-t0 near-one b n s) (s .f) (store8 (s .mem) (cell-at s b n) (s .f d)))
-    unfolding setx upd
-    save-float-runs =
-        let p = one-fits in
-        access-runs Q s b n (one-ok .within-limit) near-one _ (λ x. x) _ _ (p .1) (one-ok .base-free)
-        (λ l. save-float-direct Q s b n _ (p .1) l refl d (p .0))
-        (λ l. save-float-direct Q _ 5 0 _ (omega arith) (omega arith) (at-zero (getx s b) n) d (p .0))
+  -- the cell holds the float register
+  pub save-float-runs : Leaves (save-float-code d b n) (with-t0 near b n) (λ s. s .f) (λ s. store8 (s .mem) (cell-at s b n) (s .f d))
+  unfolding setx upd
+  save-float-runs Q s =
+      let p = one-fits in
+      access-runs Q s b n (one-ok .within-limit) near _ (λ x. x) _ _ (p .1) (one-ok .base-free)
+      (λ l. save-float-direct Q s b n _ (p .1) l refl d (p .0))
+      (λ l. save-float-direct Q _ 5 0 _ (omega arith) (omega arith) (at-zero (getx s b) n) d (p .0))
 
 -- ---- pairs
 
-near-form : (near : ℕ) (is : ℕ → ℕ → List Instr) (b n : ℕ) → n < near → access-code near is b n ≡ is b n
+near-form : (limit : ℕ) (is : ℕ → ℕ → List Instr) (b n : ℕ) → n < limit → access-code limit is b n ≡ is b n
 unfolding access-code
-near-form near is b n l = rw (lt-ltb n near l)
+near-form limit is b n l = rw (lt-ltb n limit l)
 
-far-form : (near : ℕ) (is : ℕ → ℕ → List Instr) (b n : ℕ) → near ≤ n → access-code near is b n ≡ point-code b n ++ is 5 0
+far-form : (limit : ℕ) (is : ℕ → ℕ → List Instr) (b n : ℕ) → limit ≤ n → access-code limit is b n ≡ point-code b n ++ is 5 0
 unfolding access-code
-far-form near is b n l = rw (le-ltb n near l)
+far-form limit is b n l = rw (le-ltb n limit l)
 
 module _ (d b n : ℕ) (h : pair-fault d b n ≡ 0) where
   pair-ok : Accepted near-pair (leb d last-pair && ltb b 32) b n
@@ -147,19 +146,19 @@ module _ (d b n : ℕ) (h : pair-fault d b n ≡ 0) where
   pub save-complex-valid : Valids (save-complex-code d b n)
   save-complex-valid = let p = pair-fits in access-valid near-pair _ b n (p .1) (λ l. omega arith) (omega arith)
 
-  module _ (Q : Floats) (s : State) where
-    -- both float registers hold their cells
-    pub load-complex-runs : Stands (load-complex-code d b n) s → Goes Q (load-complex-code d b n) s (behind (load-complex-code d b n) s (with-t0 near-pair b n s) (upd (upd (s .f) d (load8 (s .mem) (cell-at s b n))) (d + 1) (load8 (s .mem) (cell-at s b (n + 8)))) (s .mem))
-    unfolding setx upd
-    load-complex-runs =
-        let p = pair-fits in
-        access-runs Q s b n (pair-ok .within-limit) near-pair _ (λ x. x) _ _ (p .1) (pair-ok .base-free)
-        (λ l. load-pair-direct Q s b n _ _ (p .1) l refl refl d (p .0))
-        (λ l. load-pair-direct Q _ 5 0 _ _ (omega arith) (omega arith) (at-zero (getx s b) n) (at-eight (getx s b) n) d (p .0))
+  -- both float registers hold their cells
+  pub load-complex-runs : Leaves (load-complex-code d b n) (with-t0 near-pair b n) (λ s. upd (upd (s .f) d (load8 (s .mem) (cell-at s b n))) (d + 1) (load8 (s .mem) (cell-at s b (n + 8)))) (λ s. s .mem)
+  unfolding setx upd
+  load-complex-runs Q s =
+      let p = pair-fits in
+      access-runs Q s b n (pair-ok .within-limit) near-pair _ (λ x. x) _ _ (p .1) (pair-ok .base-free)
+      (λ l. load-pair-direct Q s b n _ _ (p .1) l refl refl d (p .0))
+      (λ l. load-pair-direct Q _ 5 0 _ _ (omega arith) (omega arith) (at-zero (getx s b) n) (at-eight (getx s b) n) d (p .0))
 
+  module _ (Q : Floats) (s : State) where
     -- the first cell and the code have no byte in common
-    abbrev pub Away : Type 0
-    Away = Apart (cell-at s b n) 8 (s .pc) (4 * length (save-complex-code d b n))
+    abbrev Away : Type 0
+    Away = Misses (cell-at s b n) (save-complex-code d b n) s
 
     last-near : n < near-pair → Away → Apart (cell-at s b n) 8 (next s) 4
     last-near l a = last-word (cell-at s b n) (s .pc) 1 (omega arith) (rw (near-form near-pair _ b n l) at a)

@@ -8,15 +8,16 @@ use borrow.Author.Tests.{ltb-true}
 use lib.Dec.{T, ltb, leb, leb→le, le→leb, lt→ltb}
 use lib.IntN.{ℤ, pos, negℤ}
 use Rattle.isa.specs.Immediate.{twos}
-use Rattle.isa.specs.Instr.{Instr, Valid, R, I, ADD, SUB, ADDI}
+use Rattle.isa.specs.Instr.{Instr, R, I, ADD, SUB, ADDI}
+use Rattle.isa.proofs.Validity.{Valid}
 use Rattle.machine.specs.Word.{w64, upd}
 use Rattle.machine.specs.Floats.{Floats}
 use Rattle.machine.specs.State.{State, setx}
 use Rattle.machine.specs.Effect.{write-x, minus, effect, apply}
 use Rattle.machine.proofs.Placed.{Valids}
-use Rattle.accesses.specs.Code.{near-size, li-code, sub-stack-code, add-stack-code, allocate-stack-code}
+use Rattle.accesses.specs.Code.{near, li-code, sub-stack-code, add-stack-code, allocate-stack-code}
 use Rattle.accesses.specs.Fault.{offset-limit, li-takes, stack-fault}
-use Rattle.accesses.specs.Stands.{Stands, Goes, behind, with-size}
+use Rattle.accesses.specs.Stands.{Stands, Goes, behind, Leaves, with-size}
 use Rattle.accesses.proofs.Then.{leads, valids-join, through, behind-both}
 use Rattle.base.proofs.Bools.{passed}
 use Rattle.accesses.proofs.Numbers.{mag-neg}
@@ -36,16 +37,16 @@ sum-minus u (suc n) h = omega arith
 
 -- the code of a size that i takes directly, else j from t0 that holds z
 abbrev pub sized : (n : ℕ) (i : Instr) (z : ℤ) (j : Instr) → List Instr
-sized n i z j = cond (ltb n near-size) (i ∷ []) (li-code 5 z ++ (j ∷ []))
+sized n i z j = cond (ltb n near) (i ∷ []) (li-code 5 z ++ (j ∷ []))
 
 module _ (Q : Floats) (s : State) (n : ℕ) (z : ℤ) (t : T (li-takes z)) (i j : Instr) (v : ℕ) where
   -- sp set to v: directly, or from t0 that holds z
-  pub size-runs : (n < near-size → Valid i) → (n < near-size → effect Q i s ≡ write-x 2 v) → Valid j → effect Q j (behind (li-code 5 z) s (setx (s .x) 5 (twos 64 z)) (s .f) (s .mem)) ≡ write-x 2 v → Stands (sized n i z j) s → Goes Q (sized n i z j) s (behind (sized n i z j) s (setx (with-size n z s) 2 v) (s .f) (s .mem))
+  pub size-runs : (n < near → Valid i) → (n < near → effect Q i s ≡ write-x 2 v) → Valid j → effect Q j (behind (li-code 5 z) s (setx (s .x) 5 (twos 64 z)) (s .f) (s .mem)) ≡ write-x 2 v → Stands (sized n i z j) s → Goes Q (sized n i z j) s (behind (sized n i z j) s (setx (with-size n z s) 2 v) (s .f) (s .mem))
   unfolding apply
-  size-runs vi hi vj hj = by (ltb n near-size) refl
+  size-runs vi hi vj hj = by (ltb n near) refl
     where
-      by : (b : Bool) → ltb n near-size ≡ b → Stands (cond b (i ∷ []) (li-code 5 z ++ (j ∷ []))) s → Goes Q (cond b (i ∷ []) (li-code 5 z ++ (j ∷ []))) s (behind (cond b (i ∷ []) (li-code 5 z ++ (j ∷ []))) s (setx (cond b (s .x) (setx (s .x) 5 (twos 64 z))) 2 v) (s .f) (s .mem))
-      by true e o = let l : n < near-size = ltb-true n near-size e in leads Q (i ∷ []) s _ (vi l, tt) tt (rw (hi l)) o
+      by : (b : Bool) → ltb n near ≡ b → Stands (cond b (i ∷ []) (li-code 5 z ++ (j ∷ []))) s → Goes Q (cond b (i ∷ []) (li-code 5 z ++ (j ∷ []))) s (behind (cond b (i ∷ []) (li-code 5 z ++ (j ∷ []))) s (setx (cond b (s .x) (setx (s .x) 5 (twos 64 z))) 2 v) (s .f) (s .mem))
+      by true e o = let l : n < near = ltb-true n near e in leads Q (i ∷ []) s _ (vi l, tt) tt (rw (hi l)) o
       by false e o =
           let x : ℕ → ℕ = setx (s .x) 5 (twos 64 z) in
           through Q (li-code 5 z) (j ∷ []) s x (s .f) _
@@ -55,15 +56,15 @@ module _ (Q : Floats) (s : State) (n : ℕ) (z : ℤ) (t : T (li-takes z)) (i j 
 
 -- ---- validity
 
-size-valid : (n : ℕ) (z : ℤ) (i j : Instr) → (n < near-size → Valid i) → Valid j → Valids (sized n i z j)
-size-valid n z i j v w = by (ltb n near-size) refl
+size-valid : (n : ℕ) (z : ℤ) (i j : Instr) → (n < near → Valid i) → Valid j → Valids (sized n i z j)
+size-valid n z i j v w = by (ltb n near) refl
   where
-    by : (b : Bool) → ltb n near-size ≡ b → Valids (cond b (i ∷ []) (li-code 5 z ++ (j ∷ [])))
-    by true e = (v (ltb-true n near-size e), tt)
+    by : (b : Bool) → ltb n near ≡ b → Valids (cond b (i ∷ []) (li-code 5 z ++ (j ∷ [])))
+    by true e = (v (ltb-true n near e), tt)
     by false e = valids-join (li-code 5 z) (j ∷ []) (li-valid 5 z (omega arith)) (w, tt)
 
-less-valid : (n : ℕ) → n < near-size → Valid (I ADDI 2 2 (negℤ (pos n)))
-less-valid n h = omega (arith, mag-neg n near-size h)
+less-valid : (n : ℕ) → n < near → Valid (I ADDI 2 2 (negℤ (pos n)))
+less-valid n h = omega (arith, mag-neg n near h)
 
 -- whatever the size
 pub sub-stack-valid : (n : ℕ) → Valids (sub-stack-code n)
@@ -82,27 +83,27 @@ allocate-stack-valid n =
 
 -- ---- what they do
 
-module _ (Q : Floats) (s : State) (n : ℕ) (h : stack-fault n ≡ 0) where
+module _ (n : ℕ) (h : stack-fault n ≡ 0) where
   -- sp less n
-  pub sub-stack-runs : Stands (sub-stack-code n) s → Goes Q (sub-stack-code n) s (behind (sub-stack-code n) s (setx (with-size n (negℤ (pos n)) s) 2 (minus (s .x 2) n)) (s .f) (s .mem))
+  pub sub-stack-runs : Leaves (sub-stack-code n) (λ s. setx (with-size n (negℤ (pos n)) s) 2 (minus (s .x 2) n)) (λ s. s .f) (λ s. s .mem)
   unfolding sub-stack-code effect setx upd
-  sub-stack-runs =
+  sub-stack-runs Q s =
       let l : n ≤ offset-limit = size-fits n h in
       let e : w64 (s .x 2 + twos 64 (negℤ (pos n))) ≡ minus (s .x 2) n = sum-minus (s .x 2) n l in
       size-runs Q s n (negℤ (pos n)) (takes-minus n l) (I ADDI 2 2 (negℤ (pos n))) (R ADD 2 2 5) _ (less-valid n) (λ k. rw e) (omega arith) (rw e)
 
   -- sp and n
-  pub add-stack-runs : Stands (add-stack-code n) s → Goes Q (add-stack-code n) s (behind (add-stack-code n) s (setx (with-size n (pos n) s) 2 (w64 (s .x 2 + n))) (s .f) (s .mem))
+  pub add-stack-runs : Leaves (add-stack-code n) (λ s. setx (with-size n (pos n) s) 2 (w64 (s .x 2 + n))) (λ s. s .f) (λ s. s .mem)
   unfolding add-stack-code effect setx upd
-  add-stack-runs =
+  add-stack-runs Q s =
       let l : n ≤ offset-limit = size-fits n h in
       let e : n % 2 ^ 64 ≡ n = omega arith in
       size-runs Q s n (pos n) (le→leb n offset-limit l) (I ADDI 2 2 (pos n)) (R ADD 2 2 5) _ (λ k. omega arith) (λ k. rw e) (omega arith) (rw e)
 
   -- sp less n, and s5 the same
-  pub allocate-stack-runs : Stands (allocate-stack-code n) s → Goes Q (allocate-stack-code n) s (behind (allocate-stack-code n) s (setx (setx (with-size n (pos n) s) 2 (minus (s .x 2) n)) 21 (minus (s .x 2) n)) (s .f) (s .mem))
+  pub allocate-stack-runs : Leaves (allocate-stack-code n) (λ s. setx (setx (with-size n (pos n) s) 2 (minus (s .x 2) n)) 21 (minus (s .x 2) n)) (λ s. s .f) (λ s. s .mem)
   unfolding allocate-stack-code effect apply setx upd
-  allocate-stack-runs =
+  allocate-stack-runs Q s =
       let l : n ≤ offset-limit = size-fits n h in
       let e : w64 (s .x 2 + twos 64 (negℤ (pos n))) ≡ minus (s .x 2) n = sum-minus (s .x 2) n l in
       let g : n % 2 ^ 64 ≡ n = omega arith in

@@ -11,7 +11,8 @@ use Rattle.isa.specs.Encode.{encode}
 use Rattle.machine.specs.Word.{w64}
 use Rattle.machine.specs.Floats.{Floats}
 use Rattle.machine.specs.State.{State}
-use Rattle.machine.specs.Step.{words, execs, Fit}
+use Rattle.machine.specs.Step.{words}
+use Rattle.machine.proofs.Exec.{execs, Fit}
 use Rattle.machine.proofs.Runs.{joined, wider, run-sound}
 use Rattle.machine.proofs.Straight.{lead, lead-run}
 use Rattle.machine.proofs.Placed.{Valids, code-left, code-right}

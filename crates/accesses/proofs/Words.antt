@@ -7,7 +7,8 @@ use Rattle.assembler.specs.declared.Fault.the-variants as Fault
 use Rattle.assembler.proofs.Tests.{no}
 use Rattle.encoder.specs.declared.Encoded.{Encoded}
 use Rattle.encoder.specs.declared.Encoded.the-variants.{Word, Refused}
-use Rattle.accesses.specs.Plans.{is-word, word-of, pushes}
+use Rattle.accesses.specs.Plans.{word-of, pushes}
+use Rattle.accesses.specs.Inner.Plans.{is-word}
 
 pub words-two : (a b : Encoded) → is-word a ≡ true → is-word b ≡ true → record { n = 2; fault = Fault.Nothing; w = word-of a ∷ word-of b ∷ 0 ∷ 0 ∷ 0 ∷ 0 ∷ 0 ∷ 0 ∷ 0 ∷ 0 ∷ 0 ∷ 0 ∷ [] } ≡ pushes (a ∷ b ∷ [])
 unfolding pushed

@@ -9,38 +9,35 @@ use Rattle.isa.specs.Immediate.{twos, hi, lo}
 use Rattle.isa.specs.Register.{zero, sp, t0, s5}
 use Rattle.isa.specs.Instr.{Instr, R, I, S, U, ADD, SUB, ADDI, LD, FLD, FSD, LUI}
 
--- What one `addi` holds is below this. (`mag z` is n both for n and for -1 - n.)
-abbrev pub near-li : ℕ
-near-li = 2048
+-- What a signed 12-bit field holds is below this. (`mag z` is n both for n and for -1 - n.)
+abbrev pub near : ℕ
+near = 2048
 
 -- One `addi` for -2048..2047, else `lui`, `addi`.
 unfoldable pub li-code : (d : ℕ) → ℤ → List Instr
 li-code d z =
-    cond (ltb (mag z) near-li) (I ADDI d zero z ∷ []) (U LUI d (pos (hi (twos 32 z))) ∷ I ADDI d d (lo (twos 32 z)) ∷ [])
+    cond (ltb (mag z) near) (I ADDI d zero z ∷ []) (U LUI d (pos (hi (twos 32 z))) ∷ I ADDI d d (lo (twos 32 z)) ∷ [])
 
 -- t0 is base + offset
 unfoldable pub point-code : (base offset : ℕ) → List Instr
 point-code base n = li-code t0 (pos n) ++ (R ADD t0 t0 base ∷ [])
 
--- Offsets below `near` go into the access itself; others through t0.
-unfoldable pub access-code : (near : ℕ) → (ℕ → ℕ → List Instr) → (base offset : ℕ) → List Instr
-access-code near is base n = cond (ltb n near) (is base n) (point-code base n ++ is t0 0)
+-- Offsets below `limit` go into the access itself; others through t0.
+unfoldable pub access-code : (limit : ℕ) → (ℕ → ℕ → List Instr) → (base offset : ℕ) → List Instr
+access-code limit is base n = cond (ltb n limit) (is base n) (point-code base n ++ is t0 0)
 
--- single accesses are direct below this offset, pairs below the other
-abbrev pub near-one : ℕ
-near-one = 2048
-
+-- a pair is direct below this offset: its second cell is 8 further
 abbrev pub near-pair : ℕ
 near-pair = 2040
 
 abbrev pub load-float-code : (d base offset : ℕ) → List Instr
-load-float-code d = access-code near-one (λ b n. I FLD d b (pos n) ∷ [])
+load-float-code d = access-code near (λ b n. I FLD d b (pos n) ∷ [])
 
 abbrev pub save-float-code : (s base offset : ℕ) → List Instr
-save-float-code s = access-code near-one (λ b n. S FSD b s (pos n) ∷ [])
+save-float-code s = access-code near (λ b n. S FSD b s (pos n) ∷ [])
 
 abbrev pub load-int-code : (d base offset : ℕ) → List Instr
-load-int-code d = access-code near-one (λ b n. I LD d b (pos n) ∷ [])
+load-int-code d = access-code near (λ b n. I LD d b (pos n) ∷ [])
 
 -- A pair is float registers d and d + 1, with the cells at offset and offset + 8.
 abbrev pub load-complex-code : (d base offset : ℕ) → List Instr
@@ -51,18 +48,15 @@ save-complex-code s = access-code near-pair (λ b n. S FSD b s (pos n) ∷ S FSD
 
 -- ---- the stack
 
-abbrev pub near-size : ℕ
-near-size = 2048
-
 unfoldable pub sub-stack-code : (size : ℕ) → List Instr
 sub-stack-code n =
-    cond (ltb n near-size) (I ADDI sp sp (negℤ (pos n)) ∷ []) (li-code t0 (negℤ (pos n)) ++ (R ADD sp sp t0 ∷ []))
+    cond (ltb n near) (I ADDI sp sp (negℤ (pos n)) ∷ []) (li-code t0 (negℤ (pos n)) ++ (R ADD sp sp t0 ∷ []))
 
 unfoldable pub add-stack-code : (size : ℕ) → List Instr
-add-stack-code n = cond (ltb n near-size) (I ADDI sp sp (pos n) ∷ []) (li-code t0 (pos n) ++ (R ADD sp sp t0 ∷ []))
+add-stack-code n = cond (ltb n near) (I ADDI sp sp (pos n) ∷ []) (li-code t0 (pos n) ++ (R ADD sp sp t0 ∷ []))
 
 -- and s5 is then sp
 unfoldable pub allocate-stack-code : (size : ℕ) → List Instr
 allocate-stack-code n =
-    cond (ltb n near-size) (I ADDI sp sp (negℤ (pos n)) ∷ []) (li-code t0 (pos n) ++ (R SUB sp sp t0 ∷ []))
+    cond (ltb n near) (I ADDI sp sp (negℤ (pos n)) ∷ []) (li-code t0 (pos n) ++ (R SUB sp sp t0 ∷ []))
     ++ (R ADD s5 sp zero ∷ [])

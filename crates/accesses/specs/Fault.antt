@@ -6,7 +6,7 @@ use lib.IntN.{ℤ, pos, negsuc}
 use Rattle.isa.specs.Register.{t0}
 use Rattle.refusal.specs.Number.{number-of}
 use Rattle.refusal.specs.declared.Refusal.the-variants.{Register, Value, Base}
-use Rattle.accesses.specs.Code.{near-one, near-pair}
+use Rattle.accesses.specs.Code.{near, near-pair}
 
 -- offsets and stack sizes go to this
 abbrev pub offset-limit : ℕ
@@ -21,15 +21,15 @@ abbrev pub li-fault : (d : ℕ) → ℤ → ℕ
 li-fault d z = cond (ltb d 32) (cond (li-takes z) 0 (number-of Value)) (number-of Register)
 
 -- t0 can't be the base where t0 is computed
-abbrev pub access-fault : (near : ℕ) → (registers : Bool) → (base offset : ℕ) → ℕ
-access-fault near registers base n =
+abbrev pub access-fault : (limit : ℕ) → (registers : Bool) → (base offset : ℕ) → ℕ
+access-fault limit registers base n =
     cond registers
-    (cond (leb n offset-limit) (cond (ltb n near || not (eqb base t0)) 0 (number-of Base)) (number-of Value))
+    (cond (leb n offset-limit) (cond (ltb n limit || not (eqb base t0)) 0 (number-of Base)) (number-of Value))
     (number-of Register)
 
 -- `load_float`, `save_float`, `load_int`
 abbrev pub one-fault : (r base offset : ℕ) → ℕ
-one-fault r base = access-fault near-one (ltb r 32 && ltb base 32) base
+one-fault r base = access-fault near (ltb r 32 && ltb base 32) base
 
 -- the last register that starts a pair
 abbrev pub last-pair : ℕ

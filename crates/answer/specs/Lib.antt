@@ -1,1 +1,2 @@
+-- the text that `deckwords` prints of a deck file
 pub mod Answer

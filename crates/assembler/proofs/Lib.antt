@@ -1,4 +1,5 @@
 pub mod Tests
+pub mod Tags
 pub mod Checks
 pub mod Writes
 pub mod Items

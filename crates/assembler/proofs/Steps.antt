@@ -14,7 +14,7 @@ use Rattle.assembler.specs.Item.{Item, raw, label}
 use Rattle.assembler.specs.Label.{is-set, with-place}
 use Rattle.assembler.specs.Bytes.{room, written}
 use Rattle.assembler.specs.State.{State, Outcome, state, emit-answer, outcome, sound, fits}
-use Rattle.assembler.specs.Put.{words, jumps, labels, among, twice, with-label, place, placed, verdict, put-number, settled, put}
+use Rattle.assembler.specs.Put.{words, jumps, labels, twice, with-label, place, placed, verdict, put-number, settled, put}
 use Rattle.assembler.specs.Constant.{constant-items, constant-fault}
 use Rattle.ast.specs.Constant.{constant-bits}
 use Rattle.assembler.specs.Plan.{label-fault, tail-items, plan-words, plan-items, plan-fault}
@@ -57,7 +57,7 @@ module _ (l : ℕ) (s : State) where
   label-refused k h e = rw (le-ltb l 2039 h) (e ∙ fault-first 2 _ _ _ _ _ _ (λ z. omega arith))
 
   pub label-number : l < 2039 → put-number (label-fault l) (label l ∷ []) s ≡ verdict 0 (is-set (getD (s .labels) l 0)) 0 0 (length (s .buf)) (s .asm)
-  unfolding words jumps labels twice among
+  unfolding words jumps labels twice
   label-number h = rw (lt-ltb l 2039 h, or-false)
 
 module _ (k : ℕ) (c : Constant) (s : State) where
@@ -66,7 +66,7 @@ module _ (k : ℕ) (c : Constant) (s : State) where
   constant-refused n h e = rw (lt-leb k 1007 h) (e ∙ fault-first 9 _ _ _ _ _ _ (λ z. omega arith))
 
   pub constant-number : k ≤ 1007 → put-number (constant-fault k) (constant-items k c) s ≡ verdict 0 (is-set (getD (s .labels) (1024 + k) 0)) 2 0 (length (s .buf)) (s .asm)
-  unfolding words jumps labels twice among
+  unfolding words jumps labels twice
   constant-number h = rw (le-leb k 1007 h, or-false)
 
   -- the label set, then the two words

@@ -10,7 +10,8 @@ use lib.Ieee.{Float, nan, inf, fin, eq, ne, isNan}
 use lib.Ieee.Compare.{differs-from-itself}
 use lib.ListN.{length, getD}
 use Rattle.assembler.specs.Label.{is-set}
-use Rattle.assembler.specs.Put.{among, twice}
+use Rattle.assembler.specs.Put.{twice}
+use Rattle.base.specs.Tests.{member}
 use Rattle.assembler.specs.Plan.{rank, earlier, all-labels, sets-fault}
 
 pub no : {A : Type 0} → false ≡ true → A
@@ -40,13 +41,12 @@ label-below l ls e = by (ltb l 2039) (all-labels ls) refl e
     by false c p q = absurd (omega arith)
 
 -- one label more, of which is known whether it comes again behind
-pub taken-more : (m : List ℕ) (l : ℕ) (ls : List ℕ) (g y r : Bool) → g ≡ among l ls → y ≡ twice m ls → r ≡ is-set (getD m l 0) || (g || y) → r ≡ twice m (l ∷ ls)
+pub taken-more : (m : List ℕ) (l : ℕ) (ls : List ℕ) (g y r : Bool) → g ≡ member l ls → y ≡ twice m ls → r ≡ is-set (getD m l 0) || (g || y) → r ≡ twice m (l ∷ ls)
 unfolding twice
 taken-more m l ls g y r e f h = h ∙ rw (e, f)
 
-pub among-one : (l k : ℕ) → eqb k l ≡ among l (k ∷ [])
-unfolding among
-among-one l k = rw or-false
+pub member-one : (l k : ℕ) → eqb l k ≡ member l (k ∷ [])
+member-one l k = rw or-false
 
 -- ---- floats
 

@@ -1,5 +1,5 @@
 -- A constant's items, and the sizes that `align_stack` takes.
-use Prim.Native.Nat.{ℕ, _/_, _%_, _^_}
+use Prim.Native.Nat.{ℕ, _-_, _/_, _%_, _^_}
 use mathlib.Core.List.{List, [], _∷_}
 use mathlib.Core.Bool.{cond}
 use lib.Dec.{leb}
@@ -7,8 +7,7 @@ use Rattle.refusal.specs.Answer.{Answer, accepted, refused}
 use Rattle.refusal.specs.Number.{number-of}
 use Rattle.refusal.specs.declared.Refusal.the-variants.{Value, Count}
 use Rattle.ast.specs.declared.Constant.{Constant}
-use Rattle.ast.specs.Constant.{last-constant}
-use Rattle.ast.specs.Constant.{constant-bits, constant-label}
+use Rattle.ast.specs.Constant.{constant-bits, constant-limit, constant-label}
 use Rattle.ast.specs.Align.{align16}
 use Rattle.assembler.specs.Item.{Item, raw, label}
 use Rattle.assembler.specs.declared.Aligned.{Aligned}
@@ -22,7 +21,7 @@ abbrev pub constant-items : ℕ → Constant → List Item
 constant-items k c = label (constant-label k) ∷ quad (constant-bits c)
 
 abbrev pub constant-fault : ℕ → ℕ
-constant-fault k = cond (leb k last-constant) 0 (number-of Count)
+constant-fault k = cond (leb k (constant-limit - 1)) 0 (number-of Count)
 
 -- the largest size that `align_stack` takes
 abbrev pub align-limit : ℕ

@@ -26,8 +26,3 @@ tag-at memory i = getD memory (5 * i + 4) 0
 unfoldable pub jumps-of : List ℕ → ℕ → ℕ → List Jump
 jumps-of memory i zero = []
 jumps-of memory i (suc n) = jump-at memory i ∷ jumps-of memory (i + 1) n
-
--- and their tags
-unfoldable pub tags-of : List ℕ → ℕ → ℕ → List ℕ
-tags-of memory i zero = []
-tags-of memory i (suc n) = tag-at memory i ∷ tags-of memory (i + 1) n

@@ -4,7 +4,6 @@ use mathlib.Core.List.{List, [], _∷_, _++_, map}
 use Prim.Native.Nat.{ℕ, _+_, min}
 use lib.Dec.{ltb}
 use lib.ListN.{getD, take, set, replicate}
-use Rattle.isa.specs.Instr.{Instr, operands, registers-hold, valid}
 use Rattle.refusal.specs.Number.{number-of}
 use Rattle.refusal.specs.declared.Refusal.{Refusal}
 use Rattle.refusal.specs.declared.Refusal.the-variants.{Register, Value, Label, Twice, Unset, Far, Full, Closed, Count, Base, Unsaved, Line}
@@ -60,18 +59,6 @@ refusal-fault Count = Fault.Count
 refusal-fault Base = Fault.Base
 refusal-fault Unsaved = Fault.Value
 refusal-fault Line = Fault.Value
-
--- what the encoder refuses: 1 a register above 31, else 2 a value outside its field
-abbrev pub instr-fault : Instr → ℕ
-instr-fault i = cond (registers-hold (operands i)) (cond (valid i) 0 (number-of Value)) (number-of Register)
-
-unfoldable pub fault-from : ℕ → List Instr → ℕ
-fault-from f [] = f
-fault-from f (i ∷ is) = fault-from (earlier f (instr-fault i)) is
-
--- the fault of a list of instructions
-abbrev pub fault-of : List Instr → ℕ
-fault-of is = fault-from 0 is
 
 -- a label's: 2 above 2,038
 abbrev pub label-fault : ℕ → ℕ

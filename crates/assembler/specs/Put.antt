@@ -5,6 +5,7 @@ use Prim.Native.Nat.{ℕ, zero, suc, _+_, _*_}
 use lib.Dec.{eqb}
 use lib.ListN.{length, getD, set}
 use lib.Seq.{sets}
+use Rattle.base.specs.Tests.{member}
 use Rattle.isa.specs.Encode.{encode}
 use Rattle.refusal.specs.Answer.{accepted, refused}
 use Rattle.refusal.specs.Number.{number-of}
@@ -42,14 +43,10 @@ labels (raw w ∷ is) = labels is
 labels (jump k l r ∷ is) = labels is
 labels (label l ∷ is) = l ∷ labels is
 
-unfoldable pub among : ℕ → List ℕ → Bool
-among l [] = false
-among l (k ∷ ks) = eqb k l || among l ks
-
 -- one of the labels is set already, or comes twice
 unfoldable pub twice : List ℕ → List ℕ → Bool
 twice memory [] = false
-twice memory (l ∷ ls) = is-set (getD memory l 0) || (among l ls || twice memory ls)
+twice memory (l ∷ ls) = is-set (getD memory l 0) || (member l ls || twice memory ls)
 
 -- ---- one item placed
 

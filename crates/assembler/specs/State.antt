@@ -4,11 +4,11 @@ use mathlib.Core.Bool.{Bool, _&&_}
 use mathlib.Core.List.{List}
 use denote.Ref.{RefT, now}
 use denote.Triple.Both.{Both}
-use Prim.Native.Nat.{ℕ, _+_, _*_, _%_, _≤_}
+use Prim.Native.Nat.{ℕ, _+_, _*_, _%_}
 use lib.Dec.{leb, eqb}
 use Rattle.refusal.specs.Answer.{Answer, accepted, refused}
 use Rattle.refusal.specs.Number.{number-of}
-use Rattle.assembler.specs.Limit.{room-limit, jump-limit}
+use Rattle.assembler.specs.Limit.{jump-limit}
 use Rattle.assembler.specs.Bytes.{room}
 use Rattle.assembler.specs.declared.Asm.{Asm}
 use Rattle.assembler.specs.declared.Answer.{Answer as EmitAnswer}
@@ -48,11 +48,6 @@ before a labels jumps buf = state a (now (labels .entry)) (now (jumps .entry)) (
 abbrev pub after : EmitResult → (labels jumps buf : Lent) → Outcome
 after d labels jumps buf = outcome d (now (labels .exit)) (now (jumps .exit)) (now (buf .exit))
 
--- by f the state becomes one with the record a, whatever label memory holds
-abbrev pub Steps : (State → State) → Asm → Asm → (jumps buf : Lent) → Type 0
-Steps f asm a jumps buf =
-    (ls : List ℕ) → state a ls (now (jumps .exit)) (now (buf .exit)) ≡ f (state asm ls (now (jumps .entry)) (now (buf .entry)))
-
 -- f is answered and nothing changes, whatever jump memory holds
 abbrev pub Answered : (State → Outcome) → Asm → EmitResult → (labels buf : Lent) → Type 0
 Answered f asm r labels buf =
@@ -66,7 +61,3 @@ sound n a = leb (a .len) (room n) && (eqb (a .len % 4) 0 && leb (a .jumps) jump-
 -- so many words and jumps more have room
 unfoldable pub fits : ℕ → Asm → ℕ → ℕ → Bool
 fits n a words jumps = leb (a .len + 4 * words) (room n) && leb (a .jumps + jumps) jump-limit
-
--- the same as bounds
-abbrev pub Fits : ℕ → Asm → ℕ → ℕ → Type 0
-Fits n a words jumps = (a .len + 4 * words ≤ n) × (a .len + 4 * words ≤ room-limit) × (a .jumps + jumps ≤ jump-limit)

@@ -13,7 +13,8 @@ ghost use Rattle.assembler.specs.Jump.{kind-number};
 ghost use Rattle.assembler.specs.Limit.{room-limit, label-limit, jump-limit};
 ghost use Rattle.assembler.specs.Bytes.{written, fitted, room};
 ghost use Rattle.assembler.specs.Label.{is-set, place-of, with-place};
-ghost use Rattle.assembler.specs.State.{emit-answer, sound, fits, Fits, before, after, Steps, Answered};
+ghost use Rattle.assembler.specs.State.{emit-answer, sound, fits, before, after, Answered};
+ghost use Rattle.assembler.specs.Inner.State.{Fits, Steps};
 ghost use Rattle.assembler.specs.Put.{twice, verdict, prechecked, with-jump, placed, put};
 ghost use Rattle.assembler.specs.Plan.{rank, earlier, fault-number, first-of, refusal-fault, label-fault, jump-fault};
 ghost use Rattle.assembler.specs.Plan.{tail-items, tail-fault, plan-items, plan-fault, no-words, faulty, pushed, labels-of, sets-fault};
@@ -647,12 +648,12 @@ fn taken_or(labels: &Labels, l: u32, again: bool, rest: bool) -> bool
 }
 
 fn same_one(l: u32, a: u32, b: u32) -> bool
-    ensures { λ r. ⌜ r ≡ eqb a l || (eqb b l || false) ⌝ }
+    ensures { λ r. ⌜ r ≡ eqb l a || (eqb l b || false) ⌝ }
 {
-    if a == l {
+    if l == a {
         return true;
     }
-    b == l
+    l == b
 }
 
 fn taken(s: Sets, labels: &Labels) -> bool
@@ -663,11 +664,11 @@ fn taken(s: Sets, labels: &Labels) -> bool
         Sets::One(a) => taken_or(labels, a, false, false),
         Sets::Two(a, b) => {
             let y = taken_or(labels, b, false, false);
-            taken_or(labels, a, b == a, y)
+            taken_or(labels, a, a == b, y)
         }
         Sets::Three(a, b, c) => {
             let z = taken_or(labels, c, false, false);
-            let y = taken_or(labels, b, c == b, z);
+            let y = taken_or(labels, b, b == c, z);
             taken_or(labels, a, same_one(a, b, c), y)
         }
     }

@@ -1,5 +1,5 @@
--- Constants of a deck (document 01, "Constants"): bits, numbers and labels.
-use Prim.Native.Nat.{ℕ, _+_, _-_}
+-- Constants of a deck (document 01, "What changes shape" and "Count"): bits, numbers and labels.
+use Prim.Native.Nat.{ℕ, _+_}
 use lib.Ieee.{toBits, binary64}
 use Rattle.ast.specs.declared.Constant.{Constant}
 use Rattle.ast.specs.declared.Constant.the-variants.{Float, Bits}
@@ -12,9 +12,6 @@ constant-bits (Bits b) = b
 -- "at most 1,008"
 abbrev pub constant-limit : ℕ
 constant-limit = 1008
-
-abbrev pub last-constant : ℕ
-last-constant = constant-limit - 1
 
 -- constant k stands at label 1,024 + k
 abbrev pub constant-label : ℕ → ℕ

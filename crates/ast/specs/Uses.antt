@@ -49,9 +49,6 @@ uses (Save s p i) = used (s ∷ []) [] (Stored p i)
 uses (BranchIf c l e) = used (c ∷ []) [] (GoneTo l)
 uses (SetLabel l) = used [] [] (Set l)
 
-abbrev pub writes : Order → List ℕ
-writes o = uses o .writes
-
 -- 1: registers are below 32
 abbrev pub registers-fit : List ℕ → Bool
 registers-fit rs = all (λ r. ltb r 32) rs
@@ -79,11 +76,8 @@ operand-open mask (Constant k) = true
 operand-open mask (GoneTo l) = true
 operand-open mask (Set l) = true
 
-abbrev pub stores-open : (mask : ℕ) → Order → Bool
-stores-open mask o = operand-open mask (uses o .operand)
-
 abbrev pub saves-hold : (mask : ℕ) → Order → Bool
-saves-hold mask o = all (free mask) (writes o) && stores-open mask o
+saves-hold mask o = all (free mask) (uses o .writes) && operand-open mask (uses o .operand)
 
 -- ---- labels, and what a line counts for
 
@@ -103,9 +97,6 @@ sets o = label-set (uses o .operand)
 abbrev pub weighs : (sets : Option ℕ) → ℕ
 weighs none = 1
 weighs (some l) = 0
-
-abbrev pub order-weight : Order → ℕ
-order-weight o = weighs (sets o)
 
 -- ---- as the code has it: 0 for a register that it has not, 32 for one that it does not write
 

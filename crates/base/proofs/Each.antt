@@ -1,8 +1,12 @@
 -- A property of each of a list.
 use mathlib.Core.List.{List, [], _∷_}
-use Rattle.base.specs.Tests.{Each}
 
 module _ {A : Type 0} where
+  -- each of them has P
+  abbrev pub Each : (A → Type 0) → List A → Type 0
+  Each P [] = Unit {0}
+  Each P (x ∷ xs) = P x × Each P xs
+
   pub each-map : (P Q : A → Type 0) → ((x : A) → P x → Q x) → (xs : List A) → Each P xs → Each Q xs
   each-map P Q f [] a = tt
   each-map P Q f (x ∷ xs) a = (f x (a .0), each-map P Q f xs (a .1))

@@ -1,1 +1,2 @@
+-- tests over lists
 pub mod Tests

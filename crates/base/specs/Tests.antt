@@ -15,11 +15,6 @@ module _ {A : Type 0} where
   all p [] = true
   all p (x ∷ xs) = p x && all p xs
 
-  -- each of them has P
-  abbrev pub Each : (A → Type 0) → List A → Type 0
-  Each P [] = Unit {0}
-  Each P (x ∷ xs) = P x × Each P xs
-
 -- n is one of them
 abbrev pub member : ℕ → List ℕ → Bool
 member n [] = false

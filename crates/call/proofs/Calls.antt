@@ -10,7 +10,7 @@ use lib.Dec.{T, eqb, ltb, leb, ltb→lt}
 use lib.ListN.{length, getD, getElem?}
 use Rattle.machine.specs.Word.{w64, upd, dist, load8, store8}
 use Rattle.machine.specs.Floats.{Floats}
-use Rattle.machine.specs.Binary64.{binary64}
+use Rattle.machine.proofs.Binary64.{binary64}
 use Rattle.machine.specs.State.{State, Sound}
 use Rattle.machine.specs.Step.{Loaded, Run}
 use Rattle.base.proofs.Bools.{and-l, and-r}

@@ -30,7 +30,8 @@ use Rattle.orders.proofs.Does.{order-does}
 use Rattle.orders.proofs.Laws.{line-length}
 use Rattle.reading.specs.Program.{Program}
 use Rattle.reading.specs.Plain.{Reading, goes, const, means, with-meaning, passed, Step, does, passes, Reads, none-read, line-read}
-use Rattle.call.specs.Layout.{span, place, items, code-length, routine-words, line-offset}
+use Rattle.call.specs.Layout.{span, place, items, code-length, routine-words}
+use Rattle.call.proofs.Offset.{line-offset}
 use Rattle.call.proofs.Good.{GoodOrder, Good}
 use Rattle.call.proofs.Items.{resolved-length}
 use Rattle.call.proofs.Whole.{line-part, constant-part, offset-next, offset-four, offset-exit, offset-small, user-place, constants-place, placed, In-code, part-in}

@@ -26,7 +26,8 @@ use Rattle.frame_code.proofs.Ends.{Observed-at, PrologueDone, EpilogueTerms}
 use Rattle.reading.specs.Program.{Program}
 use Rattle.reading.specs.Plain.{Reading, Reads, Ended}
 use Rattle.reading.specs.Terms.{table-used, frame-bytes, bottom, base, start, Within, frame, Terms}
-use Rattle.call.specs.Layout.{span, place, exit, code-length, routine-words, line-offset}
+use Rattle.call.specs.Layout.{span, place, exit, code-length, routine-words}
+use Rattle.call.proofs.Offset.{line-offset}
 use Rattle.call.proofs.Good.{Good}
 use Rattle.call.proofs.Items.{resolved-length}
 use Rattle.call.proofs.Whole.{exit-part, exit-stands, offset-four, offset-exit}

@@ -1,3 +1,4 @@
+pub mod Offset
 pub mod Good
 pub mod Claim
 pub mod Items

@@ -27,7 +27,7 @@ use Rattle.reading.specs.Program.{Program}
 use Rattle.reading.specs.Plain.{Reading, with-cell, with-cells, Step, does, passes, Reads, none-read, line-read}
 use Rattle.call.proofs.Good.{Good}
 use Rattle.base.specs.Tests.{member, all}
-use Rattle.ast.specs.Uses.{unary-writes, writes, stores-open}
+use Rattle.ast.specs.Uses.{uses, unary-writes, operand-open}
 
 upd-self : (f : ℕ → ℕ) (d y : ℕ) → upd f d (f d) y ≡ f y
 unfolding upd
@@ -77,7 +77,7 @@ module _ (mask : ℕ) where
     scratched-keeps Frac d s t h = two d t _ _ h
 
     -- an order leaves it
-    register-kept : (c : Place → ℕ → ℕ) (k : ℕ → ℕ) (o : Order) → T (all (free mask) (writes o)) → meaning Q f rm c k o .f y ≡ f y
+    register-kept : (c : Place → ℕ → ℕ) (k : ℕ → ℕ) (o : Order) → T (all (free mask) (uses o .writes)) → meaning Q f rm c k o .f y ≡ f y
     unfolding meaning
     register-kept c k (Unary u d s) h = unary-keeps u d s h
     register-kept c k (Scratched u d s t) h = scratched-keeps u d s t h
@@ -105,7 +105,7 @@ module _ (mask : ℕ) where
       by (inr n) f = right (eqb (save-cell y) (save-cell r)) _ (f n)
 
   -- an order leaves it
-  cell-kept : (Q : Floats) (f : ℕ → ℕ) (rm y : ℕ) → List·Memᴰ y (saved mask) → (c : Place → ℕ → ℕ) (k : ℕ → ℕ) (o : Order) → T (stores-open mask o) → with-cells (meaning Q f rm c k o .cells) c Stack (save-cell y) ≡ c Stack (save-cell y)
+  cell-kept : (Q : Floats) (f : ℕ → ℕ) (rm y : ℕ) → List·Memᴰ y (saved mask) → (c : Place → ℕ → ℕ) (k : ℕ → ℕ) (o : Order) → T (operand-open mask (uses o .operand)) → with-cells (meaning Q f rm c k o .cells) c Stack (save-cell y) ≡ c Stack (save-cell y)
   unfolding meaning with-cell
   cell-kept Q f rm y m c k (Unary u d s) h = refl
   cell-kept Q f rm y m c k (Scratched u d s t) h = refl
@@ -139,8 +139,8 @@ module _ (Q : Floats) (p : Program) (g : Good p) where
       record {
         rm = refl;
         obs = refl;
-        registers = λ y v. register-kept mask Q (r .f) (r .rm) y v (r .cells) _ o (and-l (all (free mask) (writes o)) _ h);
-        cells = λ y m. cell-kept mask Q (r .f) (r .rm) y m (r .cells) _ o (and-r (all (free mask) (writes o)) _ h);
+        registers = λ y v. register-kept mask Q (r .f) (r .rm) y v (r .cells) _ o (and-l (all (free mask) (uses o .writes)) _ h);
+        cells = λ y m. cell-kept mask Q (r .f) (r .rm) y m (r .cells) _ o (and-r (all (free mask) (uses o .writes)) _ h);
       }
   step-held e passes = record { rm = refl; obs = refl; registers = λ y v. refl; cells = λ y m. refl }
 

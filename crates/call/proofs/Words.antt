@@ -7,12 +7,14 @@ use native.Mathlib.Nat.{add-assoc, add-zero}
 use native.Mathlib.Omega.{arith}
 use lib.ListN.{length, getD, getElem?, List·getD-append}
 use lib.Seq.{take-length}
-use Rattle.isa.specs.Instr.{Instr, Valid}
+use Rattle.isa.specs.Instr.{Instr}
+use Rattle.isa.proofs.Validity.{Valid}
 use Rattle.isa.specs.Encode.{encode}
 use Rattle.isa.specs.Decode.{decode}
 use Rattle.isa.proofs.Laws.{decode-encode, encode-small}
 use Rattle.machine.specs.Word.{w64}
-use Rattle.machine.specs.Step.{CodeAt, Loaded, bytes-of, words}
+use Rattle.machine.specs.Step.{CodeAt, Loaded, words}
+use Rattle.machine.proofs.Exec.{bytes-of}
 use Rattle.base.proofs.Bools.{and-l}
 use Rattle.machine.proofs.Placed.{Small, Valids, code-of-bytes}
 use Rattle.ast.specs.declared.Order.{Order}
@@ -20,7 +22,8 @@ use Rattle.assembler.specs.Bytes.{bytes}
 use Rattle.assembler.specs.Item.{Item, instr, raw, jump, label}
 use Rattle.assembler.specs.Resolved.{resolved}
 use Rattle.reading.specs.Line.{Line, order, constant}
-use Rattle.orders.specs.Code.{code, line-code, resolve}
+use Rattle.orders.specs.Code.{code, line-code}
+use Rattle.orders.proofs.Items.{resolve}
 use Rattle.orders.specs.Fault.{fault}
 use Rattle.orders.proofs.Laws.{code-words, code-valid}
 use Rattle.ast.specs.Counts.{prologue-holds}
@@ -28,7 +31,8 @@ use Rattle.frame_code.specs.Items.{prologue, saves, reloads, epilogue}
 use Rattle.frame_code.proofs.Walk.{stands-left, stands-right}
 use Rattle.frame_code.proofs.Valid.{AllValid, prologue-valid, saves-valid, reloads-valid, epilogue-valid}
 use Rattle.reading.specs.Program.{Program, constants}
-use Rattle.call.specs.Layout.{span, body, constants-from, entry, exit, code-items, data-items, items, constants-offset, place, routine-words, line-offset}
+use Rattle.call.specs.Layout.{span, body, constants-from, entry, exit, code-items, data-items, items, constants-offset, place, routine-words}
+use Rattle.call.proofs.Offset.{line-offset}
 use Rattle.call.proofs.Good.{Good}
 use Rattle.call.proofs.Items.{resolved-append, resolved-length, Fresh}
 use Rattle.call.proofs.Labels.{Early, Late, entry-fresh, exit-fresh}

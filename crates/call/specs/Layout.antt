@@ -2,7 +2,6 @@
 use mathlib.Core.List.{List, [], _∷_, _++_}
 use mathlib.Core.Option.{Option·getD}
 use Prim.Native.Nat.{ℕ, suc, _+_}
-use lib.ListN.{take}
 use Rattle.assembler.specs.Item.{Item, instr, raw, jump, label}
 use Rattle.assembler.specs.Constant.{quad}
 use Rattle.ast.specs.Constant.{constant-label}
@@ -62,7 +61,3 @@ module _ (p : Program) where
   -- The words.
   abbrev pub routine-words : List ℕ
   routine-words = resolved place 0 items
-
-  -- where line n starts
-  unfoldable pub line-offset : ℕ → ℕ
-  line-offset n = span entry + span (body (take n (p .lines)))

@@ -3,7 +3,7 @@ use mathlib.Core.Path.{_≡_}
 use mathlib.Core.List.{List, [], _∷_}
 use Prim.Native.Nat.{ℕ, _+_, _*_, _^_, _≤_, _<_}
 use lib.Dec.{T}
-use Rattle.isa.specs.Register.{ra, sp, gp, tp, s0, s1, s2, s3, s4, s5, s6, s7, s8, s9, s10, s11, a1, fa0}
+use Rattle.isa.specs.Register.{ra, sp, gp, tp, a1, fa0}
 use Rattle.ast.specs.Count.{cell-count}
 use Rattle.ast.specs.Mask.{preserved}
 use Rattle.ast.specs.declared.Place.{Place}
@@ -20,9 +20,9 @@ use Rattle.base.specs.Tests.{member}
 use Rattle.reading.specs.Plain.{Reading}
 use Rattle.reading.specs.Terms.{table-used, cell-address, as-called, table-cell, end-obs, Within, frame, code}
 
--- ra, sp, gp, tp and s0..s11; `preserved` has fs0..fs11
+-- ra, sp, gp, tp and s0..s11, whose numbers are those of fs0..fs11
 abbrev pub callers : List ℕ
-callers = ra ∷ sp ∷ gp ∷ tp ∷ s0 ∷ s1 ∷ s2 ∷ s3 ∷ s4 ∷ s5 ∷ s6 ∷ s7 ∷ s8 ∷ s9 ∷ s10 ∷ s11 ∷ []
+callers = ra ∷ sp ∷ gp ∷ tp ∷ preserved
 
 -- the words that the two frame ends run, by line 1 and a1
 abbrev pub frame-steps : Head → (a1 : ℕ) → ℕ

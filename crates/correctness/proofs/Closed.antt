@@ -7,7 +7,7 @@ use native.Mathlib.Omega.{arith}
 use lib.ListN.{length, take, replicate}
 use Rattle.machine.specs.Word.{upd, dist, load8, store8}
 use Rattle.machine.specs.Floats.{Floats}
-use Rattle.machine.specs.Binary64.{binary64}
+use Rattle.machine.proofs.Binary64.{binary64}
 use Rattle.machine.specs.State.{State}
 use Rattle.machine.specs.Step.{Run}
 use Rattle.refusal.specs.Answer.{accepted}

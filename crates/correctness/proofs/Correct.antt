@@ -5,6 +5,10 @@ use Prim.Native.Nat.{ℕ, _+_, _*_, _≤_, _<_}
 use native.Mathlib.Omega.{arith}
 use lib.ListN.{length, getD, take, List·getD-append}
 use lib.Seq.{take-at}
+use Rattle.base.proofs.Bools.{true-T}
+use Rattle.isa.specs.Instr.{valid}
+use Rattle.isa.proofs.Validity.{Valid-valid}
+use Rattle.isa.proofs.Laws.{encode-decode}
 use Rattle.machine.specs.Word.{w64}
 use Rattle.machine.specs.State.{State}
 use Rattle.machine.specs.Step.{Loaded}
@@ -23,7 +27,8 @@ use Rattle.call.proofs.Words.{decodes, code-stands}
 use Rattle.call.proofs.Forth.{ends}
 use Rattle.call.proofs.Call.{call}
 use Rattle.routine.specs.Routine.{Summary, summary-of, summary-answer, buffer-after, program-of, Promise}
-use Rattle.correctness.specs.Claim.{CallSetup, Claim, ForwardClaim, ProgramClaim, WordsClaim, SameClaim}
+use Rattle.correctness.specs.Claim.{CallSetup, Claim, ForwardClaim, WordsClaim}
+use Rattle.correctness.specs.Follows.{ProgramClaim, SameClaim}
 use Rattle.correctness.proofs.Accepts.{same}
 use Rattle.correctness.proofs.Whole.{accepted-good}
 use Rattle.correctness.proofs.Same.{program-same}
@@ -102,8 +107,8 @@ before-end : (p : Program) → constants-offset p ≤ code-length p
 unfolding items
 before-end p = omega (arith, span-append (code-items p) (data-items p))
 
-pub words-decode : WordsClaim
-words-decode file buf t after h k b =
+pub words-valid : WordsClaim
+words-valid file buf t after h k b =
     let x = program file buf t after h in
     let p : Program = x .0 in
     let g : Good p = accepted-good (length buf) file p (x .1) in
@@ -115,7 +120,7 @@ words-decode file buf t after h k b =
     let n : k < length ws = omega (arith, l, resolved-length (place p) 0 (items p)) in
     let y = code-word (λ x. getD after x 0) 0 ws k (code-stands p g (λ x. getD after x 0) 0 (omega arith) (stands file buf t after h p (x .1) g)) n in
     let i = decodes p g k c in
-    (i .0, i .1, rw (rw (e, w) at y) (i .2))
+    (i .0, true-T (valid (i .0)) (Valid-valid (i .0) (i .1)), rw (rw (e, w) at y) (sym (encode-decode _ (i .0) (i .2) .1)))
 
 pub same-code : SameClaim
 same-code file buf buf′ t t′ after after′ h k =

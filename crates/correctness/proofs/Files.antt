@@ -14,16 +14,15 @@ use Rattle.ast.specs.declared.Binary.the-variants.{Gt, Minus}
 use Rattle.ast.specs.declared.Order.the-variants.{Binary, LoadConst, Load, Save, BranchIf, SetLabel}
 use Rattle.ast.specs.declared.Constant.the-variants.{Float}
 use Rattle.text.specs.Ascii.{bytes as text}
-use Rattle.text.specs.Digits.{read-decimal, read-integer, read-word, read-from}
-use Rattle.text.specs.Fields.{split, same}
+use Rattle.text.specs.Readers.{read-decimal, read-integer, read-word, read-from, split, same}
 use Rattle.text.specs.Lines.{lines-of}
-use Rattle.form.specs.Read.{first, read-values, read}
-use Rattle.form.specs.Form.{form-of}
+use Rattle.form.specs.Inner.Read.{first, read-values, read}
+use Rattle.form.specs.Grammar.{said}
 use Rattle.deck.specs.Judge.{judged, line-judged}
 use Rattle.ast.specs.Mask.{saves as any-saved, saved}
 use Rattle.ast.specs.Counts.{counts-hold}
 use Rattle.assembler.specs.Bytes.{bytes}
-use Rattle.assembler.specs.Put.{jumps, labels, among}
+use Rattle.assembler.specs.Put.{jumps, labels}
 use Rattle.assembler.specs.Resolved.{label-place, resolved, jumps-in}
 use Rattle.accesses.specs.Code.{li-code, sub-stack-code, add-stack-code, allocate-stack-code, access-code, point-code}
 use Rattle.reading.specs.Line.{order, constant}
@@ -118,8 +117,8 @@ pub record AllRead : Type 0 where
   pub countdown-told : summary-of countdown ≡ record { length = 140; offset = 132; constants = 1; jumps = 4; frame = Fast }
 
 pub files : AllRead
-unfolding encode join fields program-of lines-of head-read lines-read line-read closed-off finished first-line body-lines jumps-in line-judged judged form-of read split first same read-values read-decimal read-integer read-word read-from counts-hold any-saved items span body constants constants-from prologue epilogue
-    saves reloads saved repeated line-code code unary-code binary-code access-code point-code jumps labels among li-code sub-stack-code add-stack-code allocate-stack-code label-place buffer-after bytes flatMap resolved place
+unfolding encode join fields program-of lines-of head-read lines-read line-read closed-off finished first-line body-lines jumps-in line-judged judged said read split first same read-values read-decimal read-integer read-word read-from counts-hold any-saved items span body constants constants-from prologue epilogue
+    saves reloads saved repeated line-code code unary-code binary-code access-code point-code jumps labels li-code sub-stack-code add-stack-code allocate-stack-code label-place buffer-after bytes flatMap resolved place
 files =
     record {
       sample-reads = refl;

@@ -5,26 +5,27 @@ use mathlib.Core.List.{List, [], _∷_, _++_, map}
 use mathlib.Core.Option.{Option, some, none}
 use Prim.Native.Nat.{ℕ, zero, suc, _+_, _*_}
 use native.Mathlib.Nat.{zero-add}
-use native.Mathlib.Omega.{arith}
 use lib.Dec.{T, ltb, leb}
-use lib.IntN.{ℤ, subℕ}
+use lib.IntN.{ℤ, natAbs, subℕ}
 use lib.ListN.{length}
 use lib.Seq.{take-length}
-use Rattle.isa.specs.Instr.{Instr, Valid, holds, offset}
-use Rattle.isa.proofs.Validity.{Holds-holds}
+use Rattle.isa.specs.Instr.{Instr, holds, offset}
+use Rattle.isa.proofs.Validity.{Valid, Holds-holds}
 use Rattle.refusal.specs.Answer.{Answer, accepted, refused}
 use Rattle.refusal.specs.Number.{number-of}
 use Rattle.refusal.specs.declared.Refusal.{Refusal}
 use Rattle.refusal.specs.declared.Refusal.the-variants as Refusal
-use Rattle.ast.specs.Uses.{index-holds, saves-hold}
+use Rattle.ast.specs.Uses.{uses, registers-fit, index-holds, saves-hold}
+use Rattle.ast.specs.declared.Operand.{Operand}
+use Rattle.ast.specs.declared.Operand.the-variants as Operand
 use Rattle.ast.specs.declared.Order.{Order}
 use Rattle.ast.specs.declared.Order.the-variants.{Unary, Scratched, Binary, Fused, Ifelse, LoadConst, Load, Save, BranchIf, SetLabel}
 use Rattle.text.specs.Lines.{lines-of}
-use Rattle.form.specs.Form.{form-of}
-use Rattle.form.specs.declared.Form.{Form}
-use Rattle.form.specs.declared.Form.the-variants as Form
+use Rattle.form.specs.Text.{DeckLine}
+use Rattle.form.specs.Text as Text
+use Rattle.form.specs.Grammar.{said}
 use Rattle.deck.specs.Judge as Deck
-use Rattle.deck.specs.Judge.{Content, demand, register, index, constant-index, mask, count, exact, head-of, is-head, judged, line-judged}
+use Rattle.deck.specs.Judge.{Content, demand, operand-judged, judged, is-head, line-judged}
 use Rattle.ast.specs.Counts.{counts-hold}
 use Rattle.assembler.specs.Item.{Item, instr, raw, jump, label}
 use Rattle.assembler.specs.Jump.{kind-number, jump-instr}
@@ -40,7 +41,8 @@ use Rattle.reading.specs.Line.{Line, order, constant}
 use Rattle.orders.specs.Code.{base, unary-code, scratched-code, binary-code, choose-code, code, line-code}
 use Rattle.frame_code.proofs.Valid.{AllValid}
 use Rattle.reading.specs.Program.{Program, constants}
-use Rattle.call.specs.Layout.{span, body, constants-from, entry, exit, code-items, data-items, items, place, line-offset}
+use Rattle.call.specs.Layout.{span, body, constants-from, entry, exit, code-items, data-items, items, place}
+use Rattle.call.proofs.Offset.{line-offset}
 use Rattle.call.proofs.Good.{Good}
 use Rattle.base.specs.Tests.{member}
 use Rattle.call.proofs.Words.{entry-valid, exit-valid}
@@ -171,36 +173,29 @@ demand-fine : (t : Bool) (r : Refusal) (a : Answer Content) → T (member (numbe
 demand-fine true r a h k = k
 demand-fine false r a h k = h
 
-judged-fine : (f : Form) → Fine (judged f)
-unfolding judged
-judged-fine Form.Malformed = tt
-judged-fine (Form.Head f c s o l m) =
-    demand-fine (mask m) Refusal.Value _ tt (demand-fine (count c && (count s && (count o && (count l && counts-hold (head-of f c s o l m))))) Refusal.Count _ tt tt)
-judged-fine (Form.Unary u d s) = demand-fine (register d && register s) Refusal.Register _ tt tt
-judged-fine (Form.Scratched u d s t) = demand-fine (register d && (register s && register t)) Refusal.Register _ tt tt
-judged-fine (Form.Binary u d s t) = demand-fine (register d && (register s && register t)) Refusal.Register _ tt tt
-judged-fine (Form.Fused u d s t v) = demand-fine (register d && (register s && (register t && register v))) Refusal.Register _ tt tt
-judged-fine (Form.Ifelse d s t i) =
-    demand-fine (register d && (register s && register t)) Refusal.Register _ tt (demand-fine (index i) Refusal.Count _ tt tt)
-judged-fine (Form.LoadConst d k) = demand-fine (register d) Refusal.Register _ tt (demand-fine (constant-index k) Refusal.Count _ tt tt)
-judged-fine (Form.Load d p i) = demand-fine (register d) Refusal.Register _ tt (demand-fine (index i) Refusal.Count _ tt tt)
-judged-fine (Form.Save s p i) = demand-fine (register s) Refusal.Register _ tt (demand-fine (index i) Refusal.Count _ tt tt)
-judged-fine (Form.BranchIf c l e) = demand-fine (register c) Refusal.Register _ tt (demand-fine (Deck.label l) Refusal.Label _ tt tt)
-judged-fine (Form.SetLabel l) = demand-fine (Deck.label l) Refusal.Label _ tt tt
-judged-fine (Form.Float minus n) = demand-fine (exact n) Refusal.Value _ tt tt
-judged-fine (Form.Bits n) = tt
+operand-fine : (x : Operand) (a : Answer Content) → Fine a → Fine (operand-judged x a)
+operand-fine Operand.Nothing a h = h
+operand-fine (Operand.Loaded p i) a h = demand-fine (ltb i 4096) Refusal.Count a tt h
+operand-fine (Operand.Stored p i) a h = demand-fine (ltb i 4096) Refusal.Count a tt h
+operand-fine (Operand.Constant k) a h = demand-fine (ltb k 1008) Refusal.Count a tt h
+operand-fine (Operand.GoneTo l) a h = demand-fine (leb l 1023) Refusal.Label a tt h
+operand-fine (Operand.Set l) a h = demand-fine (leb l 1023) Refusal.Label a tt h
 
-line-fine : (first : Bool) (f : Form) → Fine (line-judged first f)
+judged-fine : (l : DeckLine) → Fine (judged l)
+unfolding judged
+judged-fine (Text.head H) = demand-fine (ltb (H .mask) 4294967296) Refusal.Value _ tt (demand-fine (counts-hold H) Refusal.Count _ tt tt)
+judged-fine (Text.order o) = demand-fine (registers-fit (uses o .registers)) Refusal.Register _ tt (operand-fine (uses o .operand) (accepted (Deck.order o)) tt)
+judged-fine (Text.float z) = demand-fine (leb (natAbs z) 9007199254740992) Refusal.Value _ tt tt
+judged-fine (Text.bits n) = tt
+
+line-fine : (first : Bool) (o : Option DeckLine) → Fine (line-judged first o)
 unfolding line-judged
-line-fine first f = by (Bool·beq (is-head f) first)
-  where
-    by : (t : Bool) → Fine (cond t (judged f) (refused 12 0))
-    by true = judged-fine f
-    by false = tt
+line-fine first none = tt
+line-fine first (some l) = demand-fine (Bool·beq (is-head l) first) Refusal.Line (judged l) tt (judged-fine l)
 
 -- a line's text, and what is made of its content
-text-fine : {A : Type 0} (first : Bool) (line : ℕ) (t : List ℕ) (f : Content → Answer A) → ((c : Content) → Fine (f c)) → Fine (then (placed-at line (line-judged first (form-of t))) f)
-text-fine first line t f h = by (line-judged first (form-of t)) (line-fine first (form-of t))
+text-fine : {A : Type 0} (first : Bool) (line : ℕ) (t : List ℕ) (f : Content → Answer A) → ((c : Content) → Fine (f c)) → Fine (then (placed-at line (line-judged first (said t))) f)
+text-fine first line t f h = by (line-judged first (said t)) (line-fine first (said t))
   where
     by : (a : Answer Content) → Fine a → Fine (then (placed-at line a) f)
     by (accepted c) k = h c

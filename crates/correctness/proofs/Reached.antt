@@ -1,6 +1,6 @@
 -- Every jump of an accepted file has its label set: by a line of the file, or by a constant.
 use mathlib.Core.Path.{_≡_, refl, sym, ap, _∙_}
-use mathlib.Core.Bool.{Bool, true, false, cond}
+use mathlib.Core.Bool.{Bool, true, false, not, cond}
 use mathlib.Core.List.{List, [], _∷_, _++_}
 use mathlib.Core.Option.{Option, some, none}
 use Prim.Native.Nat.{ℕ, zero, suc, _+_, _≤_, _<_}
@@ -8,10 +8,13 @@ use native.Mathlib.Omega.{arith}
 use borrow.Author.Tests.{eq-eqb, ne-eqb}
 use lib.Dec.{eqb}
 use lib.ListN.{length, getElem?, replicate, length-append, length-replicate}
+use Rattle.base.proofs.Bools.{true-not-false}
 use Rattle.ast.specs.declared.Order.{Order}
 use Rattle.ast.specs.declared.Order.the-variants.{SetLabel}
 use Rattle.assembler.specs.Item.{Item, instr, raw, jump, label}
-use Rattle.assembler.specs.Put.{jumps}
+use Rattle.base.specs.Tests.{member}
+use Rattle.base.proofs.Bools.{true-not-false}
+use Rattle.assembler.specs.Put.{jumps, labels}
 use Rattle.assembler.specs.Resolved.{label-place, jumps-in}
 use Rattle.ast.specs.Constant.{constant-label}
 use Rattle.assembler.proofs.Items.{jumps-append}
@@ -21,7 +24,8 @@ use Rattle.reading.specs.Program.{Program, constants, here-or, label-line}
 use Rattle.ast.specs.Uses.{sets}
 use Rattle.call.specs.Layout.{body, constants-from, entry, exit, code-items, data-items, items}
 use Rattle.call.proofs.Items.{Unset}
-use Rattle.routine.specs.Routine.{last-line, body-lines, jump-lines, first-line, is-none, unset}
+use Rattle.routine.specs.Routine.{last-line, body-lines, jump-lines, first-line, unset}
+use Rattle.routine.proofs.LawRoom.{is-none, place-among}
 
 -- ---- jumps of items
 
@@ -67,11 +71,11 @@ reached all h (instr i ∷ xs) ns m e = reached all (h + 4) xs ns m e
 reached all h (raw w ∷ xs) ns m e = reached all (h + 4) xs ns m e
 reached all h (label l ∷ xs) ns m e = reached all h xs ns m e
 reached all h (jump k l r ∷ xs) [] m e = absurd (omega arith)
-reached all h (jump k l r ∷ xs) (n ∷ ns) m e = by (label-place l 0 all) refl e (reached all (h + 4) xs ns (omega arith))
+reached all h (jump k l r ∷ xs) (n ∷ ns) m e = by (member l (labels all)) refl e (reached all (h + 4) xs ns (omega arith))
   where
-    by : (o : Option ℕ) → label-place l 0 all ≡ o → cond (is-none o) (some n) (first-line (unset all) (jumps-in (h + 4) xs) ns) ≡ none → (first-line (unset all) (jumps-in (h + 4) xs) ns ≡ none → Jumping (Placed all) xs) → Placed all l × Jumping (Placed all) xs
-    by none q e f = let z : _≡_ {A = ℕ} 0 1 = cc in absurd (omega arith)
-    by (some a) q e f = (λ z. let y : _≡_ {A = ℕ} 0 1 = cc in absurd (omega arith), f e)
+    by : (t : Bool) → member l (labels all) ≡ t → cond (not t) (some n) (first-line (unset all) (jumps-in (h + 4) xs) ns) ≡ none → (first-line (unset all) (jumps-in (h + 4) xs) ns ≡ none → Jumping (Placed all) xs) → Placed all l × Jumping (Placed all) xs
+    by false q e f = let z : _≡_ {A = ℕ} 0 1 = cc in absurd (omega arith)
+    by true q e f = (λ z. true-not-false (sym (ap (λ (o : Option ℕ). not (is-none o)) z) ∙ (place-among l 0 all ∙ q)), f e)
 
 -- ---- each jump has a line
 

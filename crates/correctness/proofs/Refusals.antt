@@ -1,4 +1,4 @@
--- The files of `specs/Refusals` are refused so, by computing; and what every refusal leaves.
+-- The files of `specs/Examples` are refused so, by computing; and what every refusal leaves.
 use mathlib.Core.Path.{_≡_, refl, _∙_}
 use mathlib.Core.List.{List, _++_, append-assoc}
 use Prim.Native.Nat.{ℕ, _-_, _≤_}
@@ -7,16 +7,15 @@ use borrow.Author.Tests.{lt-leb}
 use lib.ListN.{length, drop, replicate, length-append, length-replicate, length-drop}
 use lib.Seq.{drop-at}
 use Rattle.refusal.specs.Answer.{Answer, accepted, refused}
-use Rattle.text.specs.Digits.{read-decimal, read-integer, read-word, read-from}
-use Rattle.text.specs.Fields.{split, same}
+use Rattle.text.specs.Readers.{read-decimal, read-integer, read-word, read-from, split, same}
 use Rattle.text.specs.Lines.{lines-of}
-use Rattle.form.specs.Read.{first, read-values, read}
-use Rattle.form.specs.Form.{form-of}
+use Rattle.form.specs.Inner.Read.{first, read-values, read}
+use Rattle.form.specs.Grammar.{said}
 use Rattle.deck.specs.Judge.{judged, line-judged}
 use Rattle.ast.specs.Mask.{saves as any-saved, saved}
 use Rattle.ast.specs.Counts.{counts-hold}
 use Rattle.assembler.specs.Bytes.{room}
-use Rattle.assembler.specs.Put.{jumps, labels, among}
+use Rattle.assembler.specs.Put.{jumps, labels}
 use Rattle.assembler.specs.Resolved.{label-place, jumps-in}
 use Rattle.accesses.specs.Code.{li-code, sub-stack-code, add-stack-code, allocate-stack-code, access-code, point-code}
 use Rattle.orders.specs.Code.{code, line-code, scratched-code}
@@ -24,7 +23,8 @@ use Rattle.frame_code.specs.Items.{repeated, prologue, saves, reloads, epilogue
 use Rattle.reading.specs.Program.{Program, constants}
 use Rattle.call.specs.Layout.{span, body, constants-from, items}
 use Rattle.routine.specs.Routine.{line-read, lines-read, head-read, closed-off, body-lines, first-line, finished, program-of, summary-answer, code-bytes, buffer-after}
-use Rattle.correctness.specs.Refusals.{TooLong, Zeroed, Behind, Malformed, Fields, Counts, Labels}
+use Rattle.correctness.specs.Refusals.{TooLong, Zeroed, Behind}
+use Rattle.correctness.specs.Examples.{Malformed, Fields, Counts, Labels}
 use Rattle.correctness.proofs.Taken.{taken}
 use Rattle.correctness.proofs.Whole.{fits-room}
 use Rattle.correctness.proofs.Correct.{code-fits}
@@ -68,8 +68,8 @@ behind file buf answer after h = rw (h .1) (kept buf (code-bytes (program-of (le
 -- ---- small files
 
 pub refusals : Malformed × Fields × Counts × Labels
-unfolding program-of lines-of head-read lines-read line-read closed-off finished first-line body-lines jumps-in line-judged judged form-of read split first same read-values read-decimal read-integer read-word read-from counts-hold any-saved items span body constants constants-from prologue epilogue
-    saves reloads saved repeated line-code code scratched-code access-code point-code jumps labels among li-code sub-stack-code add-stack-code allocate-stack-code label-place
+unfolding program-of lines-of head-read lines-read line-read closed-off finished first-line body-lines jumps-in line-judged judged said read split first same read-values read-decimal read-integer read-word read-from counts-hold any-saved items span body constants constants-from prologue epilogue
+    saves reloads saved repeated line-code code scratched-code access-code point-code jumps labels li-code sub-stack-code add-stack-code allocate-stack-code label-place
 refusals = (
   (refl, refl, refl, refl, refl, refl, refl, refl, refl, refl, refl),
   (refl, refl, refl, refl, refl, refl, refl),

@@ -6,14 +6,14 @@ use Prim.Native.Nat.{ℕ}
 use native.Mathlib.Omega.{arith}
 use Rattle.refusal.specs.Answer.{accepted}
 use Rattle.text.specs.Lines.{lines-of}
-use Rattle.form.specs.Form.{form-of}
+use Rattle.form.specs.Grammar.{said}
 use Rattle.deck.specs.Judge.{Content, line-judged}
 use Rattle.deck.specs.Judge as Deck
 use Rattle.reading.specs.Line.{Line, order, constant}
 use Rattle.reading.specs.Program.{Program}
 use Rattle.call.specs.Layout.{entry}
 use Rattle.routine.specs.Routine.{placed-at, next-line, with-line, only, room-number, order-number, constant-number, as-line, line-read, lines-read, as-head, head-read, file-read}
-use Rattle.correctness.specs.Claim.{OneProgram}
+use Rattle.correctness.specs.Follows.{OneProgram}
 use Rattle.correctness.proofs.Accepts.{same, unless-accepts, then-accepts}
 use Rattle.correctness.proofs.Taken.{taken}
 
@@ -21,7 +21,7 @@ module _ (m n : ℕ) where
   line-same : (p : Program) (t : List ℕ) (k l : Line) → line-read m p t ≡ accepted k → line-read n p t ≡ accepted l → k ≡ l
   unfolding line-read
   line-same p t k l e f =
-      let a = placed-at (next-line p) (line-judged false (form-of t)) in
+      let a = placed-at (next-line p) (line-judged false (said t)) in
       let x = then-accepts a (as-line m p) k e in
       let y = then-accepts a (as-line n p) l f in
       let z : x .0 ≡ y .0 = same (x .0) (y .0) (sym (x .1) ∙ y .1) in
@@ -46,7 +46,7 @@ module _ (m n : ℕ) where
   head-same : (t : List ℕ) (p q : Program) → head-read m t ≡ accepted p → head-read n t ≡ accepted q → p ≡ q
   unfolding head-read
   head-same t p q e f =
-      let a = placed-at 1 (line-judged true (form-of t)) in
+      let a = placed-at 1 (line-judged true (said t)) in
       let x = then-accepts a (as-head m) p e in
       let y = then-accepts a (as-head n) q f in
       let z : x .0 ≡ y .0 = same (x .0) (y .0) (sym (x .1) ∙ y .1) in

@@ -11,7 +11,7 @@ use Rattle.ast.specs.Uses.{index-holds, saves-hold}
 use Rattle.refusal.specs.Answer.{Answer, accepted}
 use Rattle.ast.specs.declared.Head.{Head}
 use Rattle.text.specs.Lines.{lines-of}
-use Rattle.form.specs.Form.{form-of}
+use Rattle.form.specs.Grammar.{said}
 use Rattle.deck.specs.Judge.{Content, line-judged}
 use Rattle.deck.specs.Judge as Deck
 use Rattle.ast.specs.Constant.{constant-bits}
@@ -44,8 +44,8 @@ module _ (size : ℕ) where
   line-fit : (p : Program) (t : List ℕ) (l : Line) → line-read size p t ≡ accepted l → FitLine (p .head) l
   unfolding line-read
   line-fit p t l e =
-      let x = then-accepts (placed-at (next-line p) (line-judged false (form-of t))) (as-line size p) l e in
-      by (x .0) (line-fits false t (x .0) (placed-accepts (next-line p) (line-judged false (form-of t)) (x .0) (x .1))) (x .2)
+      let x = then-accepts (placed-at (next-line p) (line-judged false (said t))) (as-line size p) l e in
+      by (x .0) (line-fits false t (x .0) (placed-accepts (next-line p) (line-judged false (said t)) (x .0) (x .1))) (x .2)
     where
       by : (c : Content) → Fit c → as-line size p c ≡ accepted l → FitLine (p .head) l
       by (Deck.head h) f e = let z : _≡_ {A = ℕ} 0 1 = cc in absurd (omega arith)
@@ -66,8 +66,8 @@ module _ (size : ℕ) where
   head-fit : (t : List ℕ) (p : Program) → head-read size t ≡ accepted p → Fitting p
   unfolding head-read
   head-fit t p e =
-      let x = then-accepts (placed-at 1 (line-judged true (form-of t))) (as-head size) p e in
-      by (x .0) (line-fits true t (x .0) (placed-accepts 1 (line-judged true (form-of t)) (x .0) (x .1))) (x .2)
+      let x = then-accepts (placed-at 1 (line-judged true (said t))) (as-head size) p e in
+      by (x .0) (line-fits true t (x .0) (placed-accepts 1 (line-judged true (said t)) (x .0) (x .1))) (x .2)
     where
       by : (c : Content) → Fit c → as-head size c ≡ accepted p → Fitting p
       by (Deck.head h) f e = subst Fitting (unless-accepts (room-number size [] (entry (only h))) 1 (only h) p e .1) (f, tt)

@@ -2,11 +2,11 @@
 -- The statement; it is proved in `proofs`.
 use mathlib.Core.Path.{_≡_}
 use mathlib.Core.List.{List}
-use mathlib.Core.Option.{some}
 use Prim.Native.Nat.{ℕ, _*_, _<_}
+use lib.Dec.{T}
 use lib.ListN.{length, getD, take}
-use Rattle.isa.specs.Instr.{Instr, Valid}
-use Rattle.isa.specs.Decode.{decode}
+use Rattle.isa.specs.Instr.{Instr, valid}
+use Rattle.isa.specs.Encode.{encode}
 use Rattle.machine.specs.Word.{load4}
 use Rattle.machine.specs.Floats.{Floats}
 use Rattle.machine.specs.State.{State, Sound}
@@ -54,36 +54,11 @@ ForwardClaim =
     × Ended p r
     × Returned Q p (t .length) s n r
 
--- ---- what follows
-
--- An accepted file is some program.
-abbrev pub ProgramClaim : Type 0
-ProgramClaim =
-    (file buf : List ℕ) (t : Summary) (after : List ℕ)
-    → Promise file buf (accepted t) after
-    → (p : Program) × (program-of (length buf) file ≡ accepted p)
-
--- Every word before the constants is a valid instruction's.
+-- Every word before the constants is that of a valid instruction.
 abbrev pub WordsClaim : Type 0
 WordsClaim =
     (file buf : List ℕ) (t : Summary) (after : List ℕ)
     → Promise file buf (accepted t) after
     → (k : ℕ)
     → 4 * k < t .offset
-    → (i : Instr) × Valid i × (decode (load4 (λ x. getD after x 0) (4 * k)) ≡ some i)
-
--- An accepted file is one program, whatever the buffer's size.
-abbrev pub OneProgram : Type 0
-OneProgram =
-    (m n : ℕ) (file : List ℕ) (p q : Program)
-    → program-of m file ≡ accepted p
-    → program-of n file ≡ accepted q
-    → p ≡ q
-
--- An accepted routine depends on neither the size nor the contents of the buffer.
-abbrev pub SameClaim : Type 0
-SameClaim =
-    (file buf buf′ : List ℕ) (t t′ : Summary) (after after′ : List ℕ)
-    → Promise file buf (accepted t) after
-    → Promise file buf′ (accepted t′) after′
-    → (t ≡ t′) × (take (t .length) after ≡ take (t′ .length) after′)
+    → (i : Instr) × T (valid i) × (load4 (λ x. getD after x 0) (4 * k) ≡ encode i)

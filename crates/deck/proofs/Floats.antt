@@ -15,7 +15,8 @@ use Rattle.ast.specs.declared.Constant.the-variants as Constant
 use Rattle.text.specs.declared.Number.{Number}
 use Rattle.text.specs.declared.Number.the-variants.{Value, TooBig}
 use Rattle.form.specs.declared.Form.the-variants as Form
-use Rattle.deck.specs.Judge.{judged, constant}
+use Rattle.deck.specs.Judge.{constant}
+use Rattle.deck.specs.Inner.Forms.{form-judged}
 
 module _ (v : ℕ) (h : v ≤ 9007199254740992) where
   plain : toZ w64 v ≡ pos v
@@ -47,18 +48,18 @@ module _ (v : ℕ) (h : v ≤ 9007199254740992) where
   negated-in = rw back (neg-in v h)
 
   module _ (m : Bool) (n : Number) (e : n ≡ Value v) where
-    pub plain-is : m ≡ false → accepted (constant (Constant.Float (ofInt binary64 (toZ w64 v)))) ≡ judged (Form.Float m n)
-    unfolding judged
+    pub plain-is : m ≡ false → accepted (constant (Constant.Float (ofInt binary64 (toZ w64 v)))) ≡ form-judged (Form.Float m n)
+    unfolding form-judged
     plain-is g = rw (e, g, lt-ltb v 9007199254740993 (omega arith), plain)
 
-    pub negated-is : m ≡ true → accepted (constant (Constant.Float (ofInt binary64 (toZ w64 (ofZ w64 (pos 0 -ℤ toZ w64 v)))))) ≡ judged (Form.Float m n)
-    unfolding judged
+    pub negated-is : m ≡ true → accepted (constant (Constant.Float (ofInt binary64 (toZ w64 (ofZ w64 (pos 0 -ℤ toZ w64 v)))))) ≡ form-judged (Form.Float m n)
+    unfolding form-judged
     negated-is g = rw (e, g, lt-ltb v 9007199254740993 (omega arith), back)
 
-pub too-big : (m : Bool) (n : Number) → n ≡ TooBig → refused 2 0 ≡ judged (Form.Float m n)
-unfolding judged
+pub too-big : (m : Bool) (n : Number) → n ≡ TooBig → refused 2 0 ≡ form-judged (Form.Float m n)
+unfolding form-judged
 too-big m n e = rw e
 
-pub too-great : (m : Bool) (n : Number) (v : ℕ) → n ≡ Value v → 9007199254740992 < v → refused 2 0 ≡ judged (Form.Float m n)
-unfolding judged
+pub too-great : (m : Bool) (n : Number) (v : ℕ) → n ≡ Value v → 9007199254740992 < v → refused 2 0 ≡ form-judged (Form.Float m n)
+unfolding form-judged
 too-great m n v e h = rw (e, le-ltb v 9007199254740993 h)

@@ -1,2 +1,3 @@
 mod Ranges
 mod Floats
+pub mod Forms

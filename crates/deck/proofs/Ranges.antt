@@ -15,7 +15,8 @@ use Rattle.text.specs.declared.Number.{Number}
 use Rattle.text.specs.declared.Number.the-variants.{Value, TooBig}
 use Rattle.base.proofs.Bools.{both}
 use Rattle.form.specs.declared.Form.the-variants as Form
-use Rattle.deck.specs.Judge.{Content, demand, below, value, head-of, head, order, judged}
+use Rattle.deck.specs.Judge.{Content, demand, head, order}
+use Rattle.deck.specs.Inner.Forms.{below, value, head-of, form-judged}
 use Rattle.deck.specs.Inner.Parts.{are-below, truncated}
 use Rattle.ast.specs.Counts.{counts-hold}
 
@@ -26,7 +27,7 @@ low-is k (Value v) h e = mod-eq-of-lt (let g = ltb-true v k e in omega arith)
 low-is k TooBig h e = refl
 
 -- what stands behind a test may take it as true
-under : (t : Bool) (r : Refusal) (a b : Answer Content) → (t ≡ true → a ≡ b) → demand t r a ≡ demand t r b
+pub under : (t : Bool) (r : Refusal) (a b : Answer Content) → (t ≡ true → a ≡ b) → demand t r a ≡ demand t r b
 under true r a b f = f refl
 under false r a b f = refl
 
@@ -50,7 +51,7 @@ module _ (f : (a b c d : ℕ) → Order) (a b c d : Number) {v w x y : ℕ} {r :
 
 -- ---- the head
 
-grouped : (p q r s t : Bool) → p && (q && (r && (s && t))) ≡ (p && (q && (r && s))) && t
+pub grouped : (p q r s t : Bool) → p && (q && (r && (s && t))) ≡ (p && (q && (r && s))) && t
 grouped true true true s t = refl
 grouped true true false s t = refl
 grouped true false r s t = refl
@@ -64,24 +65,24 @@ pub cut-is : (f : Frame) (c s o l m : Number) {v w x y z : ℕ} → v ≡ trunca
 cut-is f c s o l m a b d e g = rw (a, b, d, e, g)
 
 module _ (f : Frame) (c s o l m : Number) where
-  pub no-mask : below 4294967296 m ≡ false → refused 2 0 ≡ judged (Form.Head f c s o l m)
-  unfolding judged
+  pub no-mask : below 4294967296 m ≡ false → refused 2 0 ≡ form-judged (Form.Head f c s o l m)
+  unfolding form-judged
   no-mask e = rw e
 
   module _ (em : below 4294967296 m ≡ true) where
-    parted : judged (Form.Head f c s o l m) ≡ demand (are-below 4097 c s o l && counts-hold (head-of f c s o l m)) Count (accepted (head (head-of f c s o l m)))
-    unfolding judged
+    parted : form-judged (Form.Head f c s o l m) ≡ demand (are-below 4097 c s o l && counts-hold (head-of f c s o l m)) Count (accepted (head (head-of f c s o l m)))
+    unfolding form-judged
     parted = rw (em, grouped (below 4097 c) (below 4097 s) (below 4097 o) (below 4097 l) (counts-hold (head-of f c s o l m)))
 
-    pub no-count : are-below 4097 c s o l ≡ false → refused 9 0 ≡ judged (Form.Head f c s o l m)
+    pub no-count : are-below 4097 c s o l ≡ false → refused 9 0 ≡ form-judged (Form.Head f c s o l m)
     no-count e = rw (parted, e)
 
     module _ (ec : are-below 4097 c s o l ≡ true) (h : Head) (eh : h ≡ cut-head f c s o l m) where
       whole : h ≡ head-of f c s o l m
       whole = let e = lows 4097 (omega arith) c s o l ec in eh ∙ rw (e .0, e .1, e .2, e .3, low-is 4294967296 m (omega arith) em)
 
-      pub head-good : counts-hold h ≡ true → accepted (head h) ≡ judged (Form.Head f c s o l m)
+      pub head-good : counts-hold h ≡ true → accepted (head h) ≡ form-judged (Form.Head f c s o l m)
       head-good g = rw (parted, ec, ← whole, g)
 
-      pub head-bad : counts-hold h ≡ false → refused 9 0 ≡ judged (Form.Head f c s o l m)
+      pub head-bad : counts-hold h ≡ false → refused 9 0 ≡ form-judged (Form.Head f c s o l m)
       head-bad g = rw (parted, ec, ← whole, g)

@@ -1,29 +1,27 @@
--- Document 01, "Numbers of refusal": which numbers a line's fields may be, and what the line then says.
-use mathlib.Core.Bool.{Bool, true, false, _&&_, cond, Bool·beq}
-use Prim.Native.Nat.{ℕ, _^_}
-use lib.Dec.{ltb}
+-- Document 01, "Numbers of refusal": what a line says, if its numbers are in their ranges. Its refusals, in order: 12, 1, 3, 2, 9.
+use mathlib.Core.Bool.{Bool, true, false, Bool·beq}
+use mathlib.Core.Option.{Option, some, none}
+use Prim.Native.Nat.{_^_}
+use lib.Dec.{ltb, leb}
 use lib.Ieee.{ofInt, binary64}
-use lib.IntN.{ℤ, pos, negℤ}
+use lib.IntN.{natAbs}
 use Rattle.refusal.specs.Answer.{Answer, accepted, refused}
 use Rattle.refusal.specs.Number.{number-of}
 use Rattle.refusal.specs.declared.Refusal.{Refusal}
-use Rattle.refusal.specs.declared.Refusal.the-variants.{Register, Value as Valued, Label, Count, Line}
+use Rattle.refusal.specs.declared.Refusal.the-variants.{Register, Value, Label, Count, Line}
 use Rattle.ast.specs.Constant.{constant-limit}
-use Rattle.ast.specs.Counts.{counts-hold}
-use Rattle.ast.specs.declared.Frame.{Frame}
+use Rattle.ast.specs.Counts.{count-limit, counts-hold}
+use Rattle.ast.specs.Uses.{uses, registers-fit}
 use Rattle.ast.specs.declared.Head.{Head}
 use Rattle.ast.specs.declared.Order.{Order}
-use Rattle.ast.specs.declared.Order.the-variants as Order
+use Rattle.ast.specs.declared.Operand.{Operand}
+use Rattle.ast.specs.declared.Operand.the-variants as Operand
 use Rattle.ast.specs.declared.Constant.{Constant}
 use Rattle.ast.specs.declared.Constant.the-variants as Constant
-use Rattle.text.specs.declared.Number.{Number}
-use Rattle.text.specs.declared.Number.the-variants.{Value, TooBig}
-use Rattle.form.specs.declared.Form.{Form}
-use Rattle.form.specs.declared.Form.the-variants as Form
+use Rattle.form.specs.Text.{DeckLine}
+use Rattle.form.specs.Text as Text
 use Rattle.deck.specs.declared.Judged.{Judged}
 use Rattle.deck.specs.declared.Judged.the-variants as Judged
-
--- ---- answers
 
 -- what an accepted line says
 pub data Content : Type 0 where
@@ -31,115 +29,41 @@ pub data Content : Type 0 where
   order : Order → Content
   constant : Constant → Content
 
--- an answer's content, or its number; the place 0 stands for the line's, which the routine knows
+-- the answer, if the test holds; else the refusal. The place 0 stands for the line's, which the routine knows.
+abbrev pub demand : Bool → Refusal → Answer Content → Answer Content
+demand true r a = a
+demand false r a = refused (number-of r) 0
+
+-- An order's operand that is no register. No count is more than 4,096, so no index is 4,096 or more.
+abbrev pub operand-judged : Operand → Answer Content → Answer Content
+operand-judged Operand.Nothing a = a
+operand-judged (Operand.Loaded p i) a = demand (ltb i count-limit) Count a
+operand-judged (Operand.Stored p i) a = demand (ltb i count-limit) Count a
+operand-judged (Operand.Constant k) a = demand (ltb k constant-limit) Count a
+operand-judged (Operand.GoneTo l) a = demand (leb l 1023) Label a
+operand-judged (Operand.Set l) a = demand (leb l 1023) Label a
+
+unfoldable pub judged : DeckLine → Answer Content
+judged (Text.head H) = demand (ltb (H .mask) (2 ^ 32)) Value (demand (counts-hold H) Count (accepted (head H)))
+judged (Text.order o) = demand (registers-fit (uses o .registers)) Register (operand-judged (uses o .operand) (accepted (order o)))
+judged (Text.float z) = demand (leb (natAbs z) (2 ^ 53)) Value (accepted (constant (Constant.Float (ofInt binary64 z))))
+judged (Text.bits n) = accepted (constant (Constant.Bits n))
+
+abbrev pub is-head : DeckLine → Bool
+is-head (Text.head H) = true
+is-head (Text.order o) = false
+is-head (Text.float z) = false
+is-head (Text.bits n) = false
+
+-- What a file's line says: it is the text of a line, line 1 of a head, and no other line of a head.
+unfoldable pub line-judged : (first : Bool) → Option DeckLine → Answer Content
+line-judged first none = refused (number-of Line) 0
+line-judged first (some l) = demand (Bool·beq (is-head l) first) Line (judged l)
+
+-- ---- as the code has it
+
 abbrev pub line-answer : Judged → Answer Content
 line-answer (Judged.Head h) = accepted (head h)
 line-answer (Judged.Order o) = accepted (order o)
 line-answer (Judged.Constant c) = accepted (constant c)
 line-answer (Judged.Refused r) = refused (number-of r) 0
-
--- the answer, if the test holds; else the refusal
-abbrev pub demand : Bool → Refusal → Answer Content → Answer Content
-demand true r a = a
-demand false r a = refused (number-of r) 0
-
--- ---- fields
-
-abbrev pub below : ℕ → Number → Bool
-below k (Value n) = ltb n k
-below k TooBig = false
-
-abbrev pub value : Number → ℕ
-value (Value n) = n
-value TooBig = 0
-
-abbrev pub register : Number → Bool
-register n = below 32 n
-
--- a user's label
-abbrev pub label : Number → Bool
-label n = below 1024 n
-
--- no count is more than 4,096, so no index is 4,096 or more
-abbrev pub index : Number → Bool
-index n = below 4096 n
-
--- `k` of `load_const`
-abbrev pub constant-index : Number → Bool
-constant-index n = below constant-limit n
-
-abbrev pub mask : Number → Bool
-mask n = below (2 ^ 32) n
-
-abbrev pub count : Number → Bool
-count n = below 4097 n
-
--- magnitudes up to 2^53
-abbrev pub exact : Number → Bool
-exact n = below 9007199254740993 n
-
-abbrev pub signed : Bool → ℕ → ℤ
-signed false n = pos n
-signed true n = negℤ (pos n)
-
--- ---- the head
-
-abbrev pub head-of : Frame → (cap states obs last mask : Number) → Head
-head-of f c s o l m = record { frame = f; cap = value c; states = value s; obs = value o; last = value l; mask = value m }
-
--- ---- a line: 12, then 1, 3, 2, 9
-
-unfoldable pub judged : Form → Answer Content
-judged Form.Malformed = refused (number-of Line) 0
-judged (Form.Head f c s o l m) =
-    demand (mask m) Valued
-    (demand (count c && (count s && (count o && (count l && counts-hold (head-of f c s o l m))))) Count
-    (accepted (head (head-of f c s o l m))))
-judged (Form.Unary u d s) =
-    demand (register d && register s) Register
-    (accepted (order (Order.Unary u (value d) (value s))))
-judged (Form.Scratched u d s t) =
-    demand (register d && (register s && register t)) Register
-    (accepted (order (Order.Scratched u (value d) (value s) (value t))))
-judged (Form.Binary u d s t) =
-    demand (register d && (register s && register t)) Register
-    (accepted (order (Order.Binary u (value d) (value s) (value t))))
-judged (Form.Fused u d s t v) =
-    demand (register d && (register s && (register t && register v))) Register
-    (accepted (order (Order.Fused u (value d) (value s) (value t) (value v))))
-judged (Form.Ifelse d s t i) =
-    demand (register d && (register s && register t)) Register
-    (demand (index i) Count
-    (accepted (order (Order.Ifelse (value d) (value s) (value t) (value i)))))
-judged (Form.LoadConst d k) =
-    demand (register d) Register (demand (constant-index k) Count (accepted (order (Order.LoadConst (value d) (value k)))))
-judged (Form.Load d p i) =
-    demand (register d) Register (demand (index i) Count (accepted (order (Order.Load (value d) p (value i)))))
-judged (Form.Save s p i) =
-    demand (register s) Register (demand (index i) Count (accepted (order (Order.Save (value s) p (value i)))))
-judged (Form.BranchIf c l e) =
-    demand (register c) Register (demand (label l) Label (accepted (order (Order.BranchIf (value c) (value l) e))))
-judged (Form.SetLabel l) = demand (label l) Label (accepted (order (Order.SetLabel (value l))))
-judged (Form.Float minus n) =
-    demand (exact n) Valued (accepted (constant (Constant.Float (ofInt binary64 (signed minus (value n))))))
-judged (Form.Bits n) = accepted (constant (Constant.Bits n))
-
-abbrev pub is-head : Form → Bool
-is-head (Form.Head f c s o l m) = true
-is-head (Form.Unary u d s) = false
-is-head (Form.Scratched u d s t) = false
-is-head (Form.Binary u d s t) = false
-is-head (Form.Fused u d s t v) = false
-is-head (Form.Ifelse d s t i) = false
-is-head (Form.LoadConst d k) = false
-is-head (Form.Load d p i) = false
-is-head (Form.Save s p i) = false
-is-head (Form.BranchIf c l e) = false
-is-head (Form.SetLabel l) = false
-is-head (Form.Float minus n) = false
-is-head (Form.Bits n) = false
-is-head Form.Malformed = false
-
--- line 1 is a head, and no other line is
-unfoldable pub line-judged : (first : Bool) → Form → Answer Content
-line-judged first f = cond (Bool·beq (is-head f) first) (judged f) (refused (number-of Line) 0)

@@ -2,8 +2,9 @@
 ghost use mathlib.Core.Path.{_≡_};
 ghost use Rattle.refusal.specs.Answer.{accepted};
 ghost use Rattle.refusal.specs.declared.Refusal.the-variants.{Register, Count};
-ghost use Rattle.form.specs.Form.{form-of};
-ghost use Rattle.deck.specs.Judge.{order, line-answer, demand, below, register, judged, is-head, line-judged};
+ghost use Rattle.form.specs.Grammar.{said};
+ghost use Rattle.deck.specs.Judge.{order, line-answer, demand, line-judged};
+ghost use Rattle.deck.specs.Inner.Forms.{below, register, form-judged, form-is-head};
 ghost use Rattle.deck.specs.Inner.Parts.{are-below, truncated};
 use ast::Constant;
 use ast::Frame;
@@ -64,7 +65,7 @@ fn judge_head(
     last: Number,
     mask: Number,
 ) -> Judged
-    ensures { λ r. ⌜ line-answer r ≡ judged (Form.Head f cap states obs last mask) ⌝ }
+    ensures { λ r. ⌜ line-answer r ≡ form-judged (Form.Head f cap states obs last mask) ⌝ }
 {
     if !is_below(mask, 0x100000000) {
         return Judged::Refused(Refusal::Value);
@@ -123,7 +124,7 @@ fn indexed(o: Order, d: Number, i: Number, bound: u64) -> Judged
 
 // A whole number of magnitude at most 2^53, as a float.
 fn judge_float(minus: bool, n: Number) -> Judged
-    ensures { λ r. ⌜ line-answer r ≡ judged (Form.Float minus n) ⌝ }
+    ensures { λ r. ⌜ line-answer r ≡ form-judged (Form.Float minus n) ⌝ }
 {
     let Number::Value(v) = n else {
         return Judged::Refused(Refusal::Value);
@@ -139,7 +140,7 @@ fn judge_float(minus: bool, n: Number) -> Judged
 
 // What a form says, or its refusal.
 pub fn judge(form: Form) -> Judged
-    ensures { λ r. ⌜ line-answer r ≡ judged form ⌝ }
+    ensures { λ r. ⌜ line-answer r ≡ form-judged form ⌝ }
 {
     let no = Number::Value(0);
     match form {
@@ -197,7 +198,7 @@ pub fn judge(form: Form) -> Judged
 }
 
 fn is_head(form: Form) -> bool
-    ensures { λ r. ⌜ r ≡ is-head form ⌝ }
+    ensures { λ r. ⌜ r ≡ form-is-head form ⌝ }
 {
     match form {
         Form::Head(_, _, _, _, _, _) => true,
@@ -219,7 +220,7 @@ fn is_head(form: Form) -> bool
 
 // A line of a file, with its byte 10. The first is a head, and no other is.
 pub fn read_line(first: bool, line: &[u8]) -> Judged
-    ensures { λ r. ⌜ line-answer r ≡ line-judged first (form-of (now (line .entry))) ⌝ }
+    ensures { λ r. ⌜ line-answer r ≡ line-judged first (said (now (line .entry))) ⌝ }
 {
     let form = form::read_form(line);
     if is_head(form) {

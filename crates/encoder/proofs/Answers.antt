@@ -10,18 +10,18 @@ use lib.IntN.{ℤ, pos}
 use lib.ListN.{length, getD, take, drop}
 use lib.Seq.{getD-append-add}
 use Rattle.isa.specs.Immediate.{twos}
-use Rattle.isa.specs.Instr.{Instr, R, F, C, M, R4, I, Shift, S, B, U, J, ADD, FADD-D, FSQRT-D, FMV-X-D, FMADD-D, ADDI, SLLI, SD, BEQ, LUI, JAL, Operand, register, holds, operands, registers-hold, valid, Valid}
+use Rattle.isa.specs.Instr.{Instr, R, F, C, M, R4, I, Shift, S, B, U, J, ADD, FADD-D, FSQRT-D, FMV-X-D, FMADD-D, ADDI, SLLI, SD, BEQ, LUI, JAL, Operand, register, holds, operands, registers-hold, valid}
 use Rattle.base.specs.Tests.{all}
 use Rattle.isa.specs.Encode.{encode}
 use Rattle.isa.specs.Decode.{r-ops, f-ops, c-ops, m-ops, r4-ops, i-ops, shift-ops, s-ops, b-ops, u-ops, j-ops}
-use Rattle.isa.proofs.Validity.{valid-Valid, Valid-valid, Valid-registers}
-use Rattle.base.proofs.Bools.{both}
+use Rattle.isa.proofs.Validity.{Valid, valid-Valid, Valid-valid, Valid-registers}
+use Rattle.base.proofs.Bools.{both, T-true, true-T}
 use Rattle.isa.proofs.Laws.{encode-small}
 use Rattle.isa.proofs.Words.{encode-R, encode-F, encode-C, encode-M, encode-R4, encode-I, encode-Shift, encode-S, encode-B, encode-U, encode-J}
 use Rattle.refusal.specs.Answer.{accepted, refused}
-use Rattle.encoder.specs.Answer.{encoded}
-use Rattle.encoder.specs.Field.{packed}
-use Rattle.encoder.specs.Table.{rows, row-of}
+use Rattle.encoder.specs.Answer.{encoded, AcceptedValid}
+use Rattle.encoder.specs.Inner.Field.{packed}
+use Rattle.encoder.specs.Inner.Table.{rows, row-of}
 use Rattle.encoder.specs.declared.Field.{Field}
 use Rattle.encoder.specs.declared.Field.the-variants.{Bits, Outside}
 use Rattle.encoder.proofs.Fields.{Means}
@@ -95,6 +95,9 @@ accepted-valid i w e = by (registers-hold (operands i)) (valid i) refl e
 
 pub valid-accepted : (i : Instr) → Valid i → encoded i ≡ accepted (encode i)
 valid-accepted i h = sym (good i (Valid-valid i h) (encode i) refl (Valid-registers i h))
+
+pub accepted-is-valid : AcceptedValid
+accepted-is-valid i = (λ w e. let q = accepted-valid i w e in (true-T (valid i) (Valid-valid i (q .0)), q .1), λ h. valid-accepted i (valid-Valid i (T-true (valid i) h)))
 
 -- the same of an answer that is told
 module _ (i : Instr) where

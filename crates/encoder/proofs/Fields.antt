@@ -11,7 +11,8 @@ use mir.Syntax.{w32}
 use mir.Val.{SFits, ofZ, toZ}
 use Rattle.isa.specs.Immediate.{twos}
 use Rattle.isa.specs.Instr.{signed, offset, unsigned, holds}
-use Rattle.encoder.specs.Field.{sign-of, signed-field, even-field, unsigned-field}
+use Rattle.encoder.specs.Sign.{sign-of}
+use Rattle.encoder.specs.Inner.Field.{signed-field, even-field, unsigned-field}
 use Rattle.encoder.specs.declared.Sign.{Sign}
 use Rattle.encoder.specs.declared.Sign.the-variants.{NonNeg, Neg}
 use Rattle.encoder.specs.declared.Field.{Field}

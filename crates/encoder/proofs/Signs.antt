@@ -11,7 +11,7 @@ use lib.Signed.{leZ, nonNeg}
 use mir.Syntax.{Width, w32}
 use mir.Val.{Fits, SFits, ofZ, toZ}
 use mir.ValLaws.{toZ-ofZ, half-full}
-use Rattle.encoder.specs.Field.{sign-of}
+use Rattle.encoder.specs.Sign.{sign-of}
 use Rattle.encoder.specs.declared.Sign.the-variants.{NonNeg, Neg}
 
 differ {ℓ} : {A : Type ℓ} → true ≡ false → A

@@ -1,3 +1,6 @@
+-- the answer for an instruction: its word, or a refusal's number
 pub mod Answer
-pub mod Table
-pub mod Field
+-- a signed number as the code has it
+pub mod Sign
+-- what only private functions promise
+pub mod Inner

@@ -1,15 +1,17 @@
 // macros.rs: the word of an instruction, or its refusal. `rvv!` becomes a function for each form, operands in its order;
 // dots in a name become underscores, and `fadd.d` with a rounding mode is `fadd_d_rm`.
 ghost use mathlib.Core.Path.{_≡_};
+ghost use mathlib.Core.Bool.{true};
 ghost use Prim.Native.Nat.{_≤_, _<_};
 ghost use lib.Dec.{T};
 ghost use lib.IntN.{pos, negsuc};
 ghost use lib.ListN.{getD};
 ghost use mathlib.Core.List.{[], _∷_};
 ghost use Rattle.encoder.specs.Answer.{word-answer, encoded};
-ghost use Rattle.encoder.specs.Table.{row-of};
-ghost use Rattle.encoder.specs.Field.{packed, sign-of, signed-field, even-field, unsigned-field};
-ghost use Rattle.isa.specs.Instr.{R, F, C, M, R4, I, Shift, S, B, U, J, ADD, SUB, SLL, XOR, SRL, SRA, OR, AND, FSGNJ-D, FSGNJN-D, FSGNJX-D, FMIN-D, FMAX-D, FLE-D, FLT-D, FEQ-D, FADD-D, FSUB-D, FMUL-D, FDIV-D, FSQRT-D, FCVT-W-D, FCVT-L-D, FCVT-D-W, FCVT-D-L, FMV-X-D, FMV-D-X, FMADD-D, FMSUB-D, FNMSUB-D, FNMADD-D, ADDI, XORI, ORI, ANDI, JALR, LD, FLD, SLLI, SRLI, SRAI, SD, FSD, BEQ, BNE, BLT, BGE, BLTU, BGEU, LUI, AUIPC, JAL, rounding as rounding-field, free, Holds, holds, f-rounding, c-rounding, register, registers-hold};
+ghost use Rattle.encoder.specs.Inner.Table.{row-of};
+ghost use Rattle.encoder.specs.Sign.{sign-of};
+ghost use Rattle.encoder.specs.Inner.Field.{packed, signed-field, even-field, unsigned-field};
+ghost use Rattle.isa.specs.Instr.{R, F, C, M, R4, I, Shift, S, B, U, J, ADD, SUB, SLL, XOR, SRL, SRA, OR, AND, FSGNJ-D, FSGNJN-D, FSGNJX-D, FMIN-D, FMAX-D, FLE-D, FLT-D, FEQ-D, FADD-D, FSUB-D, FMUL-D, FDIV-D, FSQRT-D, FCVT-W-D, FCVT-L-D, FCVT-D-W, FCVT-D-L, FMV-X-D, FMV-D-X, FMADD-D, FMSUB-D, FNMSUB-D, FNMADD-D, ADDI, XORI, ORI, ANDI, JALR, LD, FLD, SLLI, SRLI, SRAI, SD, FSD, BEQ, BNE, BLT, BGE, BLTU, BGEU, LUI, AUIPC, JAL, rounding as rounding-field, free, holds, f-rounding, c-rounding, register, registers-hold};
 ghost use Rattle.isa.specs.Immediate.{hi as hi-part, lo as lo-part};
 ghost use Rattle.isa.specs.Encode.{encode};
 ghost use Rattle.isa.specs.Decode.{r-ops, f-ops, c-ops, m-ops, r4-ops, i-ops, shift-ops, s-ops, b-ops, u-ops, j-ops};
@@ -390,7 +392,7 @@ fn rtype(op: usize, rd: u32, rs1: u32, rs2: u32) -> Encoded
 
 // R, with a rounding field in funct3's place.
 fn ftype(op: usize, rd: u32, rs1: u32, rs2: u32, rm: u32) -> Encoded
-    requires { ⌜ (op < 4) × Holds (rounding-field (f-rounding (getD f-ops op FADD-D)) rm) ⌝ }
+    requires { ⌜ (op < 4) × (holds (rounding-field (f-rounding (getD f-ops op FADD-D)) rm) ≡ true) ⌝ }
     ensures { λ r. ⌜ word-answer r ≡ encoded (F (getD f-ops op FADD-D) rd rs1 rs2 rm) ⌝ }
 {
     if !registers(rd, rs1, rs2, 0) {
@@ -401,7 +403,7 @@ fn ftype(op: usize, rd: u32, rs1: u32, rs2: u32, rm: u32) -> Encoded
 
 // R with a rounding field and a fixed rs2: conversions and the square root.
 fn ctype(op: usize, rd: u32, rs1: u32, rm: u32) -> Encoded
-    requires { ⌜ (op < 5) × Holds (rounding-field (c-rounding (getD c-ops op FSQRT-D)) rm) ⌝ }
+    requires { ⌜ (op < 5) × (holds (rounding-field (c-rounding (getD c-ops op FSQRT-D)) rm) ≡ true) ⌝ }
     ensures { λ r. ⌜ word-answer r ≡ encoded (C (getD c-ops op FSQRT-D) rd rs1 rm) ⌝ }
 {
     if !registers(rd, rs1, 0, 0) {

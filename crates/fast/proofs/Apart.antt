@@ -1,16 +1,16 @@
 -- An order's number taken apart is the order. Assumes nothing.
 use mathlib.Core.Path.{_≡_, refl, sym, ap, subst, _∙_}
-use mathlib.Core.Bool.{Bool, true, false, cond, _&&_}
+use mathlib.Core.Bool.{Bool, true, false, cond, Bool·beq}
 use mathlib.Core.Option.{Option, some, none, Option·map, Option·some-injective, Option·none-ne-some}
-use mathlib.Core.List.{List}
+use mathlib.Core.List.{List, [], _∷_}
 use Prim.Native.Nat.{ℕ, zero, suc, _*_, _/_, _%_, _+_, _-_, _<_, _≤_}
 use native.Mathlib.Omega.{arith}
 use borrow.Author.Tests.{ne-eqb, ltb-true, ltb-false}
-use lib.Dec.{eqb, ltb}
+use lib.Dec.{eqb, ltb, leb}
 use lib.Ieee.{ofInt, binary64}
+use lib.IntN.{natAbs}
 use Rattle.refusal.specs.Answer.{Answer, accepted}
 use Rattle.refusal.specs.declared.Refusal.{Refusal}
-use Rattle.refusal.specs.declared.Refusal.the-variants.{Register, Count, Label}
 use Rattle.refusal.specs.declared.Refusal.the-variants as Refusal
 use Rattle.ast.specs.declared.Place.{Place}
 use Rattle.ast.specs.declared.Place.the-variants.{Mem, Stack, Param}
@@ -18,18 +18,19 @@ use Rattle.ast.specs.declared.Unary as U
 use Rattle.ast.specs.declared.Scratched as S
 use Rattle.ast.specs.declared.Binary as Bin
 use Rattle.ast.specs.declared.Fused as Fu
-use Rattle.ast.specs.declared.Constant.{Constant}
+use Rattle.ast.specs.Counts.{counts-hold}
+use Rattle.ast.specs.Uses.{uses, registers-fit}
+use Rattle.ast.specs.declared.Operand.{Operand}
+use Rattle.ast.specs.declared.Operand.the-variants as Operand
 use Rattle.ast.specs.declared.Constant.the-variants as Constant
 use Rattle.ast.specs.declared.Order.{Order}
 use Rattle.ast.specs.declared.Order.the-variants.{Unary, Scratched, Binary, Fused, Ifelse, LoadConst, Load, Save, BranchIf, SetLabel}
-use Rattle.text.specs.declared.Number.{Number}
-use Rattle.text.specs.declared.Number.the-variants.{Value, TooBig}
 use Rattle.base.proofs.Bools.{both}
-use Rattle.form.specs.Form.{form-of}
-use Rattle.form.specs.declared.Form.{Form}
-use Rattle.form.specs.declared.Form.the-variants as Form
-use Rattle.deck.specs.Judge.{Content, demand, below as is-below, value, register, index, constant-index, label, exact, signed, order, constant, judged, line-judged}
-use Rattle.fast.specs.Fast.{small, small-order, said}
+use Rattle.form.specs.Text.{DeckLine}
+use Rattle.form.specs.Text as Text
+use Rattle.form.specs.Grammar.{said}
+use Rattle.deck.specs.Judge.{Content, head, order, constant, demand, operand-judged, judged, is-head, line-judged}
+use Rattle.fast.specs.Inner.Fast.{small, small-order, order-said}
 use Rattle.form.specs.Inner.Names.{unary-number, scratched-number, binary-number, fused-number, unary-at, scratched-at, binary-at, fused-at}
 use Rattle.form.proofs.Names.{unary-back, scratched-back, binary-back, fused-back}
 use Rattle.fast.specs.Inner.Packed.{place-number, flag-number, place-at, below, pack, no-order, number, order-at, unpacked}
@@ -186,92 +187,78 @@ pack-small (SetLabel l) h = omega (arith, h)
 
 -- ---- what a line says is such an order
 
-below-value : (k : ℕ) (m : Number) → is-below k m ≡ true → value m < k
-below-value k (Value v) e = ltb-true v k e
-below-value k TooBig e = absurd (let z : _≡_ {A = ℕ} 0 1 = cc in omega arith)
-
 -- a demand that was met
 met : (t : Bool) (r : Refusal) (a : Answer Content) (o : Order) → small-order (demand t r a) ≡ some o → (t ≡ true) × (small-order a ≡ some o)
 met true r a o e = (refl, e)
 met false r a o e = absurd (Option·none-ne-some o e)
 
+operand-met : (x : Operand) (a : Answer Content) (o : Order) → small-order (operand-judged x a) ≡ some o → small-order a ≡ some o
+operand-met Operand.Nothing a o e = e
+operand-met (Operand.Loaded p i) a o e = met (ltb i 4096) Refusal.Count a o e .1
+operand-met (Operand.Stored p i) a o e = met (ltb i 4096) Refusal.Count a o e .1
+operand-met (Operand.Constant k) a o e = met (ltb k 1008) Refusal.Count a o e .1
+operand-met (Operand.GoneTo l) a o e = met (leb l 1023) Refusal.Label a o e .1
+operand-met (Operand.Set l) a o e = met (leb l 1023) Refusal.Label a o e .1
+
 is-small : (t : Bool) (p o : Order) → cond t (some p) none ≡ some o → (t ≡ true) × (p ≡ o)
 is-small true p o e = (refl, Option·some-injective p o e)
 is-small false p o e = absurd (Option·none-ne-some o e)
 
-module _ (r : Refusal) (o : Order) where
-  -- registers alone
-  registers-fit : (t : Bool) (p : Order) → (t ≡ true → Fits p) → small-order (demand t r (accepted (order p))) ≡ some o → Fits o
-  registers-fit t p f e =
-      let m = met t r (accepted (order p)) o e in
-      subst Fits (is-small (small p) p o (m .1) .1) (f (m .0))
+-- registers below 32
+one : (a : ℕ) → registers-fit (a ∷ []) ≡ true → a < 32
+one a e = ltb-true a 32 (both (ltb a 32) true e .0)
 
-  -- and a last number
-  last-fits : (t u : Bool) (w : Refusal) (p : Order) (i : ℕ) → small p ≡ ltb i 1000 → (t ≡ true → i < 1000 → Fits p) → small-order (demand t r (demand u w (accepted (order p)))) ≡ some o → Fits o
-  last-fits t u w p i s f e =
-      let m = met t r (demand u w (accepted (order p))) o e in
-      let n = met u w (accepted (order p)) o (m .1) in
-      let k = is-small (small p) p o (n .1) in
-      subst Fits (k .1) (f (m .0) (ltb-true i 1000 (sym s ∙ k .0)))
+two : (a b : ℕ) → registers-fit (a ∷ b ∷ []) ≡ true → (a < 32) × (b < 32)
+two a b e = let g = both (ltb a 32) (registers-fit (b ∷ [])) e in (ltb-true a 32 (g .0), one b (g .1))
 
-no-constant : (t : Bool) (r : Refusal) (a : Constant) (o : Order) → small-order (demand t r (accepted (constant a))) ≡ some o → ⊥
-no-constant true r a o e = Option·none-ne-some o e
-no-constant false r a o e = Option·none-ne-some o e
+three : (a b c : ℕ) → registers-fit (a ∷ b ∷ c ∷ []) ≡ true → (a < 32) × (b < 32) × (c < 32)
+three a b c e = let g = both (ltb a 32) (registers-fit (b ∷ c ∷ [])) e in let h = two b c (g .1) in (ltb-true a 32 (g .0), h .0, h .1)
 
-module _ (a b : Number) (e : register a && register b ≡ true) where
-  two : (value a < 32) × (value b < 32)
-  two = let g = both (register a) (register b) e in (below-value 32 a (g .0), below-value 32 b (g .1))
+order-fits : (p : Order) → registers-fit (uses p .registers) ≡ true → small p ≡ true → Fits p
+order-fits (Unary k d s) e m = two d s e
+order-fits (Scratched k d s t) e m = three d s t e
+order-fits (Binary k d a b) e m = three d a b e
+order-fits (Fused k d a b c) e m = let g = both (ltb d 32) (registers-fit (a ∷ b ∷ c ∷ [])) e in let h = three a b c (g .1) in (ltb-true d 32 (g .0), h .0, h .1, h .2)
+order-fits (Ifelse d a b i) e m = let h = three d a b e in (h .0, h .1, h .2, ltb-true i 1000 m)
+order-fits (LoadConst d k) e m = (one d e, ltb-true k 1000 m)
+order-fits (Load d p i) e m = (one d e, ltb-true i 1000 m)
+order-fits (Save s p i) e m = (one s e, ltb-true i 1000 m)
+order-fits (BranchIf c l b) e m = (one c e, ltb-true l 1000 m)
+order-fits (SetLabel l) e m = ltb-true l 1000 m
 
-module _ (a b c : Number) (e : register a && (register b && register c) ≡ true) where
-  three : (value a < 32) × (value b < 32) × (value c < 32)
-  three =
-      let g = both (register a) (register b && register c) e in
-      let h = two b c (g .1) in
-      (below-value 32 a (g .0), h .0, h .1)
+line-fits : (l : DeckLine) (o : Order) → small-order (judged l) ≡ some o → Fits o
+unfolding judged
+line-fits (Text.head H) o e =
+    let m = met (ltb (H .mask) 4294967296) Refusal.Value _ o e in
+    absurd (Option·none-ne-some o (met (counts-hold H) Refusal.Count (accepted (head H)) o (m .1) .1))
+line-fits (Text.order p) o e =
+    let m = met (registers-fit (uses p .registers)) Refusal.Register _ o e in
+    let k = is-small (small p) p o (operand-met (uses p .operand) (accepted (order p)) o (m .1)) in
+    subst Fits (k .1) (order-fits p (m .0) (k .0))
+line-fits (Text.float z) o e = absurd (Option·none-ne-some o (met (leb (natAbs z) 9007199254740992) Refusal.Value (accepted (constant (Constant.Float (ofInt binary64 z)))) o e .1))
+line-fits (Text.bits n) o e = absurd (Option·none-ne-some o e)
 
-form-fits : (f : Form) (o : Order) → small-order (line-judged false f) ≡ some o → Fits o
-unfolding line-judged judged
-form-fits (Form.Head f c s p l m) o e = absurd (Option·none-ne-some o e)
-form-fits (Form.Unary u d s) o e = registers-fit Register o (register d && register s) (Unary u (value d) (value s)) (two d s) e
-form-fits (Form.Scratched u d s t) o e = registers-fit Register o (register d && (register s && register t)) (Scratched u (value d) (value s) (value t)) (three d s t) e
-form-fits (Form.Binary u d s t) o e = registers-fit Register o (register d && (register s && register t)) (Binary u (value d) (value s) (value t)) (three d s t) e
-form-fits (Form.Fused u d s t v) o e =
-    registers-fit Register o (register d && (register s && (register t && register v))) (Fused u (value d) (value s) (value t) (value v))
-    (λ g. let h = both (register d) (register s && (register t && register v)) g in let k = three s t v (h .1) in (below-value 32 d (h .0), k .0, k .1, k .2))
-    e
-form-fits (Form.Ifelse d s t i) o e =
-    last-fits Register o (register d && (register s && register t)) (index i) Count (Ifelse (value d) (value s) (value t) (value i)) (value i) refl
-    (λ g l. let h = three d s t g in (h .0, h .1, h .2, l))
-    e
-form-fits (Form.LoadConst d k) o e =
-    last-fits Register o (register d) (constant-index k) Count (LoadConst (value d) (value k)) (value k) refl (λ g l. (below-value 32 d g, l)) e
-form-fits (Form.Load d p i) o e =
-    last-fits Register o (register d) (index i) Count (Load (value d) p (value i)) (value i) refl (λ g l. (below-value 32 d g, l)) e
-form-fits (Form.Save s p i) o e =
-    last-fits Register o (register s) (index i) Count (Save (value s) p (value i)) (value i) refl (λ g l. (below-value 32 s g, l)) e
-form-fits (Form.BranchIf c l b) o e =
-    last-fits Register o (register c) (label l) Label (BranchIf (value c) (value l) b) (value l) refl (λ g n. (below-value 32 c g, n)) e
-form-fits (Form.SetLabel l) o e = last-fits Register o true (label l) Label (SetLabel (value l)) (value l) refl (λ g n. n) e
-form-fits (Form.Float m n) o e = absurd (no-constant (exact n) Refusal.Value (Constant.Float (ofInt binary64 (signed m (value n)))) o e)
-form-fits (Form.Bits n) o e = absurd (Option·none-ne-some o e)
-form-fits Form.Malformed o e = absurd (Option·none-ne-some o e)
-
-pub said-fits : (l : List ℕ) (o : Order) → said l ≡ some o → Fits o
-said-fits l o e = form-fits (form-of l) o e
+pub said-fits : (l : List ℕ) (o : Order) → order-said l ≡ some o → Fits o
+unfolding line-judged
+said-fits l o e = by (said l) e
+  where
+    by : (x : Option DeckLine) → small-order (line-judged false x) ≡ some o → Fits o
+    by none e = absurd (Option·none-ne-some o e)
+    by (some m) e = line-fits m o (met (Bool·beq (is-head m) false) Refusal.Line (judged m) o e .1)
 
 -- the number of a line: that of the order that it says, or none's
-module _ (l : List ℕ) (q : ℕ) (e : q ≡ number (Option·map pack (said l))) where
-  pub unsaid : no-order ≤ q → said l ≡ none
-  unsaid h = go (said l) refl e
+module _ (l : List ℕ) (q : ℕ) (e : q ≡ number (Option·map pack (order-said l))) where
+  pub unsaid : no-order ≤ q → order-said l ≡ none
+  unsaid h = go (order-said l) refl e
     where
-      go : (o : Option Order) → said l ≡ o → q ≡ number (Option·map pack o) → o ≡ none
+      go : (o : Option Order) → order-said l ≡ o → q ≡ number (Option·map pack o) → o ≡ none
       go none g f = refl
       go (some o) g f = absurd (omega (arith, f, pack-small o (said-fits l o g), h))
 
-  pub says-order : q < no-order → said l ≡ some (unpacked q)
-  says-order h = go (said l) refl e
+  pub says-order : q < no-order → order-said l ≡ some (unpacked q)
+  says-order h = go (order-said l) refl e
     where
-      go : (o : Option Order) → said l ≡ o → q ≡ number (Option·map pack o) → o ≡ some (unpacked q)
+      go : (o : Option Order) → order-said l ≡ o → q ≡ number (Option·map pack o) → o ≡ some (unpacked q)
       go none g f = absurd (omega (arith, f, h))
       go (some o) g f = ap some (rw f (sym (unpack-pack o (said-fits l o g))))
 

@@ -25,7 +25,7 @@ use Rattle.assembler.specs.Put.{labels, twice, words, jumps, with-word, with-ju
 use Rattle.orders.specs.Code.{code}
 use Rattle.orders.specs.Emitted.{emitted}
 use Rattle.orders.specs.Fault.{fault}
-use Rattle.fast.specs.Fast.{taken, not-mine, asm-of, left}
+use Rattle.fast.specs.Inner.Fast.{taken, not-mine, asm-of, left}
 
 -- ---- what is accepted has room
 

@@ -11,15 +11,17 @@ use lib.Dec.{eqb, ltb}
 use lib.ListN.{length, take, drop, length-drop}
 use lib.Seq.{take-all}
 use Rattle.base.proofs.Tested.{tested}
-use Rattle.text.specs.Digits.{short-of}
-use Rattle.text.specs.Fields.{commas, split, fields-from, end-from}
+use Rattle.text.specs.Inner.Parts.{short-of}
+use Rattle.text.specs.Fields.{commas}
+use Rattle.text.specs.Readers.{split, fields-from, end-from}
 use Rattle.text.proofs.Answers.{field-is, next-is, no-field, first-field}
 use Rattle.text.proofs.Joined.{join-split}
 use Rattle.text.proofs.Short.{one-field, short-read}
 use Rattle.ast.specs.declared.Place.{Place}
-use Rattle.form.specs.Syntax.{flag, place-name}
-use Rattle.form.specs.Read.{first, all-places, read-values}
-use Rattle.form.specs.Form.{only, placed, flagged}
+use Rattle.form.specs.Inner.Syntax.{flag}
+use Rattle.form.specs.Text.{place-name}
+use Rattle.form.specs.Inner.Read.{first, all-places, read-values}
+use Rattle.form.specs.Inner.Parts.{only, placed, flagged}
 use Rattle.form.specs.declared.Where.the-variants as Where
 use Rattle.form.specs.declared.Flag.the-variants as Flag
 use Rattle.fast.specs.Inner.Packed.{place-number, flag-number, below, no-order, number, numbered}

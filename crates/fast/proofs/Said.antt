@@ -8,14 +8,14 @@ use native.Mathlib.Omega.{arith}
 use borrow.Author.Tests.{lt-ltb, le-ltb, lt-leb, ltb-true, ltb-false, ne-eqb}
 use lib.Dec.{ltb, leb}
 use lib.Ieee.{ofInt, binary64}
+use lib.IntN.{natAbs}
 use lib.ListN.{replicate}
 use Rattle.base.proofs.Tested.{tested}
 use Rattle.refusal.specs.Answer.{Answer, accepted}
 use Rattle.refusal.specs.declared.Refusal.{Refusal}
 use Rattle.refusal.specs.declared.Refusal.the-variants.{Register, Count, Label}
 use Rattle.refusal.specs.declared.Refusal.the-variants as Refusal
-use Rattle.text.specs.Digits.{sized}
-use Rattle.text.specs.declared.Number.the-variants.{Value, TooBig}
+use Rattle.text.specs.Readers.{sized}
 use Rattle.ast.specs.declared.Unary as U
 use Rattle.ast.specs.declared.Scratched as S
 use Rattle.ast.specs.declared.Binary as Bin
@@ -24,14 +24,16 @@ use Rattle.ast.specs.declared.Constant.{Constant}
 use Rattle.ast.specs.declared.Constant.the-variants as Constant
 use Rattle.ast.specs.declared.Order.{Order}
 use Rattle.ast.specs.declared.Order.the-variants as Order
-use Rattle.form.specs.Syntax.{number, place, flag, Values, sorts}
-use Rattle.form.specs.Read.{read-values}
-use Rattle.form.specs.Form.{is-negative, magnitude}
+use Rattle.form.specs.Inner.Syntax.{number, place, flag, Values, sorts}
+use Rattle.form.specs.Inner.Read.{read-values}
+use Rattle.form.specs.Form.{is-negative}
 use Rattle.form.specs.Inner.Parts.{shaped, shaped′}
 use Rattle.form.specs.declared.Kind.{Kind}
 use Rattle.form.specs.declared.Kind.the-variants as Kind
-use Rattle.deck.specs.Judge.{Content, demand, below as is-below, value, register, exact, signed, order, constant, judged, line-judged}
-use Rattle.fast.specs.Fast.{small, small-order}
+use Rattle.deck.specs.Judge.{Content, demand, order, constant}
+use Rattle.deck.specs.Inner.Forms.{below as is-below, value, register, exact, signed, form-judged}
+use Rattle.deck.proofs.Forms.{below-sized, value-sized, form-line-judged}
+use Rattle.fast.specs.Inner.Fast.{small, small-order}
 use Rattle.fast.specs.Inner.Packed.{place-number, flag-number, below, pack}
 use Rattle.form.specs.Inner.Names.{kind-code}
 use Rattle.fast.specs.Inner.Fields.{bounded, onto, numeric, registers-of, bound-of, behind, fields-packed}
@@ -46,17 +48,6 @@ abbrev its : ℕ → ℕ
 its n = value (sized n)
 
 -- ---- numbers below a bound
-
-module _ (k n : ℕ) (h : k ≤ 2 ^ 64) where
-  below-sized : is-below k (sized n) ≡ ltb n k
-  below-sized = go (ltb n 18446744073709551616) refl
-    where
-      go : (t : Bool) → ltb n 18446744073709551616 ≡ t → is-below k (cond t (Value n) TooBig) ≡ ltb n k
-      go true e = refl
-      go false e = sym (le-ltb n k (omega (arith, ltb-false n 18446744073709551616 e)))
-
-  value-sized : ltb n k ≡ true → value (sized n) ≡ n
-  value-sized e = rw (lt-ltb n 18446744073709551616 (omega (arith, ltb-true n k e)))
 
 module _ (n : ℕ) where
   is-register : register (sized n) ≡ ltb n 32
@@ -156,16 +147,16 @@ no-constant : (t : Bool) (a : Constant) → none ≡ told (demand t Refusal.Valu
 no-constant true a = refl
 no-constant false a = refl
 
-none-float : (o : Option (Values (sorts Kind.Float))) → none ≡ told (line-judged false (shaped′ Kind.Float o))
-unfolding line-judged judged
+none-float : (o : Option (Values (sorts Kind.Float))) → none ≡ told (form-line-judged false (shaped′ Kind.Float o))
+unfolding form-line-judged form-judged
 none-float none = refl
 none-float (some vs) =
-    let n = sized (magnitude (vs .0)) in
+    let n = sized (natAbs (vs .0)) in
     no-constant (exact n) (Constant.Float (ofInt binary64 (signed (is-negative (vs .0)) (value n))))
 
 module _ (fs : List (List ℕ)) where
   abbrev Says : Kind → Type 0
-  Says q = fields-packed (kind-code q) fs ≡ told (line-judged false (shaped q fs))
+  Says q = fields-packed (kind-code q) fs ≡ told (form-line-judged false (shaped q fs))
 
   numbers-at : (c k n b : ℕ) → c % 16 ≡ k → numeric k ≡ true → registers-of k ≡ n → bound-of k ≡ b → b ≤ 1000 → fields-packed c fs ≡ behind c (read-packed n b (read-values (replicate (suc n) number) fs))
   unfolding fields-packed
@@ -180,82 +171,82 @@ module _ (fs : List (List ℕ)) where
   branch-at c e = rw e (branch-values c fs)
 
   unary : (u : U.Unary) → Says (Kind.Unary u)
-  unfolding shaped line-judged judged pack values-packed
+  unfolding shaped form-line-judged form-judged pack values-packed
   unary u = numbers-at (kind-code (Kind.Unary u)) 0 1 32 (omega arith) refl refl refl (omega arith) ∙ go (read-values (replicate 2 number) fs)
     where
-      go : (o : Option (Values (replicate 2 number))) → behind (kind-code (Kind.Unary u)) (read-packed 1 32 o) ≡ told (line-judged false (shaped′ (Kind.Unary u) o))
+      go : (o : Option (Values (replicate 2 number))) → behind (kind-code (Kind.Unary u)) (read-packed 1 32 o) ≡ told (form-line-judged false (shaped′ (Kind.Unary u) o))
       go none = refl
       go (some vs) = two (kind-code (Kind.Unary u)) (Order.Unary u) (λ d s. refl) (λ d s. refl) (vs .0) (vs .1 .0)
 
   scratched : (u : S.Scratched) → Says (Kind.Scratched u)
-  unfolding shaped line-judged judged pack values-packed
+  unfolding shaped form-line-judged form-judged pack values-packed
   scratched u = numbers-at (kind-code (Kind.Scratched u)) 1 2 32 (omega arith) refl refl refl (omega arith) ∙ go (read-values (replicate 3 number) fs)
     where
-      go : (o : Option (Values (replicate 3 number))) → behind (kind-code (Kind.Scratched u)) (read-packed 2 32 o) ≡ told (line-judged false (shaped′ (Kind.Scratched u) o))
+      go : (o : Option (Values (replicate 3 number))) → behind (kind-code (Kind.Scratched u)) (read-packed 2 32 o) ≡ told (form-line-judged false (shaped′ (Kind.Scratched u) o))
       go none = refl
       go (some vs) = three (kind-code (Kind.Scratched u)) (Order.Scratched u) (λ d s t. refl) (λ d s t. refl) (vs .0) (vs .1 .0) (vs .1 .1 .0)
 
   binary : (u : Bin.Binary) → Says (Kind.Binary u)
-  unfolding shaped line-judged judged pack values-packed
+  unfolding shaped form-line-judged form-judged pack values-packed
   binary u = numbers-at (kind-code (Kind.Binary u)) 2 2 32 (omega arith) refl refl refl (omega arith) ∙ go (read-values (replicate 3 number) fs)
     where
-      go : (o : Option (Values (replicate 3 number))) → behind (kind-code (Kind.Binary u)) (read-packed 2 32 o) ≡ told (line-judged false (shaped′ (Kind.Binary u) o))
+      go : (o : Option (Values (replicate 3 number))) → behind (kind-code (Kind.Binary u)) (read-packed 2 32 o) ≡ told (form-line-judged false (shaped′ (Kind.Binary u) o))
       go none = refl
       go (some vs) = three (kind-code (Kind.Binary u)) (Order.Binary u) (λ d s t. refl) (λ d s t. refl) (vs .0) (vs .1 .0) (vs .1 .1 .0)
 
   fused : (u : Fu.Fused) → Says (Kind.Fused u)
-  unfolding shaped line-judged judged pack values-packed
+  unfolding shaped form-line-judged form-judged pack values-packed
   fused u = numbers-at (kind-code (Kind.Fused u)) 3 3 32 (omega arith) refl refl refl (omega arith) ∙ go (read-values (replicate 4 number) fs)
     where
-      go : (o : Option (Values (replicate 4 number))) → behind (kind-code (Kind.Fused u)) (read-packed 3 32 o) ≡ told (line-judged false (shaped′ (Kind.Fused u) o))
+      go : (o : Option (Values (replicate 4 number))) → behind (kind-code (Kind.Fused u)) (read-packed 3 32 o) ≡ told (form-line-judged false (shaped′ (Kind.Fused u) o))
       go none = refl
       go (some vs) = four (kind-code (Kind.Fused u)) (Order.Fused u) (λ d s t v. refl) (λ d s t v. refl) (vs .0) (vs .1 .0) (vs .1 .1 .0) (vs .1 .1 .1 .0)
 
   ifelse : Says Kind.Ifelse
-  unfolding shaped line-judged judged pack values-packed
+  unfolding shaped form-line-judged form-judged pack values-packed
   ifelse = numbers-at (kind-code Kind.Ifelse) 4 3 1000 (omega arith) refl refl refl (omega arith) ∙ go (read-values (replicate 4 number) fs)
     where
-      go : (o : Option (Values (replicate 4 number))) → behind (kind-code Kind.Ifelse) (read-packed 3 1000 o) ≡ told (line-judged false (shaped′ Kind.Ifelse o))
+      go : (o : Option (Values (replicate 4 number))) → behind (kind-code Kind.Ifelse) (read-packed 3 1000 o) ≡ told (form-line-judged false (shaped′ Kind.Ifelse o))
       go none = refl
       go (some vs) = three-registers 4096 (omega arith) (omega arith) Count (kind-code Kind.Ifelse) Order.Ifelse (λ d s t i. refl) (λ d s t i. refl) (vs .0) (vs .1 .0) (vs .1 .1 .0) (vs .1 .1 .1 .0)
 
   load-const : Says Kind.LoadConst
-  unfolding shaped line-judged judged pack values-packed
+  unfolding shaped form-line-judged form-judged pack values-packed
   load-const = numbers-at (kind-code Kind.LoadConst) 7 1 1000 (omega arith) refl refl refl (omega arith) ∙ go (read-values (replicate 2 number) fs)
     where
-      go : (o : Option (Values (replicate 2 number))) → behind (kind-code Kind.LoadConst) (read-packed 1 1000 o) ≡ told (line-judged false (shaped′ Kind.LoadConst o))
+      go : (o : Option (Values (replicate 2 number))) → behind (kind-code Kind.LoadConst) (read-packed 1 1000 o) ≡ told (form-line-judged false (shaped′ Kind.LoadConst o))
       go none = refl
       go (some vs) = one-register 1008 (omega arith) (omega arith) Count (kind-code Kind.LoadConst) Order.LoadConst (λ d i. refl) (λ d i. refl) (vs .0) (vs .1 .0)
 
   label : Says Kind.SetLabel
-  unfolding shaped line-judged judged pack values-packed
+  unfolding shaped form-line-judged form-judged pack values-packed
   label = numbers-at (kind-code Kind.SetLabel) 9 0 1000 (omega arith) refl refl refl (omega arith) ∙ go (read-values (replicate 1 number) fs)
     where
-      go : (o : Option (Values (replicate 1 number))) → behind (kind-code Kind.SetLabel) (read-packed 0 1000 o) ≡ told (line-judged false (shaped′ Kind.SetLabel o))
+      go : (o : Option (Values (replicate 1 number))) → behind (kind-code Kind.SetLabel) (read-packed 0 1000 o) ≡ told (form-line-judged false (shaped′ Kind.SetLabel o))
       go none = refl
       go (some vs) = no-register 1024 (omega arith) (omega arith) Label (kind-code Kind.SetLabel) Order.SetLabel (λ i. refl) (λ i. refl) (vs .0)
 
   load : Says Kind.Load
-  unfolding shaped line-judged judged pack
+  unfolding shaped form-line-judged form-judged pack
   load = cell-at (kind-code Kind.Load) refl (omega arith) ∙ go (read-values (number ∷ place ∷ number ∷ []) fs)
     where
-      go : (o : Option (Values (number ∷ place ∷ number ∷ []))) → cell-read (kind-code Kind.Load) o ≡ told (line-judged false (shaped′ Kind.Load o))
+      go : (o : Option (Values (number ∷ place ∷ number ∷ []))) → cell-read (kind-code Kind.Load) o ≡ told (form-line-judged false (shaped′ Kind.Load o))
       go none = refl
       go (some vs) = one-register 4096 (omega arith) (omega arith) Count (kind-code Kind.Load + 16 * place-number (vs .1 .0)) (λ d i. Order.Load d (vs .1 .0) i) (λ d i. refl) (λ d i. omega arith) (vs .0) (vs .1 .1 .0)
 
   save : Says Kind.Save
-  unfolding shaped line-judged judged pack
+  unfolding shaped form-line-judged form-judged pack
   save = cell-at (kind-code Kind.Save) refl (omega arith) ∙ go (read-values (number ∷ place ∷ number ∷ []) fs)
     where
-      go : (o : Option (Values (number ∷ place ∷ number ∷ []))) → cell-read (kind-code Kind.Save) o ≡ told (line-judged false (shaped′ Kind.Save o))
+      go : (o : Option (Values (number ∷ place ∷ number ∷ []))) → cell-read (kind-code Kind.Save) o ≡ told (form-line-judged false (shaped′ Kind.Save o))
       go none = refl
       go (some vs) = one-register 4096 (omega arith) (omega arith) Count (kind-code Kind.Save + 16 * place-number (vs .1 .0)) (λ d i. Order.Save d (vs .1 .0) i) (λ d i. refl) (λ d i. omega arith) (vs .0) (vs .1 .1 .0)
 
   branch-if : Says Kind.BranchIf
-  unfolding shaped line-judged judged pack
+  unfolding shaped form-line-judged form-judged pack
   branch-if = branch-at (kind-code Kind.BranchIf) refl ∙ go (read-values (number ∷ number ∷ flag ∷ []) fs)
     where
-      go : (o : Option (Values (number ∷ number ∷ flag ∷ []))) → branch-read (kind-code Kind.BranchIf) o ≡ told (line-judged false (shaped′ Kind.BranchIf o))
+      go : (o : Option (Values (number ∷ number ∷ flag ∷ []))) → branch-read (kind-code Kind.BranchIf) o ≡ told (form-line-judged false (shaped′ Kind.BranchIf o))
       go none = refl
       go (some vs) = one-register 1024 (omega arith) (omega arith) Label (kind-code Kind.BranchIf + 16 * flag-number (vs .1 .1 .0)) (λ d i. Order.BranchIf d i (vs .1 .1 .0)) (λ d i. refl) (λ d i. omega arith) (vs .0) (vs .1 .0)
 
@@ -264,12 +255,12 @@ module _ (fs : List (List ℕ)) where
   unfolding fields-packed
   nothing c h = rw (not-numeric (c % 16) h (omega arith), le-ltb (c % 16) 7 (omega arith), ne-eqb (c % 16) 8 (λ e. omega (arith, e, h)))
 
-  none-said : (q : Kind) → 9 < kind-code q % 16 → ((o : Option (Values (sorts q))) → none ≡ told (line-judged false (shaped′ q o))) → Says q
+  none-said : (q : Kind) → 9 < kind-code q % 16 → ((o : Option (Values (sorts q))) → none ≡ told (form-line-judged false (shaped′ q o))) → Says q
   unfolding shaped
   none-said q h f = nothing (kind-code q) h ∙ f (read-values (sorts q) fs)
 
   pub says : (q : Kind) → Says q
-  unfolding line-judged judged
+  unfolding form-line-judged form-judged
   says (Kind.Unary u) = unary u
   says (Kind.Scratched u) = scratched u
   says (Kind.Binary u) = binary u
@@ -282,12 +273,12 @@ module _ (fs : List (List ℕ)) where
   says Kind.SetLabel = label
   says (Kind.Head f) = none-said (Kind.Head f) (omega arith) go
     where
-      go : (o : Option (Values (sorts (Kind.Head f)))) → none ≡ told (line-judged false (shaped′ (Kind.Head f) o))
+      go : (o : Option (Values (sorts (Kind.Head f)))) → none ≡ told (form-line-judged false (shaped′ (Kind.Head f) o))
       go none = refl
       go (some vs) = refl
   says Kind.Float = none-said Kind.Float (omega arith) none-float
   says Kind.Bits = none-said Kind.Bits (omega arith) go
     where
-      go : (o : Option (Values (sorts Kind.Bits))) → none ≡ told (line-judged false (shaped′ Kind.Bits o))
+      go : (o : Option (Values (sorts Kind.Bits))) → none ≡ told (form-line-judged false (shaped′ Kind.Bits o))
       go none = refl
       go (some vs) = refl

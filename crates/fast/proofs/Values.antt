@@ -3,19 +3,21 @@ use mathlib.Core.Path.{_≡_, refl, sym, ap, _∙_}
 use mathlib.Core.Bool.{Bool, true, false, cond, _&&_, not}
 use mathlib.Core.Option.{Option, some, none, Option·map, Option·none-ne-some}
 use mathlib.Core.List.{List, [], _∷_}
-use Prim.Native.Nat.{ℕ, zero, suc, _*_, _/_, _+_, _-_, _^_, _<_, _≤_}
+use Prim.Native.Nat.{ℕ, zero, suc, _*_, _/_, _+_, _^_, _<_, _≤_}
 use native.Mathlib.Nat.{le-div-iff-mul-le, div-lt-iff-lt-mul, pow-succ', pow-le-pow-right}
 use native.Mathlib.Omega.{arith}
 use borrow.Author.Tests.{lt-ltb, le-ltb, ltb-false, ne-eqb, eqb-false, leb-true, leb-false}
 use lib.Dec.{eqb, ltb, leb}
 use lib.ListN.{length, replicate}
-use Rattle.text.specs.Digits.{digit-value, digit-byte, read-from, read-decimal, or-1000, short-of}
+use Rattle.text.specs.Readers.{digit-value, read-from, read-decimal}
+use Rattle.text.specs.Digits.{digit-byte}
+use Rattle.text.specs.Inner.Parts.{or-1000, short-of}
 use Rattle.text.proofs.Numerals.{digits-read, value-byte}
 use Rattle.ast.specs.declared.Place.{Place}
-use Rattle.form.specs.Syntax.{number, place, flag, Values, place-name}
-use Rattle.form.specs.Read.{first, both, all-places, read-values}
-use Rattle.deck.specs.Judge.{order}
-use Rattle.fast.specs.Inner.Packed.{place-number, flag-number, below}
+use Rattle.form.specs.Inner.Syntax.{number, place, flag, Values}
+use Rattle.form.specs.Text.{place-name}
+use Rattle.form.specs.Inner.Read.{first, both, all-places, read-values}
+use Rattle.fast.specs.Inner.Packed.{place-number, flag-number}
 use Rattle.fast.specs.Inner.Fields.{bounded, onto, last, operands, behind, with-place, cell, with-flag, branch}
 use Rattle.fast.proofs.Fields.{onto-none}
 

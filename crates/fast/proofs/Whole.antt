@@ -9,12 +9,12 @@ use borrow.Author.Tests.{le-ltb, ltb-true, eqb-true, eqb-false, leb-true}
 use lib.Dec.{eqb, ltb, leb}
 use lib.ListN.{length, getD, take, length-append}
 use lib.Seq.{take-take, take-nil, length-take-le}
-use Rattle.text.specs.Digits.{read-decimal, read-integer, read-word}
-use Rattle.text.specs.Fields.{commas, upto, split, same, fields-from, end-from}
+use Rattle.text.specs.Readers.{read-decimal, read-integer, read-word, upto, split, same, fields-from, end-from}
+use Rattle.text.specs.Fields.{commas}
 use Rattle.text.proofs.Answers.{first-field, no-field}
 use Rattle.text.proofs.Joined.{join-split}
-use Rattle.form.specs.Syntax.{Sort, number, integer, word, place, flag, Value, Values, sorts, names}
-use Rattle.form.specs.Read.{first, both, kind-of, read-field, read-values, read-fields}
+use Rattle.form.specs.Inner.Syntax.{Sort, number, integer, word, place, flag, Value, Values, sorts, names}
+use Rattle.form.specs.Inner.Read.{first, both, kind-of, read-field, read-values, fields-say}
 use Rattle.form.specs.Form.{form-of, formed}
 use Rattle.form.specs.Inner.Parts.{shaped, shaped′, named}
 use Rattle.form.specs.declared.Form.the-variants as Form
@@ -22,21 +22,26 @@ use Rattle.form.specs.declared.Kind.{Kind}
 use Rattle.base.specs.Tests.{all}
 use Rattle.form.proofs.Names.{named-is}
 use Rattle.form.proofs.Shapes.{line-is, line-bad, no-line, no-newline, newline}
-use Rattle.deck.specs.Judge.{judged, line-judged}
-use Rattle.fast.specs.Fast.{small-order, said}
+use Rattle.deck.specs.Inner.Forms.{form-judged}
+use Rattle.deck.proofs.Forms.{form-line-judged, line-law}
+use Rattle.fast.specs.Inner.Fast.{small-order, order-said}
 use Rattle.fast.specs.Inner.Packed.{no-order, number as number-of, pack}
 use Rattle.form.specs.Inner.Names.{kind-code, coded}
 use Rattle.fast.specs.Inner.Fields.{numeric, registers-of, bound-of, fields-packed}
 use Rattle.fast.proofs.Fields.{none-left}
 use Rattle.fast.proofs.Said.{says, nothing}
 
+-- what a line says, by its form
+by-form : (l : List ℕ) → order-said l ≡ small-order (form-line-judged false (form-of l))
+by-form l = ap small-order (sym (line-law false l))
+
 -- nothing is said
-malformed : small-order (line-judged false Form.Malformed) ≡ none
-unfolding line-judged judged
+malformed : small-order (form-line-judged false Form.Malformed) ≡ none
+unfolding form-line-judged form-judged
 malformed = refl
 
-unsaid : (l : List ℕ) → Form.Malformed ≡ form-of l → no-order ≡ number-of (Option·map pack (said l))
-unsaid l e = rw (← e, malformed)
+unsaid : (l : List ℕ) → Form.Malformed ≡ form-of l → no-order ≡ number-of (Option·map pack (order-said l))
+unsaid l e = rw (by-form l, ← e, malformed)
 
 -- ---- the first field
 
@@ -77,10 +82,10 @@ module _ (l : List ℕ) (m e : ℕ) (he : e ≡ end-from l 0) where
       sym (far l m (omega arith)) ∙ sym (first-end (take m l))
 
 module _ (s : List ℕ) (e : ℕ) (he : e ≡ end-from s 0) where
-  pub body-said : fields-packed (coded (kind-of (take e s))) (fields-from s (e + 1)) ≡ Option·map pack (small-order (line-judged false (formed (read-fields (split s)))))
+  pub body-said : fields-packed (coded (kind-of (take e s))) (fields-from s (e + 1)) ≡ Option·map pack (small-order (form-line-judged false (formed (fields-say (split s)))))
   body-said = go (kind-of (take e s)) refl
     where
-      go : (o : Option Kind) → kind-of (take e s) ≡ o → fields-packed (coded o) (fields-from s (e + 1)) ≡ Option·map pack (small-order (line-judged false (formed (read-fields (split s)))))
+      go : (o : Option Kind) → kind-of (take e s) ≡ o → fields-packed (coded o) (fields-from s (e + 1)) ≡ Option·map pack (small-order (form-line-judged false (formed (fields-say (split s)))))
       go none eo = rw (← line-bad s e he (ap named eo), malformed) (nothing (fields-from s (e + 1)) 255 (omega arith))
       go (some q) eo = rw (← line-is s e he q (ap named eo)) (says (fields-from s (e + 1)) q)
 
@@ -140,7 +145,7 @@ module _ (s : List ℕ) (h : length s < 7) where
   unfolding shaped
   short-kind q e = by (leb 7 (length first-word + 2 * length (sorts q))) refl (named-is (λ t k. leb 7 (length t + 2 * length (sorts k)) || ltb 9 (kind-code k % 16)) first-word names q seven e)
     where
-      go : (o : Option (Values (sorts q))) → 7 ≤ length first-word + 2 * length (sorts q) → read-values (sorts q) rest ≡ o → Option·map pack (small-order (line-judged false (shaped′ q o))) ≡ none
+      go : (o : Option (Values (sorts q))) → 7 ≤ length first-word + 2 * length (sorts q) → read-values (sorts q) rest ≡ o → Option·map pack (small-order (form-line-judged false (shaped′ q o))) ≡ none
       go none g f = ap (Option·map pack) malformed
       go (some vs) g f = absurd (too-short q g vs f)
 
@@ -148,7 +153,7 @@ module _ (s : List ℕ) (h : length s < 7) where
       by true f g = says rest q ∙ go (read-values (sorts q) rest) (leb-true 7 (length first-word + 2 * length (sorts q)) f) refl
       by false f g = nothing rest (kind-code q) (ltb-true 9 (kind-code q % 16) g)
 
-  short-body : Option·map pack (small-order (line-judged false (formed (read-fields (split s))))) ≡ none
+  short-body : Option·map pack (small-order (form-line-judged false (formed (fields-say (split s))))) ≡ none
   short-body = sym (body-said s (upto s) (sym (first-end s))) ∙ go (kind-of (take (upto s) s)) refl
     where
       go : (o : Option Kind) → kind-of (take (upto s) s) ≡ o → fields-packed (coded o) rest ≡ none
@@ -158,32 +163,32 @@ module _ (s : List ℕ) (h : length s < 7) where
 -- ---- the ways through `order_in`
 
 module _ (l : List ℕ) where
-  pub short-line : length l < 8 → no-order ≡ number-of (Option·map pack (said l))
+  pub short-line : length l < 8 → no-order ≡ number-of (Option·map pack (order-said l))
   short-line h = go (eqb (getD l (length l - 1) 0) 10) refl
     where
-      go : (t : Bool) → eqb (getD l (length l - 1) 0) 10 ≡ t → no-order ≡ number-of (Option·map pack (said l))
+      go : (t : Bool) → eqb (getD l (length l - 1) 0) 10 ≡ t → no-order ≡ number-of (Option·map pack (order-said l))
       go true e = by (length l) refl
         where
-          by : (n : ℕ) → length l ≡ n → no-order ≡ number-of (Option·map pack (said l))
+          by : (n : ℕ) → length l ≡ n → no-order ≡ number-of (Option·map pack (order-said l))
           by zero z = unsaid l (no-line l z)
-          by (suc n) z = rw (← newline l (length l - 1) refl (eqb-true (getD l (length l - 1) 0) 10 e), short-body (take (length l - 1) l) (rw (length-take-le (length l - 1) l (omega arith)) (omega arith)))
+          by (suc n) z = rw (by-form l, ← newline l (length l - 1) refl (eqb-true (getD l (length l - 1) 0) 10 e), short-body (take (length l - 1) l) (rw (length-take-le (length l - 1) l (omega arith)) (omega arith)))
       go false e = unsaid l (no-newline l (length l - 1) refl (eqb-false (getD l (length l - 1) 0) 10 e))
 
   module _ (m : ℕ) (hm : m ≡ length l - 1) where
-    pub no-end : (getD l m 0 ≡ 10 → ⊥) → no-order ≡ number-of (Option·map pack (said l))
+    pub no-end : (getD l m 0 ≡ 10 → ⊥) → no-order ≡ number-of (Option·map pack (order-said l))
     no-end h = unsaid l (no-newline l m hm h)
 
     module _ (h : 8 ≤ length l) (c : getD l m 0 ≡ 10) (e : ℕ) (he : e ≡ end-from (take m l) 0) where
       part : m ≡ length (take m l)
       part = sym (length-take-le m l (omega arith))
 
-      pub no-comma : m ≤ e → no-order ≡ number-of (Option·map pack (said l))
+      pub no-comma : m ≤ e → no-order ≡ number-of (Option·map pack (order-said l))
       no-comma g =
           let b : fields-packed (coded (kind-of (take e (take m l)))) (fields-from (take m l) (e + 1)) ≡ none = rw (no-field (take m l) (e + 1) (omega (arith, part))) (nothing-behind (coded (kind-of (take e (take m l))))) in
-          rw (← newline l m hm c, ← body-said (take m l) e he, b)
+          rw (by-form l, ← newline l m hm c, ← body-said (take m l) e he, b)
 
       module _ (g : e < m) where
-        pub line-said : (k r : ℕ) → k ≡ coded (kind-of (take e l)) → r ≡ number-of (fields-packed k (fields-from (take m l) (e + 1))) → r ≡ number-of (Option·map pack (said l))
+        pub line-said : (k r : ℕ) → k ≡ coded (kind-of (take e l)) → r ≡ number-of (fields-packed k (fields-from (take m l) (e + 1))) → r ≡ number-of (Option·map pack (order-said l))
         line-said k r ek er =
             let t : take e (take m l) ≡ take e l = take-take e m l (omega arith) in
-            rw (← newline l m hm c, ← body-said (take m l) e he, t, ← ek) er
+            rw (by-form l, ← newline l m hm c, ← body-said (take m l) e he, t, ← ek) er

@@ -28,11 +28,11 @@ use Rattle.accesses.specs.Fault.{offset-limit}
 use Rattle.orders.specs.Code.{code}
 use Rattle.orders.specs.Emitted.{emitted}
 use Rattle.orders.specs.Fault.{fault}
-use Rattle.orders.specs.Parts.{instrs}
+use Rattle.orders.specs.Inner.Parts.{instrs}
 use Rattle.orders.specs.Wrote.{word, roomy, no-room}
 use Rattle.orders.proofs.Whole.{order-valid, order-short}
 use Rattle.orders.proofs.Wrote.{words-valid}
-use Rattle.fast.specs.Fast.{taken, placed-in, not-mine, left}
+use Rattle.fast.specs.Inner.Fast.{taken, placed-in, not-mine, left}
 use Rattle.fast.specs.Inner.Packed.{unpacked}
 use Rattle.fast.specs.Inner.Plain.{ready}
 use Rattle.fast.proofs.Apart.{plain-order}

@@ -1,2 +1,2 @@
-pub mod Fast
+-- what the fast path's functions promise: nothing that a reader of the demands needs
 pub mod Inner

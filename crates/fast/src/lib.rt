@@ -6,20 +6,19 @@ ghost use mathlib.Core.Option.{Option·map};
 ghost use Prim.Native.Nat.{_+_, _*_, _/_, _%_, _≤_, _<_};
 ghost use lib.Dec.{leb};
 ghost use lib.ListN.{length};
-ghost use Rattle.text.specs.Fields.{fields-from};
+ghost use Rattle.text.specs.Readers.{fields-from};
 ghost use Rattle.base.specs.Tests.{all};
 ghost use Rattle.ast.specs.Mask.{free};
 ghost use Rattle.ast.specs.Uses.{unary-writes, index-holds, saves-hold};
 ghost use Rattle.assembler.specs.Bytes.{room};
 ghost use Rattle.assembler.specs.State.{before};
 ghost use Rattle.orders.specs.Emitted.{emitted};
-ghost use Rattle.orders.specs.Parts.{instrs};
+ghost use Rattle.orders.specs.Inner.Parts.{instrs};
 ghost use Rattle.orders.specs.Wrote.{Wrote, roomy};
-ghost use Rattle.fast.specs.Fast.{said, taken, fast-line, Leaves};
+ghost use Rattle.fast.specs.Inner.Fast.{order-said, taken, fast-line, Leaves};
 ghost use Rattle.fast.specs.Inner.Plain.{ready, Kept, Leaves-buf};
 ghost use Rattle.form.specs.Inner.Names.{unary-at};
-ghost use Rattle.fast.specs.Inner.Packed.{place-at, place-number, flag-number};
-ghost use Rattle.fast.specs.Inner.Packed.{number, numbered, pack, unpacked};
+ghost use Rattle.fast.specs.Inner.Packed.{place-at, place-number, flag-number, number, numbered, pack, unpacked};
 ghost use Rattle.fast.specs.Inner.Fields.{onto, operands, numbers-packed, numeric, registers-of, bound-of, behind, fields-packed};
 ghost use Rattle.fast.specs.Inner.Fields.{cell as cell-packed, branch as branch-packed};
 use assembler::Answer;
@@ -258,7 +257,7 @@ fn order_of(k: u64, s: &[u8], a: usize) -> u64
 
 // The order that a line says, as one number. The shortest such line has eight bytes.
 fn order_in(line: &[u8]) -> u64
-    ensures { λ r. ⌜ r ≡ number (Option·map pack (said (now (line .entry)))) ⌝ }
+    ensures { λ r. ⌜ r ≡ number (Option·map pack (order-said (now (line .entry)))) ⌝ }
 {
     let n = line.len();
     if n < 8 {

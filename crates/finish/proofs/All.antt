@@ -15,9 +15,11 @@ use Rattle.assembler.specs.Item.{Item, instr, raw, jump, label}
 use Rattle.assembler.specs.Jump.{kind-number}
 use Rattle.assembler.specs.Bytes.{room}
 use Rattle.assembler.specs.Label.{is-set, with-place}
-use Rattle.assembler.specs.Memory.{jumps-of, tags-of}
+use Rattle.assembler.specs.Memory.{jumps-of}
+use Rattle.assembler.proofs.Tags.{tags-of}
 use Rattle.assembler.specs.State.{State, Outcome, sound, fits}
-use Rattle.assembler.specs.Put.{words, jumps, labels, among, twice, with-word, with-jump, with-label, place, placed, verdict, put-number, settled, put}
+use Rattle.assembler.specs.Put.{words, jumps, labels, twice, with-word, with-jump, with-label, place, placed, verdict, put-number, settled, put}
+use Rattle.base.specs.Tests.{member}
 use Rattle.assembler.specs.Resolved.{label-place, jumps-in}
 use Rattle.assembler.specs.declared.Asm.{Asm}
 use Rattle.assembler.proofs.Tests.{no}
@@ -33,14 +35,14 @@ pub either : (a b : Bool) → (a || b) ≡ false → (a ≡ false) × (b ≡ fal
 either true b e = no (sym e)
 either false b e = (refl, e)
 
-still : (m : List ℕ) (l x : ℕ) (ls : List ℕ) → among l ls ≡ false → twice m ls ≡ false → twice (set m l x) ls ≡ false
-unfolding among twice
+still : (m : List ℕ) (l x : ℕ) (ls : List ℕ) → member l ls ≡ false → twice m ls ≡ false → twice (set m l x) ls ≡ false
+unfolding twice
 still m l x [] a t = refl
 still m l x (k ∷ ls) a t =
-    let p = either (eqb k l) (among l ls) a in
-    let q = either (is-set (getD m k 0)) (among k ls || twice m ls) t in
-    let r = either (among k ls) (twice m ls) (q .1) in
-    let d : getD (set m l x) k 0 ≡ getD m k 0 = getD-set-other m l k x 0 (eqb-false k l (p .0)) in
+    let p = either (eqb l k) (member l ls) a in
+    let q = either (is-set (getD m k 0)) (member k ls || twice m ls) t in
+    let r = either (member k ls) (twice m ls) (q .1) in
+    let d : getD (set m l x) k 0 ≡ getD m k 0 = getD-set-other m l k x 0 (λ z. eqb-false l k (p .0) (sym z)) in
     rw (d, q .0, r .0) (still m l x ls (p .1) (r .1))
 
 -- ---- an accepted order
@@ -121,8 +123,8 @@ module _ (b : List ℕ) (tag : ℕ) where
       let e : words (is ++ (label l ∷ [])) ≡ words is = words-append is (label l ∷ []) ∙ append-nil (words is) in
       let n : length (words (is ++ (label l ∷ []))) ≡ length (words is) = ap length e in
       let m = more is (label l) 0 refl in
-      let p = either (is-set (getD (s .labels) l 0)) (among l (labels js) || twice (s .labels) (labels js)) t in
-      let q = either (among l (labels js)) (twice (s .labels) (labels js)) (p .1) in
+      let p = either (is-set (getD (s .labels) l 0)) (member l (labels js) || twice (s .labels) (labels js)) t in
+      let q = either (member l (labels js)) (twice (s .labels) (labels js)) (p .1) in
       regroup is (label l) js _ _ _ refl
       (all-represents js (is ++ (label l ∷ [])) ts (with-label l s) (label-represents b is ts s a l (h .0) (p .0)) (h .1) (still (s .labels) l (with-place (getD (s .labels) l 0) (s .asm .len)) (labels js) (q .0) (q .1)) (omega arith) (omega arith))
 

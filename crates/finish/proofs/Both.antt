@@ -16,7 +16,8 @@ use Rattle.assembler.specs.Jump.{kind-number}
 use Rattle.assembler.specs.Bytes.{room}
 use Rattle.assembler.specs.Label.{is-set, with-place}
 use Rattle.assembler.specs.State.{State, sound, fits}
-use Rattle.assembler.specs.Put.{words, jumps, labels, among, twice, with-word, with-jump, with-label, place, placed, verdict, put}
+use Rattle.assembler.specs.Put.{words, jumps, labels, twice, with-word, with-jump, with-label, place, placed, verdict, put}
+use Rattle.base.specs.Tests.{member}
 use Rattle.assembler.specs.declared.Asm.{Asm}
 use Rattle.assembler.proofs.Items.{words-append, jumps-append, labels-append, placed-append}
 use Rattle.assembler.proofs.Writes.{length-written}
@@ -55,18 +56,17 @@ neither : (a b : Bool) → a ≡ false → b ≡ false → (a || b) ≡ false
 neither a b e f = rw (e, f)
 
 -- whether the others can be set doesn't depend on one that is not among them
-other : (m : List ℕ) (l x : ℕ) (ls : List ℕ) → among l ls ≡ false → twice (set m l x) ls ≡ twice m ls
-unfolding among twice
+other : (m : List ℕ) (l x : ℕ) (ls : List ℕ) → member l ls ≡ false → twice (set m l x) ls ≡ twice m ls
+unfolding twice
 other m l x [] a = refl
 other m l x (k ∷ ls) a =
-    let p = either (eqb k l) (among l ls) a in
-    let d : getD (set m l x) k 0 ≡ getD m k 0 = getD-set-other m l k x 0 (eqb-false k l (p .0)) in
+    let p = either (eqb l k) (member l ls) a in
+    let d : getD (set m l x) k 0 ≡ getD m k 0 = getD-set-other m l k x 0 (λ z. eqb-false l k (p .0) (sym z)) in
     rw (d, other m l x ls (p .1))
 
-among-first : (l : ℕ) (xs ys : List ℕ) → among l (xs ++ ys) ≡ false → among l xs ≡ false
-unfolding among
-among-first l [] ys e = refl
-among-first l (x ∷ xs) ys e = let p = either (eqb x l) (among l (xs ++ ys)) e in neither (eqb x l) (among l xs) (p .0) (among-first l xs ys (p .1))
+member-first : (l : ℕ) (xs ys : List ℕ) → member l (xs ++ ys) ≡ false → member l xs ≡ false
+member-first l [] ys e = refl
+member-first l (x ∷ xs) ys e = let p = either (eqb l x) (member l (xs ++ ys)) e in neither (eqb l x) (member l xs) (p .0) (member-first l xs ys (p .1))
 
 module _ (tag : ℕ) where
   -- set in one go, or some and then the others
@@ -79,9 +79,9 @@ module _ (tag : ℕ) where
   twice-split (jump k l r ∷ is) ls s t = twice-split is ls (with-jump (kind-number k) l r tag s) t
   twice-split (label l ∷ is) ls s t =
       let x = with-place (getD (s .labels) l 0) (s .asm .len) in
-      let p = either (is-set (getD (s .labels) l 0)) (among l (labels is ++ ls) || twice (s .labels) (labels is ++ ls)) t in
-      let q = either (among l (labels is ++ ls)) (twice (s .labels) (labels is ++ ls)) (p .1) in
-      let a = among-first l (labels is) ls (q .0) in
+      let p = either (is-set (getD (s .labels) l 0)) (member l (labels is ++ ls) || twice (s .labels) (labels is ++ ls)) t in
+      let q = either (member l (labels is ++ ls)) (twice (s .labels) (labels is ++ ls)) (p .1) in
+      let a = member-first l (labels is) ls (q .0) in
       let r = twice-split is ls (with-label l s) (other (s .labels) l x (labels is ++ ls) (q .0) ∙ q .1) in
       (neither _ _ (p .0) (neither _ _ a (sym (other (s .labels) l x (labels is) a) ∙ r .0)), r .1)
 

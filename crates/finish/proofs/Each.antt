@@ -13,7 +13,8 @@ use lib.Seq.{sets, length-sets, getD-set-same, getD-set-other}
 use Rattle.assembler.specs.Item.{Item, label}
 use Rattle.assembler.specs.Bytes.{written, room}
 use Rattle.assembler.specs.Label.{is-set, with-place}
-use Rattle.assembler.specs.Memory.{Jump, jumps-of, tags-of}
+use Rattle.assembler.specs.Memory.{Jump, jumps-of}
+use Rattle.assembler.proofs.Tags.{tags-of}
 use Rattle.assembler.specs.State.{State}
 use Rattle.assembler.specs.Put.{words, jumps, with-word, with-jump, with-label}
 use Rattle.assembler.specs.Resolved.{label-place, jumps-in}

@@ -6,7 +6,8 @@ use native.Mathlib.Omega.{arith}
 use native.Mathlib.Numerals.{add-one}
 use lib.ListN.{length, getD, take, drop, List·getD-append}
 use lib.Seq.{sets, sets-eq, getD-append-add, length-take-le, getD-take}
-use Rattle.assembler.specs.Memory.{Jump, jump-at, tag-at, jumps-of, tags-of}
+use Rattle.assembler.specs.Memory.{Jump, jump-at, tag-at, jumps-of}
+use Rattle.assembler.proofs.Tags.{tags-of}
 
 jumps-last : (m : List ℕ) (i n : ℕ) → jumps-of m i (suc n) ≡ jumps-of m i n ++ (jump-at m (i + n) ∷ [])
 unfolding jumps-of

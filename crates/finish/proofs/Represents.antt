@@ -6,12 +6,13 @@ use mathlib.Core.Option.{Option, none, some}
 use Prim.Native.Nat.{ℕ, _+_, _*_, _≤_, _<_}
 use lib.IntN.{subℕ}
 use lib.ListN.{length, getD}
-use Rattle.isa.specs.Instr.{Valid}
+use Rattle.isa.proofs.Validity.{Valid}
 use Rattle.assembler.specs.Limit.{label-limit, jump-limit}
 use Rattle.assembler.specs.Item.{Item, instr, raw, jump, label}
 use Rattle.assembler.specs.Jump.{jump-instr}
 use Rattle.assembler.specs.Bytes.{written, room}
-use Rattle.assembler.specs.Memory.{jumps-of, tags-of}
+use Rattle.assembler.specs.Memory.{jumps-of}
+use Rattle.assembler.proofs.Tags.{tags-of}
 use Rattle.assembler.specs.State.{State}
 use Rattle.assembler.specs.Put.{words, jumps}
 use Rattle.assembler.specs.Resolved.{label-place, jumps-in, place-in}

@@ -9,8 +9,8 @@ use borrow.Author.Tests.{eqb-true, ltb-false}
 use lib.Dec.{eqb, ltb}
 use lib.IntN.{subℕ}
 use lib.ListN.{length, getD}
-use Rattle.base.specs.Tests.{Each}
-use Rattle.isa.specs.Instr.{Valid}
+use Rattle.base.proofs.Each.{Each}
+use Rattle.isa.proofs.Validity.{Valid}
 use Rattle.refusal.specs.Answer.{accepted, refused}
 use Rattle.assembler.specs.Item.{Item, instr, raw, jump, label}
 use Rattle.assembler.specs.Jump.{jump-instr}

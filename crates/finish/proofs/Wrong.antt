@@ -8,8 +8,8 @@ use borrow.Author.Tests.{not-false, ltb-true, leb-true, eqb-true, eq-eqb, lt-ltb
 use lib.Dec.{leb, eqb, ltb}
 use lib.IntN.{subℕ}
 use lib.ListN.{getD}
-use Rattle.isa.specs.Instr.{valid, Valid, holds, offset}
-use Rattle.isa.proofs.Validity.{valid-Valid}
+use Rattle.isa.specs.Instr.{valid, holds, offset}
+use Rattle.isa.proofs.Validity.{Valid, valid-Valid}
 use Rattle.base.proofs.Bools.{both}
 use Rattle.assembler.specs.Jump.{kind-of, jump-instr}
 use Rattle.assembler.specs.Label.{is-set, place-of}

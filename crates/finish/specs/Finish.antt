@@ -1,8 +1,7 @@
 -- Finishing: all jumps are looked at, and only then written.
-use mathlib.Core.Path.{_≡_}
 use mathlib.Core.Bool.{Bool, true, not, _&&_, _||_, cond}
 use mathlib.Core.List.{List, [], _∷_}
-use Prim.Native.Nat.{ℕ, zero, suc, _+_, _-_, _/_, _%_, _^_, _<_}
+use Prim.Native.Nat.{ℕ, zero, suc, _+_, _/_, _%_, _^_}
 use lib.Dec.{ltb, leb, eqb}
 use lib.IntN.{ℤ, subℕ}
 use lib.ListN.{length, getD}
@@ -58,10 +57,6 @@ jump-number labels len j =
     cond (jump-good len j)
     (cond (unset labels j) (number-of Unset) (cond (far labels j) (number-of Far) 0))
     (number-of Value)
-
--- nothing is wrong with any of the first n
-abbrev pub AllRight : List ℕ → (len : ℕ) → (jumps : List ℕ) → (n : ℕ) → Type 0
-AllRight labels len jumps n = (i : ℕ) → i < n → jump-number labels len (jump-at jumps i) ≡ 0
 
 abbrev pub jump-word : List ℕ → Jump → ℕ
 jump-word labels j = encode (jump-instr (kind-of (j .kind)) (j .reg) (way labels j))

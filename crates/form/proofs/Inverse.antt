@@ -10,16 +10,17 @@ use lib.Dec.{eqb}
 use lib.ListN.{length, getD, take, length-append}
 use lib.Seq.{take-suc, take-at, getD-at, take-all}
 use Rattle.ast.specs.declared.Place.the-variants as Place
-use Rattle.text.specs.Fields.{commas, split, same}
+use Rattle.text.specs.Fields.{commas}
+use Rattle.text.specs.Readers.{split, same}
 use Rattle.text.proofs.Numerals.{decimal-back, decimal-read, integer-back, integer-read, word-back, word-read}
 use Rattle.text.proofs.Answers.{first-field}
 use Rattle.text.proofs.Joined.{free, all-free, split-join, join-split, free-decimal, free-integer, free-word, same-is}
-use Rattle.form.specs.Syntax.{Sort, number, integer, word, place, flag, Value, Values, place-name, flag-name, names, sorts, Syntax}
-use Rattle.form.specs.Read.{first, both, all-places, all-flags, kind-in, kind-of, read-field, read-values, with-values, read-kind, read-fields, read}
-use Rattle.form.specs.Form.{cut, form-of}
+use Rattle.form.specs.Inner.Syntax.{Sort, number, integer, word, place, flag, Value, Values, name, kinds, names, sorts, Syntax}
+use Rattle.form.specs.Text.{place-name, flag-name}
+use Rattle.form.specs.Inner.Read.{first, both, all-places, all-flags, kind-in, kind-of, read-field, read-values, with-values, read-kind, read-fields, read}
 use Rattle.form.specs.declared.Kind.{Kind}
-use Rattle.form.proofs.Names.{found-is, name-of}
-use Rattle.form.proofs.Text.{name, field, fields, Holds, All, Fits, text}
+use Rattle.form.proofs.Names.{found-is, name-says}
+use Rattle.form.proofs.SyntaxText.{field, fields, Holds, All, SyntaxFits, syntax-text}
 
 -- ---- names
 
@@ -34,23 +35,20 @@ first-is f s (x ∷ xs) a e = go (same s (f x)) refl e (first-is f s xs a)
 
 -- each name is that of one kind, and has no comma
 pub names-differ : (k : Kind) → (kind-of (name k) ≡ some k) × (free (name k) ≡ true)
-names-differ k = (found-is (name k) names ∙ name-of k .says, name-of k .no-comma)
-
-abbrev pub kinds : List Kind
-kinds = map (λ n. n .1) names
+names-differ k = let e = name-says k in (found-is (name k) names ∙ e .0, e .1)
 
 -- the kind that s names is the first whose name is s
-first-kind : (s : List ℕ) (ns : List (List ℕ × Kind)) → map (λ n. name (n .1)) ns ≡ map (λ n. n .0) ns → kind-in s ns ≡ first name s (map (λ n. n .1) ns)
+first-kind : (s : List ℕ) (ks : List Kind) → kind-in s (map (λ k. (name k, k)) ks) ≡ first name s ks
 unfolding first
-first-kind s [] h = refl
-first-kind s (n ∷ ns) h = let z : name (n .1) ≡ n .0 = cc in rw z (by (same s (n .0)) (first-kind s ns cc))
+first-kind s [] = refl
+first-kind s (k ∷ ks) = by (same s (name k)) (first-kind s ks)
   where
-    by : (t : Bool) → kind-in s ns ≡ first name s (map (λ m. m .1) ns) → Option·map (λ m. m .1) (cond t (some n) (first (λ m. m .0) s ns)) ≡ cond t (some (n .1)) (first name s (map (λ m. m .1) ns))
+    by : (t : Bool) → kind-in s (map (λ j. (name j, j)) ks) ≡ first name s ks → Option·map (λ (m : List ℕ × Kind). m .1) (cond t (some (name k, k)) (first (λ (m : List ℕ × Kind). m .0) s (map (λ j. (name j, j)) ks))) ≡ cond t (some k) (first name s ks)
     by true e = refl
     by false e = e
 
 pub kind-first : (s : List ℕ) → kind-of s ≡ first name s kinds
-kind-first s = first-kind s names refl
+kind-first s = first-kind s kinds
 
 -- ---- fields
 
@@ -109,8 +107,8 @@ values-read (s ∷ ss) (f ∷ fs) vs e = go (read-field s f) (read-values ss fs)
 
 -- ---- lines
 
-pub read-text : (l : Syntax) → Fits l → read (text l) ≡ some l
-unfolding read text
+pub read-text : (l : Syntax) → SyntaxFits l → read (syntax-text l) ≡ some l
+unfolding read syntax-text
 read-text l h =
     let b = name (l .kind) ++ commas (fields (sorts (l .kind)) (l .values)) in
     let n : length (b ++ (10 ∷ [])) - 1 ≡ length b = omega (arith, length-append b (10 ∷ [])) in
@@ -125,39 +123,25 @@ ended (c ∷ cs) e =
     let t : take (suc (length cs)) (c ∷ cs) ≡ take (length cs) (c ∷ cs) ++ (10 ∷ []) = take-suc (c ∷ cs) (length cs) 0 (omega arith) ∙ rw g in
     rw n (sym t ∙ take-all (suc (length cs)) (c ∷ cs) (omega arith))
 
-kind-read : (f : List ℕ) (fs : List (List ℕ)) (l : Syntax) → read-kind (kind-of f) fs ≡ some l → Fits l × (name (l .kind) ++ commas (fields (sorts (l .kind)) (l .values)) ≡ f ++ commas fs)
+kind-read : (f : List ℕ) (fs : List (List ℕ)) (l : Syntax) → read-kind (kind-of f) fs ≡ some l → SyntaxFits l × (name (l .kind) ++ commas (fields (sorts (l .kind)) (l .values)) ≡ f ++ commas fs)
 kind-read f fs l e = go (kind-of f) refl e
   where
-    done : (k : Kind) (o : Option (Values (sorts k))) → f ≡ name k → read-values (sorts k) fs ≡ o → with-values k o ≡ some l → Fits l × (name (l .kind) ++ commas (fields (sorts (l .kind)) (l .values)) ≡ f ++ commas fs)
+    done : (k : Kind) (o : Option (Values (sorts k))) → f ≡ name k → read-values (sorts k) fs ≡ o → with-values k o ≡ some l → SyntaxFits l × (name (l .kind) ++ commas (fields (sorts (l .kind)) (l .values)) ≡ f ++ commas fs)
     done k none n v e = absurd (Option·none-ne-some l e)
     done k (some vs) n v e =
         let r = values-read (sorts k) fs vs v in
-        subst (λ (m : Syntax). Fits m × (name (m .kind) ++ commas (fields (sorts (m .kind)) (m .values)) ≡ f ++ commas fs)) (Option·some-injective (record { kind = k; values = vs }) l e) (r .0, rw (r .1, n))
+        subst (λ (m : Syntax). SyntaxFits m × (name (m .kind) ++ commas (fields (sorts (m .kind)) (m .values)) ≡ f ++ commas fs)) (Option·some-injective (record { kind = k; values = vs }) l e) (r .0, rw (r .1, n))
 
-    go : (o : Option Kind) → kind-of f ≡ o → read-kind o fs ≡ some l → Fits l × (name (l .kind) ++ commas (fields (sorts (l .kind)) (l .values)) ≡ f ++ commas fs)
+    go : (o : Option Kind) → kind-of f ≡ o → read-kind o fs ≡ some l → SyntaxFits l × (name (l .kind) ++ commas (fields (sorts (l .kind)) (l .values)) ≡ f ++ commas fs)
     go none h e = absurd (Option·none-ne-some l e)
     go (some k) h e = done k (read-values (sorts k) fs) (first-is name f kinds k (sym (kind-first f) ∙ h)) refl e
 
-pub text-read : (s : List ℕ) (l : Syntax) → read s ≡ some l → Fits l × (text l ≡ s)
-unfolding read text
+pub text-read : (s : List ℕ) (l : Syntax) → read s ≡ some l → SyntaxFits l × (syntax-text l ≡ s)
+unfolding read syntax-text
 text-read s l e = go (eqb (getD s (length s - 1) 0) 10) refl e (first-field (take (length s - 1) s))
   where
-    go : {f : List ℕ} {fs : List (List ℕ)} (t : Bool) → eqb (getD s (length s - 1) 0) 10 ≡ t → cond t (read-fields (split (take (length s - 1) s))) none ≡ some l → split (take (length s - 1) s) ≡ f ∷ fs → Fits l × (text l ≡ s)
+    go : {f : List ℕ} {fs : List (List ℕ)} (t : Bool) → eqb (getD s (length s - 1) 0) 10 ≡ t → cond t (read-fields (split (take (length s - 1) s))) none ≡ some l → split (take (length s - 1) s) ≡ f ∷ fs → SyntaxFits l × (syntax-text l ≡ s)
     go {f} {fs} true h e g =
         let r = kind-read f fs l (rw g at e) in
         (r .0, rw (r .1, join-split (take (length s - 1) s) f fs g) (ended s (eqb-true (getD s (length s - 1) 0) 10 h)))
     go {f} {fs} false h e g = absurd (Option·none-ne-some l e)
-
--- ---- what follows
-
--- a text is that of one line
-pub text-injective : (l m : Syntax) → Fits l → Fits m → text l ≡ text m → l ≡ m
-text-injective l m h k e = Option·some-injective l m (sym (read-text l h) ∙ ap read e ∙ read-text m k)
-
--- what reads to none is no line's text
-pub no-text : (s : List ℕ) → read s ≡ none → (l : Syntax) → Fits l → text l ≡ s → ⊥
-no-text s e l h t = Option·none-ne-some l (sym e ∙ ap read (sym t) ∙ read-text l h)
-
-pub form-text : (l : Syntax) → Fits l → form-of (text l) ≡ cut (l .kind) (l .values)
-unfolding form-of
-form-text l h = rw (read-text l h)

@@ -1,4 +1,5 @@
 pub mod Names
-pub mod Text
+pub mod SyntaxText
 pub mod Inverse
+pub mod Grammar
 pub mod Shapes

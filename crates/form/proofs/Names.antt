@@ -21,13 +21,13 @@ use Rattle.ast.specs.declared.Binary.the-variants as Binary
 use Rattle.ast.specs.declared.Fused as F
 use Rattle.ast.specs.declared.Fused.the-variants as Fused
 use Rattle.text.specs.Ascii.{bytes}
-use Rattle.text.specs.Fields.{same}
+use Rattle.text.specs.Readers.{same}
 use Rattle.text.proofs.Joined.{free, same-is}
 use Rattle.base.specs.Tests.{all, member}
 use Rattle.base.proofs.Bools.{both}
 use Rattle.base.proofs.Tested.{tested}
-use Rattle.form.specs.Syntax.{names}
-use Rattle.form.specs.Read.{first, kind-in, kind-of}
+use Rattle.form.specs.Inner.Syntax.{name, names}
+use Rattle.form.specs.Inner.Read.{first, kind-in, kind-of}
 use Rattle.form.specs.Inner.Names.{unary-number, scratched-number, binary-number, fused-number, frame-number}
 use Rattle.form.specs.Inner.Names.{unary-at, scratched-at, binary-at, fused-at, frame-at, kind-code, coded, kind-at}
 use Rattle.form.specs.Inner.Names.{name-word, name-place, row-at, entry, code-at}
@@ -325,39 +325,34 @@ found-is s (n ∷ ns) = rw (equal-same s (n .0)) (by (equal s (n .0)) (found-is 
     by true e = refl
     by false e = e
 
-pub record Name (k : Kind) : Type 0 where
-  pub spelling : List ℕ
-  pub says : found-in spelling names ≡ some k
-  pub no-comma : free spelling ≡ true
-
-abbrev pub name-of : (k : Kind) → Name k
-name-of Kind.Float = record { spelling = bytes "float"; says = refl; no-comma = refl }
-name-of Kind.Bits = record { spelling = bytes "bits"; says = refl; no-comma = refl }
-name-of (Kind.Head Frame.Fast) = record { spelling = bytes "fast"; says = refl; no-comma = refl }
-name-of (Kind.Head Frame.Indirect) = record { spelling = bytes "indirect"; says = refl; no-comma = refl }
-name-of Kind.LoadConst = record { spelling = bytes "load_const"; says = refl; no-comma = refl }
-name-of Kind.Load = record { spelling = bytes "get"; says = refl; no-comma = refl }
-name-of Kind.Save = record { spelling = bytes "put"; says = refl; no-comma = refl }
-name-of Kind.BranchIf = record { spelling = bytes "branch"; says = refl; no-comma = refl }
-name-of Kind.SetLabel = record { spelling = bytes "label"; says = refl; no-comma = refl }
-name-of Kind.Ifelse = record { spelling = bytes "ifelse"; says = refl; no-comma = refl }
-name-of (Kind.Unary Unary.Fmov) = record { spelling = bytes "fmov"; says = refl; no-comma = refl }
-name-of (Kind.Unary Unary.Recip) = record { spelling = bytes "recip"; says = refl; no-comma = refl }
-name-of (Kind.Unary Unary.Round) = record { spelling = bytes "round"; says = refl; no-comma = refl }
-name-of (Kind.Unary Unary.Floor) = record { spelling = bytes "floor"; says = refl; no-comma = refl }
-name-of (Kind.Unary Unary.Not) = record { spelling = bytes "not"; says = refl; no-comma = refl }
-name-of (Kind.Scratched Scratched.Sign) = record { spelling = bytes "sign"; says = refl; no-comma = refl }
-name-of (Kind.Scratched Scratched.Frac) = record { spelling = bytes "frac"; says = refl; no-comma = refl }
-name-of (Kind.Fused Fused.MulAdd) = record { spelling = bytes "fused_mul_add"; says = refl; no-comma = refl }
-name-of (Kind.Fused Fused.MulSub) = record { spelling = bytes "fused_mul_sub"; says = refl; no-comma = refl }
-name-of (Kind.Fused Fused.NegMulAdd) = record { spelling = bytes "fused_neg_mul_add"; says = refl; no-comma = refl }
-name-of (Kind.Fused Fused.NegMulSub) = record { spelling = bytes "fused_neg_mul_sub"; says = refl; no-comma = refl }
-name-of (Kind.Binary Binary.Minus) = record { spelling = bytes "minus"; says = refl; no-comma = refl }
-name-of (Kind.Binary Binary.Times) = record { spelling = bytes "times"; says = refl; no-comma = refl }
-name-of (Kind.Binary Binary.Divide) = record { spelling = bytes "divide"; says = refl; no-comma = refl }
-name-of (Kind.Binary Binary.Gt) = record { spelling = bytes "gt"; says = refl; no-comma = refl }
-name-of (Kind.Binary Binary.Neq) = record { spelling = bytes "neq"; says = refl; no-comma = refl }
-name-of (Kind.Binary Binary.And) = record { spelling = bytes "and"; says = refl; no-comma = refl }
-name-of (Kind.Binary Binary.Andnot) = record { spelling = bytes "andnot"; says = refl; no-comma = refl }
-name-of (Kind.Binary Binary.Or) = record { spelling = bytes "or"; says = refl; no-comma = refl }
-name-of (Kind.Binary Binary.Xor) = record { spelling = bytes "xor"; says = refl; no-comma = refl }
+pub name-says : (k : Kind) → (found-in (name k) names ≡ some k) × (free (name k) ≡ true)
+name-says Kind.Float = (refl, refl)
+name-says Kind.Bits = (refl, refl)
+name-says (Kind.Head Frame.Fast) = (refl, refl)
+name-says (Kind.Head Frame.Indirect) = (refl, refl)
+name-says Kind.LoadConst = (refl, refl)
+name-says Kind.Load = (refl, refl)
+name-says Kind.Save = (refl, refl)
+name-says Kind.BranchIf = (refl, refl)
+name-says Kind.SetLabel = (refl, refl)
+name-says Kind.Ifelse = (refl, refl)
+name-says (Kind.Unary Unary.Fmov) = (refl, refl)
+name-says (Kind.Unary Unary.Recip) = (refl, refl)
+name-says (Kind.Unary Unary.Round) = (refl, refl)
+name-says (Kind.Unary Unary.Floor) = (refl, refl)
+name-says (Kind.Unary Unary.Not) = (refl, refl)
+name-says (Kind.Scratched Scratched.Sign) = (refl, refl)
+name-says (Kind.Scratched Scratched.Frac) = (refl, refl)
+name-says (Kind.Fused Fused.MulAdd) = (refl, refl)
+name-says (Kind.Fused Fused.MulSub) = (refl, refl)
+name-says (Kind.Fused Fused.NegMulAdd) = (refl, refl)
+name-says (Kind.Fused Fused.NegMulSub) = (refl, refl)
+name-says (Kind.Binary Binary.Minus) = (refl, refl)
+name-says (Kind.Binary Binary.Times) = (refl, refl)
+name-says (Kind.Binary Binary.Divide) = (refl, refl)
+name-says (Kind.Binary Binary.Gt) = (refl, refl)
+name-says (Kind.Binary Binary.Neq) = (refl, refl)
+name-says (Kind.Binary Binary.And) = (refl, refl)
+name-says (Kind.Binary Binary.Andnot) = (refl, refl)
+name-says (Kind.Binary Binary.Or) = (refl, refl)
+name-says (Kind.Binary Binary.Xor) = (refl, refl)

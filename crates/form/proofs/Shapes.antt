@@ -10,8 +10,8 @@ use lib.Dec.{ltb}
 use lib.IntN.{ℤ, pos, negsuc}
 use lib.ListN.{length, getD, take, drop, replicate, length-drop}
 use lib.Seq.{take-all}
-use Rattle.text.specs.Digits.{sized, numeral, read-integer, read-word, integer, word}
-use Rattle.text.specs.Fields.{commas, split, fields-from, end-from, next-from, first-decimal}
+use Rattle.text.specs.Readers.{sized, numeral, read-integer, read-word, integer, word, split, fields-from, end-from, next-from, first-decimal}
+use Rattle.text.specs.Fields.{commas}
 use Rattle.text.specs.declared.Number.{Number}
 use Rattle.text.specs.declared.Numeral.{Numeral}
 use Rattle.text.specs.declared.Numeral.the-variants as Numeral
@@ -25,10 +25,12 @@ use Rattle.ast.specs.declared.Unary.{Unary}
 use Rattle.ast.specs.declared.Scratched.{Scratched}
 use Rattle.ast.specs.declared.Binary.{Binary}
 use Rattle.ast.specs.declared.Fused.{Fused}
-use Rattle.form.specs.Syntax.{Sort, number, integer as integer-sort, word as word-sort, place, flag, Value, Values, place-name, flag-name, sorts}
-use Rattle.form.specs.Read.{first, all-places, all-flags, kind-of, both, read-field, read-values, with-values, read-kind, read-fields, read}
-use Rattle.form.specs.Form.{formed, form-of, only, placed, flagged}
-use Rattle.form.specs.Inner.Parts.{named, shaped, shaped′, behind, numbers, read-numbers, zeros, of-numbers, first-of}
+use Rattle.form.specs.Inner.Syntax.{Sort, number, integer as integer-sort, word as word-sort, place, flag, Value, Values, sorts, line}
+use Rattle.form.specs.Text.{place-name, flag-name}
+use Rattle.form.specs.Inner.Read.{first, all-places, all-flags, kind-of, both, read-field, read-values, with-values, read-kind, fields-say, read}
+use Rattle.form.specs.Grammar.{said}
+use Rattle.form.specs.Form.{formed, form-of}
+use Rattle.form.specs.Inner.Parts.{only, placed, flagged, named, shaped, shaped′, behind, numbers, read-numbers, zeros, of-numbers, first-of}
 use Rattle.form.specs.declared.Kind.{Kind}
 use Rattle.form.specs.declared.Kind.the-variants as Kind
 use Rattle.form.specs.declared.Form.{Form}
@@ -361,7 +363,7 @@ module _ (s : List ℕ) (a : ℕ) (x : Numeral) (j : ℕ) (y : Numeral) (k : ℕ
 
 -- ---- a whole line
 
-formed-values : (k : Kind) (o : Option (Values (sorts k))) → formed (with-values k o) ≡ shaped′ k o
+formed-values : (k : Kind) (o : Option (Values (sorts k))) → formed (Option·map line (with-values k o)) ≡ shaped′ k o
 formed-values k none = refl
 formed-values k (some vs) = refl
 
@@ -375,31 +377,31 @@ module _ (s : List ℕ) (e : ℕ) (he : e ≡ end-from s 0) where
       let z : end-from s 0 - 0 ≡ e = omega arith in
       whole s ∙ field-is s 0 (omega arith) ∙ rw (next-is s 0 (omega arith), z, ← he)
 
-  pub line-is : (k : Kind) → named (kind-of (take e s)) ≡ Named.Is k → shaped k (fields-from s (e + 1)) ≡ formed (read-fields (split s))
+  pub line-is : (k : Kind) → named (kind-of (take e s)) ≡ Named.Is k → shaped k (fields-from s (e + 1)) ≡ formed (fields-say (split s))
   unfolding shaped
   line-is k h = rw first-word (go (kind-of (take e s)) h)
     where
-      go : (o : Option Kind) → named o ≡ Named.Is k → shaped′ k (read-values (sorts k) (fields-from s (e + 1))) ≡ formed (read-kind o (fields-from s (e + 1)))
+      go : (o : Option Kind) → named o ≡ Named.Is k → shaped′ k (read-values (sorts k) (fields-from s (e + 1))) ≡ formed (Option·map line (read-kind o (fields-from s (e + 1))))
       go none h = absurd (let z : _≡_ {A = ℕ} 0 1 = cc in omega arith)
       go (some l) h = let w : l ≡ k = cc in rw w (sym (formed-values k (read-values (sorts k) (fields-from s (e + 1)))))
 
-  pub line-bad : named (kind-of (take e s)) ≡ Named.Unknown → Form.Malformed ≡ formed (read-fields (split s))
+  pub line-bad : named (kind-of (take e s)) ≡ Named.Unknown → Form.Malformed ≡ formed (fields-say (split s))
   line-bad h = rw first-word (go (kind-of (take e s)) h)
     where
-      go : (o : Option Kind) → named o ≡ Named.Unknown → Form.Malformed ≡ formed (read-kind o (fields-from s (e + 1)))
+      go : (o : Option Kind) → named o ≡ Named.Unknown → Form.Malformed ≡ formed (Option·map line (read-kind o (fields-from s (e + 1))))
       go none h = refl
       go (some l) h = absurd (let z : _≡_ {A = ℕ} 0 1 = cc in omega arith)
 
 pub no-line : (l : List ℕ) → length l ≡ 0 → Form.Malformed ≡ form-of l
-unfolding form-of read
+unfolding form-of said read
 no-line [] h = refl
 no-line (c ∷ cs) h = absurd (omega arith)
 
 module _ (l : List ℕ) (e : ℕ) (he : e ≡ length l - 1) where
   pub no-newline : (getD l e 0 ≡ 10 → ⊥) → Form.Malformed ≡ form-of l
-  unfolding form-of read
+  unfolding form-of said read
   no-newline h = rw (← he, ne-eqb (getD l e 0) 10 h)
 
-  pub newline : getD l e 0 ≡ 10 → formed (read-fields (split (take e l))) ≡ form-of l
-  unfolding form-of read
+  pub newline : getD l e 0 ≡ 10 → formed (fields-say (split (take e l))) ≡ form-of l
+  unfolding form-of said read
   newline h = rw (← he, eq-eqb (getD l e 0) 10 h)

@@ -1,65 +1,43 @@
--- A line's form: its kind and fields, each number as 64 bits hold it, or malformed.
+-- A line's form, as the code has it: what the line says, each number as 64 bits hold it, or malformed.
 use mathlib.Core.Bool.{Bool, true, false}
-use mathlib.Core.Option.{Option, some, none, Option·map}
-use mathlib.Core.List.{List, [], _∷_}
-use Prim.Native.Nat.{ℕ, suc}
-use lib.IntN.{ℤ, pos, negsuc}
-use Rattle.text.specs.Digits.{sized}
-use Rattle.ast.specs.declared.Place.{Place}
-use Rattle.form.specs.Syntax.{Sort, Value, Values, sorts, Syntax}
-use Rattle.form.specs.Read.{read, read-values}
-use Rattle.form.specs.declared.Kind.{Kind}
-use Rattle.form.specs.declared.Kind.the-variants as Kind
+use mathlib.Core.Option.{Option, some, none}
+use mathlib.Core.List.{List}
+use Prim.Native.Nat.{ℕ}
+use lib.IntN.{ℤ, pos, negsuc, natAbs}
+use Rattle.text.specs.Readers.{sized}
+use Rattle.ast.specs.declared.Order.{Order}
+use Rattle.ast.specs.declared.Order.the-variants as Order
+use Rattle.form.specs.Text.{DeckLine, head, order, float, bits}
+use Rattle.form.specs.Grammar.{said}
 use Rattle.form.specs.declared.Form.{Form}
 use Rattle.form.specs.declared.Form.the-variants as Form
-use Rattle.form.specs.declared.Where.{Where}
-use Rattle.form.specs.declared.Where.the-variants as Where
-use Rattle.form.specs.declared.Flag.{Flag}
-use Rattle.form.specs.declared.Flag.the-variants as Flag
 
--- the sign and the magnitude of a whole number
+-- a minus
 abbrev pub is-negative : ℤ → Bool
 is-negative (pos n) = false
 is-negative (negsuc n) = true
 
-abbrev pub magnitude : ℤ → ℕ
-magnitude (pos n) = n
-magnitude (negsuc n) = suc n
+abbrev pub order-form : Order → Form
+order-form (Order.Unary u d s) = Form.Unary u (sized d) (sized s)
+order-form (Order.Scratched u d s t) = Form.Scratched u (sized d) (sized s) (sized t)
+order-form (Order.Binary u d a b) = Form.Binary u (sized d) (sized a) (sized b)
+order-form (Order.Fused u d a b c) = Form.Fused u (sized d) (sized a) (sized b) (sized c)
+order-form (Order.Ifelse d a b i) = Form.Ifelse (sized d) (sized a) (sized b) (sized i)
+order-form (Order.LoadConst d k) = Form.LoadConst (sized d) (sized k)
+order-form (Order.Load d p i) = Form.Load (sized d) p (sized i)
+order-form (Order.Save s p i) = Form.Save (sized s) p (sized i)
+order-form (Order.BranchIf c l e) = Form.BranchIf (sized c) (sized l) e
+order-form (Order.SetLabel l) = Form.SetLabel (sized l)
 
--- a line's form, from its kind and values
-abbrev pub cut : (k : Kind) → Values (sorts k) → Form
-cut (Kind.Head f) vs =
-    Form.Head f (sized (vs .0)) (sized (vs .1 .0)) (sized (vs .1 .1 .0)) (sized (vs .1 .1 .1 .0)) (sized (vs .1 .1 .1 .1 .0))
-cut (Kind.Unary u) vs = Form.Unary u (sized (vs .0)) (sized (vs .1 .0))
-cut (Kind.Scratched u) vs = Form.Scratched u (sized (vs .0)) (sized (vs .1 .0)) (sized (vs .1 .1 .0))
-cut (Kind.Binary u) vs = Form.Binary u (sized (vs .0)) (sized (vs .1 .0)) (sized (vs .1 .1 .0))
-cut (Kind.Fused u) vs = Form.Fused u (sized (vs .0)) (sized (vs .1 .0)) (sized (vs .1 .1 .0)) (sized (vs .1 .1 .1 .0))
-cut Kind.Ifelse vs = Form.Ifelse (sized (vs .0)) (sized (vs .1 .0)) (sized (vs .1 .1 .0)) (sized (vs .1 .1 .1 .0))
-cut Kind.LoadConst vs = Form.LoadConst (sized (vs .0)) (sized (vs .1 .0))
-cut Kind.Load vs = Form.Load (sized (vs .0)) (vs .1 .0) (sized (vs .1 .1 .0))
-cut Kind.Save vs = Form.Save (sized (vs .0)) (vs .1 .0) (sized (vs .1 .1 .0))
-cut Kind.BranchIf vs = Form.BranchIf (sized (vs .0)) (sized (vs .1 .0)) (vs .1 .1 .0)
-cut Kind.SetLabel vs = Form.SetLabel (sized (vs .0))
-cut Kind.Float vs = Form.Float (is-negative (vs .0)) (sized (magnitude (vs .0)))
-cut Kind.Bits vs = Form.Bits (vs .0)
+abbrev pub cut : DeckLine → Form
+cut (head H) = Form.Head (H .frame) (sized (H .cap)) (sized (H .states)) (sized (H .obs)) (sized (H .last)) (sized (H .mask))
+cut (order o) = order-form o
+cut (float z) = Form.Float (is-negative z) (sized (natAbs z))
+cut (bits n) = Form.Bits n
 
-abbrev pub formed : Option Syntax → Form
+abbrev pub formed : Option DeckLine → Form
 formed none = Form.Malformed
-formed (some l) = cut (l .kind) (l .values)
+formed (some l) = cut l
 
 unfoldable pub form-of : List ℕ → Form
-form-of s = formed (read s)
-
--- ---- fields by themselves
-
--- the value of the only field
-abbrev pub only : (q : Sort) → List (List ℕ) → Option (Value q)
-only q fs = Option·map (λ vs. vs .0) (read-values (q ∷ []) fs)
-
-abbrev pub placed : Option Place → Where
-placed none = Where.Malformed
-placed (some p) = Where.Is p
-
-abbrev pub flagged : Option Bool → Flag
-flagged none = Flag.Malformed
-flagged (some b) = Flag.Is b
+form-of s = formed (said s)

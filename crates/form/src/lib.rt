@@ -1,13 +1,12 @@
 // Document 01, "The deck file": a line's kind and fields. Ranges are judged above (`deck`).
 ghost use mathlib.Core.Path.{_≡_};
 ghost use mathlib.Core.Bool.{cond};
-ghost use Rattle.text.specs.Fields.{split, fields-from, next-from};
-ghost use Rattle.form.specs.Syntax.{place-name, flag-name, place, flag};
-ghost use Rattle.form.specs.Read.{first, all-places, all-flags, read-fields};
-ghost use Rattle.form.specs.Form.{form-of, formed, placed, flagged};
-ghost use Rattle.form.specs.Inner.Parts.{shaped};
-ghost use Rattle.form.specs.Form.{only};
-ghost use Rattle.form.specs.Inner.Parts.{zeros, read-numbers, of-numbers, first-of};
+ghost use Rattle.text.specs.Readers.{split, fields-from, next-from};
+ghost use Rattle.form.specs.Text.{place-name, flag-name};
+ghost use Rattle.form.specs.Inner.Syntax.{place, flag};
+ghost use Rattle.form.specs.Inner.Read.{first, all-places, all-flags, fields-say};
+ghost use Rattle.form.specs.Form.{form-of, formed};
+ghost use Rattle.form.specs.Inner.Parts.{placed, flagged, shaped, only, zeros, read-numbers, of-numbers, first-of};
 
 mod name;
 
@@ -294,7 +293,7 @@ fn form_kind(k: Kind, s: &[u8], a: usize) -> Form
 
 // The form of a line without its byte 10.
 fn form_body(s: &[u8]) -> Form
-    ensures { λ r. ⌜ r ≡ formed (read-fields (split (now (s .entry)))) ⌝ }
+    ensures { λ r. ⌜ r ≡ formed (fields-say (split (now (s .entry)))) ⌝ }
 {
     let e = text::field_end(s, 0);
     match name::kind_named(&s[..e]) {

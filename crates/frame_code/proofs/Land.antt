@@ -10,7 +10,7 @@ use Rattle.machine.specs.Word.{load8}
 use Rattle.machine.specs.Floats.{Floats}
 use Rattle.machine.specs.State.{State}
 use Rattle.machine.specs.Effect.{Effect, write-x, write-f, store, jump, effect, exec}
-use Rattle.machine.specs.Step.{execs}
+use Rattle.machine.proofs.Exec.{execs}
 use Rattle.machine.proofs.Memory.{inside, load8-local}
 use Rattle.machine.proofs.Stores.{Lands, Same, Off, Landing}
 

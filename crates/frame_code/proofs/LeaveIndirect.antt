@@ -15,7 +15,8 @@ use Rattle.machine.specs.Word.{w64, load8}
 use Rattle.machine.specs.Floats.{Floats}
 use Rattle.machine.specs.State.{State}
 use Rattle.machine.specs.Effect.{exec}
-use Rattle.machine.specs.Step.{Among, RunIn, execs}
+use Rattle.machine.specs.Step.{Among, RunIn}
+use Rattle.machine.proofs.Exec.{execs}
 use Rattle.machine.proofs.Memory.{load8-small}
 use Rattle.base.proofs.Bools.{and-l, and-r}
 use Rattle.machine.proofs.Stores.{Off}

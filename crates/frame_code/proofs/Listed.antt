@@ -4,7 +4,8 @@ use mathlib.Core.List.{List, [], _∷_, map, List·Memᴰ, List·Memᴰ·head, L
 use Prim.Native.Nat.{ℕ}
 use native.Mathlib.Omega.{arith}
 use lib.Dec.{T}
-use Rattle.isa.specs.Instr.{Instr, Valid}
+use Rattle.isa.specs.Instr.{Instr}
+use Rattle.isa.proofs.Validity.{Valid}
 use Rattle.accesses.proofs.Collect.{AllValid}
 use Rattle.ast.specs.Mask.{saved}
 use Rattle.frame_code.specs.Items.{save, reload}

@@ -15,7 +15,7 @@ use Rattle.machine.specs.Word.{w64, upd, load8}
 use Rattle.machine.specs.Floats.{Floats}
 use Rattle.machine.specs.State.{State, setx}
 use Rattle.machine.specs.Effect.{effect, apply, exec}
-use Rattle.machine.specs.Step.{execs}
+use Rattle.machine.proofs.Exec.{execs}
 use Rattle.machine.proofs.Memory.{upd-same, upd-other}
 use Rattle.machine.proofs.Straight.{fit-cut, execs-x}
 use Rattle.machine.proofs.Stores.{Landing}

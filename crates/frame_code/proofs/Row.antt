@@ -13,7 +13,7 @@ use Rattle.machine.specs.Word.{load8}
 use Rattle.machine.specs.Floats.{Floats}
 use Rattle.machine.specs.State.{State}
 use Rattle.machine.specs.Effect.{Effect, store, address, effect, apply, exec}
-use Rattle.machine.specs.Step.{execs, Fit}
+use Rattle.machine.proofs.Exec.{execs, Fit}
 use Rattle.machine.proofs.Memory.{inside, load-store, load8-store, Apart}
 use Rattle.machine.proofs.Stores.{Landing, lands-in}
 use Rattle.frame_code.proofs.Land.{In}

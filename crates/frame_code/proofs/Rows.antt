@@ -12,7 +12,7 @@ use Rattle.isa.specs.Instr.{Instr, S, FSD}
 use Rattle.machine.specs.Word.{load8}
 use Rattle.machine.specs.Floats.{Floats}
 use Rattle.machine.specs.State.{State}
-use Rattle.machine.specs.Step.{execs}
+use Rattle.machine.proofs.Exec.{execs}
 use Rattle.base.proofs.Bools.{and-l, and-r}
 use Rattle.ast.specs.Mask.{preserved, chosen, in-mask, saved, save-cell}
 use Rattle.frame_code.specs.Items.{states-from, save}

@@ -16,7 +16,7 @@ use Rattle.machine.specs.Word.{w64, load8}
 use Rattle.machine.specs.Floats.{Floats}
 use Rattle.machine.specs.State.{State, Sound}
 use Rattle.machine.specs.Effect.{effect, apply, exec}
-use Rattle.machine.specs.Step.{execs, Fit}
+use Rattle.machine.proofs.Exec.{execs, Fit}
 use Rattle.machine.proofs.Effects.{setx-same, setx-other}
 use Rattle.base.proofs.Bools.{and-l, and-r}
 use Rattle.machine.proofs.Straight.{execs-append, fit-join}

@@ -16,7 +16,7 @@ use Rattle.machine.specs.Word.{w64, upd}
 use Rattle.machine.specs.Floats.{Floats}
 use Rattle.machine.specs.State.{State, setx}
 use Rattle.machine.specs.Effect.{upper, effect, apply}
-use Rattle.machine.specs.Step.{execs, Fit}
+use Rattle.machine.proofs.Exec.{execs, Fit}
 use Rattle.machine.proofs.Effects.{setx-same, getx-same, twos-small}
 use Rattle.machine.proofs.Straight.{execs-append, fit-join, execs-x}
 use Rattle.machine.proofs.Stores.{Landing}

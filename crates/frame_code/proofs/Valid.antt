@@ -9,7 +9,8 @@ use lib.Dec.{T, eqb, leb, leb→le}
 use lib.IntN.{pos, negsuc, subℕ}
 use lib.ListN.{length, length-append}
 use Rattle.ast.specs.Count.{cells}
-use Rattle.isa.specs.Instr.{Instr, Valid, R, I, Shift, ADD, XOR, JALR, SLLI}
+use Rattle.isa.specs.Instr.{Instr, R, I, Shift, ADD, XOR, JALR, SLLI}
+use Rattle.isa.proofs.Validity.{Valid}
 use Rattle.machine.proofs.Placed.{Valids}
 use Rattle.base.proofs.Bools.{and-l, and-r}
 use Rattle.ast.specs.declared.Frame.{Frame}
@@ -27,7 +28,7 @@ use Rattle.accesses.proofs.Stack.{sub-stack-valid, add-stack-valid, allocate-st
 use Rattle.reading.specs.Size.{frame-size, stack-size}
 use Rattle.ast.specs.Mask.{saved}
 use Rattle.frame_code.specs.Items.{code, mv, kept, opening, closing, loads-from, states-from, state-copy, obs-copy, times-over, count-down, repeated, at-main, at-pro, at-epi, at-done, by-frame, prologue-fast, prologue-indirect, epilogue-fast, epilogue-indirect, prologue, epilogue, save, reload, saves, reloads}
-use Rattle.frame_code.specs.Copies.{copy-first, copy-each}
+use Rattle.frame_code.specs.Inner.Copies.{copy-first, copy-each}
 use Rattle.ast.specs.Counts.{frame-holds, result-limit, result-holds, prologue-holds, epilogue-holds}
 use Rattle.frame_code.proofs.Walk.{further, Stands, stands-code, stands-left, stands-right}
 use Rattle.frame_code.proofs.Listed.{save-list-valid, reload-list-valid}

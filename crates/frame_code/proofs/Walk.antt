@@ -1,20 +1,22 @@
 -- Going through items that stand in memory: straight pieces, labels and jumps.
 use mathlib.Core.Path.{_≡_, refl, ap, sym, subst, _∙_}
 use mathlib.Core.List.{List, [], _∷_, _++_, map, map-append}
-use mathlib.Core.Option.{Option, some, none, Option·map}
+use mathlib.Core.Option.{Option, some, none, Option·map, bind}
 use Prim.Native.Nat.{ℕ, suc, _+_, _*_, _%_, _^_, _≤_, _<_}
 use native.Mathlib.Nat.{add-zero}
 use native.Mathlib.Omega.{arith}
 use lib.IntN.{subℕ}
 use lib.ListN.{length, length-append, length-map}
-use Rattle.isa.specs.Instr.{Instr, Valid}
+use Rattle.isa.specs.Instr.{Instr}
+use Rattle.isa.proofs.Validity.{Valid}
 use Rattle.isa.specs.Encode.{encode}
 use Rattle.isa.specs.Decode.{decode}
 use Rattle.machine.specs.Word.{w64}
 use Rattle.machine.specs.Floats.{Floats}
 use Rattle.machine.specs.State.{State}
 use Rattle.machine.specs.Effect.{effect, exec}
-use Rattle.machine.specs.Step.{and-then, fetch, step, CodeAt, words, Run, stop, go, RunIn, execs, Fit}
+use Rattle.machine.specs.Step.{fetch, step, CodeAt, words, Run, stop, go, RunIn}
+use Rattle.machine.proofs.Exec.{execs, Fit}
 use Rattle.machine.proofs.Memory.{dist-ahead}
 use Rattle.machine.proofs.Effects.{apply-rm}
 use Rattle.machine.proofs.Runs.{step-at, no-step, one-more, joined, wider}
@@ -177,7 +179,7 @@ module _ {at : ℕ → ℕ} {C P : ℕ → Type 0} {m : ℕ → ℕ} {a : ℕ} w
 -- no instruction changes the rounding mode
 step-rm : (Q : Floats) (s t : State) → step Q s ≡ some t → t .rm ≡ s .rm
 unfolding step
-step-rm Q s t e = by (and-then (fetch s) decode) e
+step-rm Q s t e = by (bind (fetch s) decode) e
   where
     by : (o : Option Instr) → Option·map (λ i. exec Q i s) o ≡ some t → t .rm ≡ s .rm
     by (some i) q = let z : exec Q i s ≡ t = cc in rw (← z) (apply-rm (effect Q i s) s)

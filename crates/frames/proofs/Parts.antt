@@ -26,7 +26,7 @@ use Rattle.accesses.proofs.Placed.{plan-tail}
 use Rattle.finish.proofs.All.{accepts}
 use Rattle.finish.proofs.Both.{Accepts, put-split}
 use Rattle.frame_code.specs.Items.{code, times-over}
-use Rattle.frames.specs.Whole.{is-accepted}
+use Rattle.frames.specs.Inner.Whole.{is-accepted}
 
 -- ---- code alone
 

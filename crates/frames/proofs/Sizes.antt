@@ -19,8 +19,8 @@ use Rattle.accesses.specs.Code.{li-code, sub-stack-code, allocate-stack-code}
 use Rattle.accesses.proofs.Collect.{li-near, li-far}
 use Rattle.ast.specs.Mask.{saved}
 use Rattle.frame_code.specs.Items.{code, count-down, times-over, repeated, reload, reloads, at-success, at-epilogue}
-use Rattle.frame_code.specs.Copies.{copy-first, copy-each, copy-label, copies}
-use Rattle.frames.specs.Whole.{looped}
+use Rattle.frame_code.specs.Inner.Copies.{copy-first, copy-each, copy-label, copies}
+use Rattle.frames.specs.Inner.Whole.{looped}
 use Rattle.frame_code.proofs.Count.{over-length}
 use Rattle.frames.proofs.Parts.{words-code, jumps-code, labels-code}
 

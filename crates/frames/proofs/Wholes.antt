@@ -20,9 +20,9 @@ use Rattle.accesses.specs.Code.{sub-stack-code, add-stack-code, allocate-stack-
 use Rattle.finish.proofs.Both.{Accepts}
 use Rattle.reading.specs.Size.{frame-size, stack-size}
 use Rattle.frame_code.specs.Items.{code, mv, opening, closing, states-from, prologue-fast, prologue-indirect, epilogue-fast, epilogue-indirect, prologue, epilogue, at-main, at-done, at-self, at-pro, at-epi}
-use Rattle.frame_code.specs.Copies.{copies}
+use Rattle.frame_code.specs.Inner.Copies.{copies}
 use Rattle.frame_code.proofs.Fast.{states-length}
-use Rattle.frames.specs.Whole.{entry}
+use Rattle.frames.specs.Inner.Whole.{entry}
 use Rattle.frames.proofs.Parts.{words-code, jumps-code, labels-code, untagged}
 use Rattle.frames.proofs.Sizes.{code-number, copies-jumps, copies-labels}
 

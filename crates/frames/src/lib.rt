@@ -23,8 +23,9 @@ ghost use Rattle.frame_code.specs.Items.{code, mv, opening, closing, times-over
 ghost use Rattle.frame_code.specs.Items.{prologue-fast, prologue-indirect, epilogue-fast, epilogue-indirect};
 ghost use Rattle.frame_code.specs.Items.{prologue as prologue-items, epilogue as epilogue-items};
 ghost use Rattle.frame_code.specs.Fault.{prologue-fault, epilogue-fault};
-ghost use Rattle.frame_code.specs.Copies.{copy-first, copy-each, copy-label, copies as copies-of};
-ghost use Rattle.frames.specs.Whole.{is-accepted, looped as looped-of, entry, head-of, prologue-put, epilogue-put};
+ghost use Rattle.frame_code.specs.Inner.Copies.{copy-first, copy-each, copy-label, copies as copies-of};
+ghost use Rattle.frames.specs.Whole.{head-of, prologue-put, epilogue-put};
+ghost use Rattle.frames.specs.Inner.Whole.{is-accepted, looped as looped-of, entry};
 use assembler::Answer;
 use assembler::Asm;
 use assembler::EmitResult;

@@ -1,5 +1,5 @@
 -- From answers to the numbers that a caller gets, and from a line to its order.
-use mathlib.Core.Path.{_≡_, refl}
+use mathlib.Core.Path.{_≡_, refl, sym, ap, _∙_}
 use mathlib.Core.Bool.{Bool, true, false, cond}
 use mathlib.Core.List.{List, [], _∷_}
 use Prim.Native.Nat.{ℕ, _<_, _≤_}
@@ -10,6 +10,8 @@ use Rattle.refusal.specs.Number.{number-of}
 use Rattle.refusal.specs.declared.Refusal.{Refusal}
 use Rattle.text.specs.declared.Number.{Number}
 use Rattle.text.specs.declared.Number.the-variants.{Value}
+use Rattle.form.specs.Grammar.{said}
+use Rattle.form.specs.Form.{form-of}
 use Rattle.form.specs.declared.Form.{Form}
 use Rattle.assembler.specs.State.{State, Outcome, state, outcome, emit-answer, sound}
 use Rattle.assembler.specs.Put.{verdict, settled, put}
@@ -23,8 +25,10 @@ use Rattle.routine.specs.Routine.{Summary, Promise, program-of, summary-answer}
 use Rattle.routine.specs.Run.{RunOutcome}
 use Rattle.handheld.specs.Numbers.{number, deck-numbers, RunTold}
 use Rattle.handheld.specs.Numbers as Numbers
-use Rattle.handheld.specs.Single.{field, says, order-put, line-put, as-constant, constant-put, numbers-of, record-after, single, order-result, finish-result, finish-told}
+use Rattle.handheld.specs.Single.{says, order-put, line-put, as-constant, constant-put, numbers-of, record-after, single, order-result, finish-result, finish-told}
+use Rattle.handheld.specs.Inner.Forms.{field-of, form-says}
 use Rattle.handheld.specs.declared.Said.{Said}
+use Rattle.handheld.proofs.Forms.{form-said}
 
 -- ---- a deck file
 
@@ -42,20 +46,24 @@ module _ (t : Answer Summary) (n : ℕ) (l : List ℕ) (g : n ≡ number t) (h :
 -- ---- a line's order or constant
 
 module _ (n : Number) (v : ℕ) (e : n ≡ Value v) where
-  pub above : 4294967295 < v → 4294967295 ≡ field n
+  pub above : 4294967295 < v → 4294967295 ≡ field-of n
   above h = rw (e, lt-leb v 4294967295 h)
 
-  pub within : v ≤ 4294967295 → v ≡ field n
+  pub within : v ≤ 4294967295 → v ≡ field-of n
   within h = rw (e, le-leb v 4294967295 h)
 
-module _ (f : Form) (s : State) (x y : Said) (e : x ≡ says f) (g : x ≡ y) where
-  pub order-is : (tag : ℕ) → line-put tag f s ≡ order-put tag y s
-  unfolding line-put
-  order-is tag = rw (← e, g)
+-- by the form that was read
+module _ (line : List ℕ) (f : Form) (r : f ≡ form-of line) (s : State) (x y : Said) (e : x ≡ form-says f) (g : x ≡ y) where
+  its : says (said line) ≡ y
+  its = sym (form-said line) ∙ ap form-says (sym r) ∙ sym e ∙ g
 
-  pub constant-is : (k : ℕ) → constant-put k f s ≡ as-constant k y s
+  pub order-is : (tag : ℕ) → line-put tag (said line) s ≡ order-put tag y s
+  unfolding line-put
+  order-is tag = rw its
+
+  pub constant-is : (k : ℕ) → constant-put k (said line) s ≡ as-constant k y s
   unfolding constant-put
-  constant-is k = rw (← e, g)
+  constant-is k = rw its
 
 -- a fault of 2, where nothing is to be placed
 same : (t : Bool) → _≡_ {A = ℕ} (cond t 2 2) 2

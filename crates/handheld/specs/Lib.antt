@@ -1,2 +1,6 @@
+-- answers as the numbers that a caller in C gets
 pub mod Numbers
+-- one order, one constant and finishing, on a record of three numbers
 pub mod Single
+-- what only private functions promise
+pub mod Inner

@@ -1,6 +1,7 @@
 -- One order or constant by its line's text, and finishing, on a record of three numbers.
 use mathlib.Core.Bool.{not, cond}
 use mathlib.Core.List.{List, [], _∷_}
+use mathlib.Core.Option.{Option, some, none}
 use Prim.Native.Nat.{ℕ}
 use denote.Ref.{now}
 use lib.Dec.{leb, eqb}
@@ -8,11 +9,10 @@ use lib.ListN.{getD}
 use Rattle.refusal.specs.Answer.{Answer, accepted, refused}
 use Rattle.refusal.specs.Number.{number-of}
 use Rattle.refusal.specs.declared.Refusal.the-variants.{Value as Valued, Line}
+use Rattle.ast.specs.declared.Order.{Order}
 use Rattle.ast.specs.declared.Order.the-variants as Order
-use Rattle.text.specs.declared.Number.{Number}
-use Rattle.text.specs.declared.Number.the-variants.{Value, TooBig}
-use Rattle.form.specs.declared.Form.{Form}
-use Rattle.form.specs.declared.Form.the-variants as Form
+use Rattle.form.specs.Text.{DeckLine}
+use Rattle.form.specs.Text as Text
 use Rattle.deck.specs.Judge.{Content, judged}
 use Rattle.deck.specs.Judge as Deck
 use Rattle.assembler.specs.declared.Asm.{Asm}
@@ -29,9 +29,20 @@ use Rattle.handheld.specs.declared.Said.the-variants as Said
 
 -- A number in 32 bits; their largest for any larger one, which is too big for a register, a label, and the index of a constant or a cell.
 -- So the order's own refusal is "that field's refusal"; for a cell, which has no count here, that is 2, as for any offset.
-abbrev pub field : Number → ℕ
-field (Value n) = cond (leb n 4294967295) n 4294967295
-field TooBig = 4294967295
+abbrev pub field : ℕ → ℕ
+field n = cond (leb n 4294967295) n 4294967295
+
+abbrev pub capped : Order → Order
+capped (Order.Unary u d s) = Order.Unary u (field d) (field s)
+capped (Order.Scratched u d s t) = Order.Scratched u (field d) (field s) (field t)
+capped (Order.Binary u d a b) = Order.Binary u (field d) (field a) (field b)
+capped (Order.Fused u d a b c) = Order.Fused u (field d) (field a) (field b) (field c)
+capped (Order.Ifelse d a b i) = Order.Ifelse (field d) (field a) (field b) (field i)
+capped (Order.LoadConst d k) = Order.LoadConst (field d) (field k)
+capped (Order.Load d p i) = Order.Load (field d) p (field i)
+capped (Order.Save s p i) = Order.Save (field s) p (field i)
+capped (Order.BranchIf c l e) = Order.BranchIf (field c) (field l) e
+capped (Order.SetLabel l) = Order.SetLabel (field l)
 
 -- a constant as a deck takes it; its one refusal is 2
 abbrev pub constant-of : Answer Content → Said
@@ -41,21 +52,12 @@ constant-of (accepted (Deck.head h)) = Said.Other
 constant-of (refused n p) = Said.TooBig
 
 -- what a line says; a head is neither order nor constant
-unfoldable pub says : Form → Said
-says (Form.Unary u d s) = Said.Order (Order.Unary u (field d) (field s))
-says (Form.Scratched u d s t) = Said.Order (Order.Scratched u (field d) (field s) (field t))
-says (Form.Binary u d s t) = Said.Order (Order.Binary u (field d) (field s) (field t))
-says (Form.Fused u d s t v) = Said.Order (Order.Fused u (field d) (field s) (field t) (field v))
-says (Form.Ifelse d s t i) = Said.Order (Order.Ifelse (field d) (field s) (field t) (field i))
-says (Form.LoadConst d k) = Said.Order (Order.LoadConst (field d) (field k))
-says (Form.Load d p i) = Said.Order (Order.Load (field d) p (field i))
-says (Form.Save s p i) = Said.Order (Order.Save (field s) p (field i))
-says (Form.BranchIf c l e) = Said.Order (Order.BranchIf (field c) (field l) e)
-says (Form.SetLabel l) = Said.Order (Order.SetLabel (field l))
-says (Form.Float minus n) = constant-of (judged (Form.Float minus n))
-says (Form.Bits n) = constant-of (judged (Form.Bits n))
-says (Form.Head f c s o l m) = Said.Other
-says Form.Malformed = Said.Other
+unfoldable pub says : Option DeckLine → Said
+says (some (Text.order o)) = Said.Order (capped o)
+says (some (Text.float z)) = constant-of (judged (Text.float z))
+says (some (Text.bits n)) = constant-of (judged (Text.bits n))
+says (some (Text.head H)) = Said.Other
+says none = Said.Other
 
 -- ---- what becomes of it
 
@@ -70,8 +72,8 @@ order-put tag Said.TooBig s = no-such s
 order-put tag Said.Other s = no-such s
 
 -- a line's order
-unfoldable pub line-put : (tag : ℕ) → Form → State → Outcome
-line-put tag f s = order-put tag (says f) s
+unfoldable pub line-put : (tag : ℕ) → Option DeckLine → State → Outcome
+line-put tag l s = order-put tag (says l) s
 
 -- a float beyond 2^53 is 2, behind 8
 abbrev pub as-constant : (k : ℕ) → Said → State → Outcome
@@ -81,8 +83,8 @@ as-constant k Said.TooBig s = put 0 (number-of Valued) [] s
 as-constant k Said.Other s = no-such s
 
 -- a line's constant as constant k
-unfoldable pub constant-put : (k : ℕ) → Form → State → Outcome
-constant-put k f s = as-constant k (says f) s
+unfoldable pub constant-put : (k : ℕ) → Option DeckLine → State → Outcome
+constant-put k l s = as-constant k (says l) s
 
 -- ---- the record: length, jump count, and 0 or else closed
 

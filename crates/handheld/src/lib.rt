@@ -3,18 +3,20 @@ ghost use mathlib.Core.Path.{_≡_};
 ghost use mathlib.Core.List.{List, []};
 ghost use Prim.Native.Nat.{ℕ};
 ghost use Rattle.refusal.specs.Number.{number-of};
-ghost use Rattle.form.specs.Form.{form-of};
-ghost use Rattle.deck.specs.Judge.{judged};
+ghost use Rattle.form.specs.Grammar.{said};
+ghost use Rattle.deck.specs.Inner.Forms.{form-judged};
 ghost use Rattle.assembler.specs.State.{state, outcome, emit-answer, before, after};
 ghost use Rattle.assembler.specs.Put.{put};
 ghost use Rattle.finish.specs.Finish.{finish};
 ghost use Rattle.routine.specs.Answer.{routine-answer};
 ghost use Rattle.print.specs.Text.{length-in, put-in};
 ghost use Rattle.answer.specs.Answer.{deck-text};
+ghost use Rattle.print.specs.Reason.{refusal-text};
 ghost use Rattle.handheld.specs.Numbers.{number, frame-number, deck-numbers, Deck, DeckIn, text-number};
-ghost use Rattle.handheld.specs.Single.{field, constant-of, says, no-such, line-put, constant-put};
+ghost use Rattle.handheld.specs.Single.{constant-of, no-such, line-put, constant-put};
 ghost use Rattle.handheld.specs.Single.{asm-of, numbers-of, record-after, order-outcome, finish-outcome, finish-told};
 ghost use Rattle.handheld.specs.Single.{single-before, single-after, finish-after};
+ghost use Rattle.handheld.specs.Inner.Forms.{field-of, form-says};
 use assembler::Asm;
 use assembler::EmitResult;
 use assembler::Jumps;
@@ -104,6 +106,18 @@ pub extern "C" fn deck_text(file: &[u8], out: &mut [u8]) -> usize
     }
 }
 
+// A refusal in words: the text's length, or 0 and nothing written where `out` is too short or there is no such number.
+#[no_mangle]
+pub extern "C" fn refusal_text(number: u32, out: &mut [u8]) -> usize
+    ensures { λ r. ⌜ (r ≡ text-number (length-in (refusal-text number) 0 (now (out .entry))))
+        × (now (out .exit) ≡ put-in (refusal-text number) 0 (now (out .entry))) ⌝ }
+{
+    match print::refusal_text(number, out) {
+        Text::Length(n) => n,
+        Text::TooLong => 0,
+    }
+}
+
 // ---- single orders
 
 // What a line says: an order, a constant, a float beyond 2^53, or none of these.
@@ -116,7 +130,7 @@ pub enum Said {
 
 // A number in 32 bits; their largest for any larger one, since no field of an order takes that.
 fn field(n: Number) -> u32
-    ensures { λ r. ⌜ r ≡ field n ⌝ }
+    ensures { λ r. ⌜ r ≡ field-of n ⌝ }
 {
     match n {
         Number::Value(v) => {
@@ -131,7 +145,7 @@ fn field(n: Number) -> u32
 
 // The constant of a `float` or `bits` line.
 fn constant(form: Form) -> Said
-    ensures { λ r. ⌜ r ≡ constant-of (judged form) ⌝ }
+    ensures { λ r. ⌜ r ≡ constant-of (form-judged form) ⌝ }
 {
     let j = deck::judge(form);
     match j {
@@ -143,7 +157,7 @@ fn constant(form: Form) -> Said
 }
 
 fn says(form: Form) -> Said
-    ensures { λ r. ⌜ r ≡ says form ⌝ }
+    ensures { λ r. ⌜ r ≡ form-says form ⌝ }
 {
     match form {
         Form::Unary(u, d, s) => Said::Order(Order::Unary(u, field(d), field(s))),
@@ -203,7 +217,7 @@ fn put_line(
     jumps: &mut Jumps,
     asm: Asm,
 ) -> EmitResult
-    ensures { λ r. ⌜ after r labels jumps buf ≡ line-put tag (form-of (now (line .entry))) (before asm labels jumps buf) ⌝ }
+    ensures { λ r. ⌜ after r labels jumps buf ≡ line-put tag (said (now (line .entry))) (before asm labels jumps buf) ⌝ }
 {
     let said = says(form::read_form(line));
     match said {
@@ -223,7 +237,7 @@ fn put_constant(
     jumps: &mut Jumps,
     asm: Asm,
 ) -> EmitResult
-    ensures { λ r. ⌜ after r labels jumps buf ≡ constant-put k (form-of (now (line .entry))) (before asm labels jumps buf) ⌝ }
+    ensures { λ r. ⌜ after r labels jumps buf ≡ constant-put k (said (now (line .entry))) (before asm labels jumps buf) ⌝ }
 {
     let said = says(form::read_form(line));
     match said {
@@ -284,7 +298,7 @@ pub extern "C" fn order_emit(
     jumps: &mut Jumps,
     rec: &mut [u64; 3],
 ) -> u32
-    ensures { λ r. ⌜ single-after r rec labels jumps buf ≡ order-outcome (line-put tag (form-of (now (line .entry)))) rec labels jumps buf ⌝ }
+    ensures { λ r. ⌜ single-after r rec labels jumps buf ≡ order-outcome (line-put tag (said (now (line .entry)))) rec labels jumps buf ⌝ }
 {
     let d = put_line(line, tag, buf, labels, jumps, asm_of(rec));
     kept(d, rec)
@@ -300,7 +314,7 @@ pub extern "C" fn order_constant(
     jumps: &mut Jumps,
     rec: &mut [u64; 3],
 ) -> u32
-    ensures { λ r. ⌜ single-after r rec labels jumps buf ≡ order-outcome (constant-put k (form-of (now (line .entry)))) rec labels jumps buf ⌝ }
+    ensures { λ r. ⌜ single-after r rec labels jumps buf ≡ order-outcome (constant-put k (said (now (line .entry)))) rec labels jumps buf ⌝ }
 {
     let d = put_constant(line, k, buf, labels, jumps, asm_of(rec));
     kept(d, rec)

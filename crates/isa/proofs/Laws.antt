@@ -11,10 +11,10 @@ use lib.Dec.{T, eqb, leb, eqb→eq}
 use lib.IntN.{ℤ, pos, negsuc}
 use lib.Signed.{mag}
 use Rattle.isa.specs.Immediate.{twos, signed}
-use Rattle.isa.specs.Instr.{Instr, R, F, C, M, R4, I, Shift, S, B, U, J, ADD, SUB, SLL, XOR, SRL, SRA, OR, AND, FSGNJ-D, FSGNJN-D, FSGNJX-D, FMIN-D, FMAX-D, FLE-D, FLT-D, FEQ-D, FADD-D, FSUB-D, FMUL-D, FDIV-D, FSQRT-D, FCVT-W-D, FCVT-L-D, FCVT-D-W, FCVT-D-L, FMV-X-D, FMV-D-X, FMADD-D, FMSUB-D, FNMSUB-D, FNMADD-D, ADDI, XORI, ORI, ANDI, JALR, LD, FLD, SLLI, SRLI, SRAI, SD, FSD, BEQ, BNE, BLT, BGE, BLTU, BGEU, LUI, AUIPC, JAL, BOp, Holds, offset, unsigned, rounding, free, Valid, valid}
+use Rattle.isa.specs.Instr.{Instr, R, F, C, M, R4, I, Shift, S, B, U, J, ADD, SUB, SLL, XOR, SRL, SRA, OR, AND, FSGNJ-D, FSGNJN-D, FSGNJX-D, FMIN-D, FMAX-D, FLE-D, FLT-D, FEQ-D, FADD-D, FSUB-D, FMUL-D, FDIV-D, FSQRT-D, FCVT-W-D, FCVT-L-D, FCVT-D-W, FCVT-D-L, FMV-X-D, FMV-D-X, FMADD-D, FMSUB-D, FNMSUB-D, FNMADD-D, ADDI, XORI, ORI, ANDI, JALR, LD, FLD, SLLI, SRLI, SRAI, SD, FSD, BEQ, BNE, BLT, BGE, BLTU, BGEU, LUI, AUIPC, JAL, BOp, offset, unsigned, rounding, free, valid}
 use Rattle.isa.specs.Encode.{Fields, join, fields, encode}
 use Rattle.isa.specs.Decode.{cut, b-imm, j-imm, reading, checked, decode}
-use Rattle.isa.proofs.Validity.{valid-Valid, Valid-valid}
+use Rattle.isa.proofs.Validity.{Holds, Valid, valid-Valid, Valid-valid}
 use Rattle.base.proofs.Bools.{both}
 
 -- ---- a word's six fields

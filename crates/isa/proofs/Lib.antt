@@ -1,4 +1,5 @@
 pub mod Validity
 pub mod Laws
+pub mod Encodings
 pub mod Words
 pub mod HiLo

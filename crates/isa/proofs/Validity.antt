@@ -1,15 +1,31 @@
 -- Validity and its test say the same. Assumes nothing.
 use mathlib.Core.Path.{_≡_, refl}
-use mathlib.Core.Bool.{Bool, true, false, _&&_}
+use mathlib.Core.Bool.{Bool, true, false, _&&_, _||_}
 use mathlib.Core.List.{List, [], _∷_}
-use Prim.Native.Nat.{ℕ}
+use Prim.Native.Nat.{ℕ, _-_, _%_, _^_, _<_}
 use native.Mathlib.Omega.{arith}
 use borrow.Author.Tests.{ltb-true, eqb-true, lt-ltb, eq-eqb}
-use lib.Dec.{T}
+use lib.Dec.{T, eqb, leb}
 use lib.IntN.{pos, negsuc}
+use lib.Signed.{mag}
+use Rattle.isa.specs.Immediate.{twos}
 use Rattle.base.proofs.Bools.{join, both, T-true, true-T}
-use Rattle.isa.specs.Instr.{Instr, Operand, register, signed, offset, unsigned, rounding, free, fixed, Holds, holds, operands, registers-hold, Valid, valid}
-use Rattle.base.specs.Tests.{all, Each}
+use Rattle.isa.specs.Instr.{Instr, Operand, register, signed, offset, unsigned, rounding, free, fixed, holds, operands, registers-hold, valid}
+use Rattle.base.specs.Tests.{all}
+use Rattle.base.proofs.Each.{Each}
+
+-- what `holds` and `valid` test, as propositions
+abbrev pub Holds : Operand → Type 0
+Holds (register r) = r < 32
+Holds (signed w z) = mag z < 2 ^ (w - 1)
+Holds (offset w z) = (mag z < 2 ^ (w - 1)) × (twos w z % 2 ≡ 0)
+Holds (unsigned w (pos n)) = n < 2 ^ w
+Holds (unsigned w (negsuc n)) = ⊥
+Holds (rounding free m) = T (leb m 4 || eqb m 7)
+Holds (rounding (fixed n) m) = m ≡ n
+
+abbrev pub Valid : Instr → Type 0
+Valid i = Each Holds (operands i)
 
 pub holds-Holds : (o : Operand) → holds o ≡ true → Holds o
 holds-Holds (register r) e = ltb-true _ _ e

@@ -13,6 +13,10 @@ pub record Fields : Type 0 where
   pub rs2 : ℕ  -- bits 24..20
   pub funct7 : ℕ  -- bits 31..25
 
+-- a word's fields from bit 0 up
+abbrev pub layout : (opcode rd funct3 rs1 rs2 funct7 : ℕ) → Fields
+layout o d t a b s = record { opcode = o; rd = d; funct3 = t; rs1 = a; rs2 = b; funct7 = s }
+
 unfoldable pub join : Fields → ℕ
 join G =
     G .opcode + G .rd * 2 ^ 7 + G .funct3 * 2 ^ 12 + G .rs1 * 2 ^ 15 + G .rs2 * 2 ^ 20 + G .funct7 * 2 ^ 25
@@ -106,60 +110,33 @@ j-key JAL = 0b1101111
 -- ---- formats: where the bits of an immediate n go
 
 abbrev pub i-fields : ℕ × ℕ → ℕ → ℕ → ℕ → Fields
-i-fields k rd rs1 n =
-    record { opcode = k .0; rd = rd; funct3 = k .1; rs1 = rs1; rs2 = n % 2 ^ 5; funct7 = n / 2 ^ 5 }
+i-fields k rd rs1 n = layout (k .0) rd (k .1) rs1 (n % 2 ^ 5) (n / 2 ^ 5)
 
 -- imm[4:0] in rd's place, imm[11:5] in funct7's
 abbrev pub s-fields : ℕ → ℕ → ℕ → ℕ → Fields
-s-fields k rs1 rs2 n =
-    record { opcode = k; rd = n % 2 ^ 5; funct3 = 0b011; rs1 = rs1; rs2 = rs2; funct7 = n / 2 ^ 5 }
+s-fields k rs1 rs2 n = layout k (n % 2 ^ 5) 0b011 rs1 rs2 (n / 2 ^ 5)
 
 -- imm[4:1] and imm[11] in rd's place, imm[12] and imm[10:5] in funct7's
 abbrev pub b-fields : ℕ → ℕ → ℕ → ℕ → Fields
 b-fields k rs1 rs2 n =
-    record {
-      opcode = 0b1100011;
-      rd = n / 2 % 2 ^ 4 * 2 + n / 2 ^ 11 % 2;
-      funct3 = k;
-      rs1 = rs1;
-      rs2 = rs2;
-      funct7 = n / 2 ^ 12 * 2 ^ 6 + n / 2 ^ 5 % 2 ^ 6;
-    }
+    layout 0b1100011 (n / 2 % 2 ^ 4 * 2 + n / 2 ^ 11 % 2) k rs1 rs2 (n / 2 ^ 12 * 2 ^ 6 + n / 2 ^ 5 % 2 ^ 6)
 
 -- the 20 bits from bit 12 up
 abbrev pub u-fields : ℕ → ℕ → ℕ → Fields
-u-fields k rd n =
-    record {
-      opcode = k;
-      rd = rd;
-      funct3 = n % 2 ^ 3;
-      rs1 = n / 2 ^ 3 % 2 ^ 5;
-      rs2 = n / 2 ^ 8 % 2 ^ 5;
-      funct7 = n / 2 ^ 13;
-    }
+u-fields k rd n = layout k rd (n % 2 ^ 3) (n / 2 ^ 3 % 2 ^ 5) (n / 2 ^ 8 % 2 ^ 5) (n / 2 ^ 13)
 
 -- imm[20|10:1|11|19:12] from bit 31 down to bit 12
 abbrev pub j-fields : ℕ → ℕ → ℕ → Fields
 j-fields k rd n =
-    record {
-      opcode = k;
-      rd = rd;
-      funct3 = n / 2 ^ 12 % 2 ^ 3;
-      rs1 = n / 2 ^ 15 % 2 ^ 5;
-      rs2 = n / 2 % 2 ^ 4 * 2 + n / 2 ^ 11 % 2;
-      funct7 = n / 2 ^ 20 * 2 ^ 6 + n / 2 ^ 5 % 2 ^ 6;
-    }
+    layout k rd (n / 2 ^ 12 % 2 ^ 3) (n / 2 ^ 15 % 2 ^ 5) (n / 2 % 2 ^ 4 * 2 + n / 2 ^ 11 % 2)
+    (n / 2 ^ 20 * 2 ^ 6 + n / 2 ^ 5 % 2 ^ 6)
 
 unfoldable pub fields : Instr → Fields
-fields (R k rd rs1 rs2) =
-    record { opcode = (r-key k) .0; rd = rd; funct3 = (r-key k) .1; rs1 = rs1; rs2 = rs2; funct7 = (r-key k) .2 }
-fields (F k rd rs1 rs2 rm) =
-    record { opcode = 0b1010011; rd = rd; funct3 = rm; rs1 = rs1; rs2 = rs2; funct7 = f-key k }
-fields (C k rd rs1 rm) =
-    record { opcode = 0b1010011; rd = rd; funct3 = rm; rs1 = rs1; rs2 = (c-key k) .1; funct7 = (c-key k) .0 }
-fields (M k rd rs1) = record { opcode = 0b1010011; rd = rd; funct3 = 0; rs1 = rs1; rs2 = 0; funct7 = m-key k }
-fields (R4 k rd rs1 rs2 rs3 rm) =
-    record { opcode = r4-key k; rd = rd; funct3 = rm; rs1 = rs1; rs2 = rs2; funct7 = rs3 * 2 ^ 2 + 0b01 }
+fields (R k rd rs1 rs2) = layout ((r-key k) .0) rd ((r-key k) .1) rs1 rs2 ((r-key k) .2)
+fields (F k rd rs1 rs2 rm) = layout 0b1010011 rd rm rs1 rs2 (f-key k)
+fields (C k rd rs1 rm) = layout 0b1010011 rd rm rs1 ((c-key k) .1) ((c-key k) .0)
+fields (M k rd rs1) = layout 0b1010011 rd 0 rs1 0 (m-key k)
+fields (R4 k rd rs1 rs2 rs3 rm) = layout (r4-key k) rd rm rs1 rs2 (rs3 * 2 ^ 2 + 0b01)
 fields (I k rd rs1 imm) = i-fields (i-key k) rd rs1 (twos 12 imm)
 fields (Shift k rd rs1 shamt) =
     i-fields (0b0010011, (shift-key k) .0) rd rs1 ((shift-key k) .1 * 2 ^ 6 + twos 6 shamt)

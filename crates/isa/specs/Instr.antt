@@ -1,12 +1,11 @@
 -- The base instructions of RV64I, F and D that macros.rs can write, and which operands each takes.
-use mathlib.Core.Path.{_≡_}
 use mathlib.Core.Bool.{Bool, true, false, _&&_, _||_}
 use mathlib.Core.List.{List, [], _∷_}
-use Prim.Native.Nat.{ℕ, _-_, _%_, _^_, _<_}
-use lib.Dec.{T, eqb, ltb, leb}
+use Prim.Native.Nat.{ℕ, _-_, _%_, _^_}
+use lib.Dec.{eqb, ltb, leb}
 use lib.IntN.{ℤ, pos, negsuc}
 use lib.Signed.{mag}
-use Rattle.base.specs.Tests.{all, Each}
+use Rattle.base.specs.Tests.{all}
 use Rattle.isa.specs.Immediate.{twos}
 
 -- ---- operations, by the shape of their operands
@@ -84,16 +83,6 @@ pub data Operand : Type 0 where
   rounding : Rounding → ℕ → Operand
 
 -- The field holds the operand. `mag z` is n both for n and for -1 - n, so a signed field of w bits holds -2^(w-1)..2^(w-1)-1.
-abbrev pub Holds : Operand → Type 0
-Holds (register r) = r < 32
-Holds (signed w z) = mag z < 2 ^ (w - 1)
-Holds (offset w z) = (mag z < 2 ^ (w - 1)) × (twos w z % 2 ≡ 0)
-Holds (unsigned w (pos n)) = n < 2 ^ w
-Holds (unsigned w (negsuc n)) = ⊥
-Holds (rounding free m) = T (leb m 4 || eqb m 7)
-Holds (rounding (fixed n) m) = m ≡ n
-
--- The same as a test.
 abbrev pub holds : Operand → Bool
 holds (register r) = ltb r 32
 holds (signed w z) = ltb (mag z) (2 ^ (w - 1))
@@ -131,9 +120,6 @@ operands (U k rd imm) = register rd ∷ unsigned 20 imm ∷ []
 operands (J k rd z) = register rd ∷ offset 21 z ∷ []
 
 -- ---- validity: every operand is in its field
-
-abbrev pub Valid : Instr → Type 0
-Valid i = Each Holds (operands i)
 
 abbrev pub valid : Instr → Bool
 valid i = all holds (operands i)

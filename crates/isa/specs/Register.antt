@@ -47,24 +47,6 @@ s4 = 20
 abbrev pub s5 : ℕ
 s5 = 21
 
-abbrev pub s6 : ℕ
-s6 = 22
-
-abbrev pub s7 : ℕ
-s7 = 23
-
-abbrev pub s8 : ℕ
-s8 = 24
-
-abbrev pub s9 : ℕ
-s9 = 25
-
-abbrev pub s10 : ℕ
-s10 = 26
-
-abbrev pub s11 : ℕ
-s11 = 27
-
 -- ---- arguments
 
 abbrev pub a0 : ℕ

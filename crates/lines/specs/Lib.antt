@@ -1,1 +1,2 @@
+-- the reader behind a line
 pub mod Reader

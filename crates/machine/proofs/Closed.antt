@@ -1,7 +1,7 @@
 -- A closed run, fetched from memory word by word, and closed conversions: they compute.
 use mathlib.Core.Path.{_≡_, refl}
 use mathlib.Core.Bool.{cond}
-use mathlib.Core.Option.{some, none, Option·map}
+use mathlib.Core.Option.{some, none, Option·map, bind}
 use mathlib.Core.List.{List, [], _∷_, map}
 use Prim.Native.Nat.{ℕ, _-_, _^_}
 use lib.Dec.{eqb}
@@ -11,10 +11,11 @@ use Rattle.isa.specs.Instr.{Instr, F, C, I, S, B, U, FADD-D, FCVT-D-W, FCVT-D-L
 use Rattle.isa.specs.Encode.{encode, join, fields}
 use Rattle.isa.specs.Decode.{decode, reading, cut}
 use Rattle.machine.specs.Word.{upd, dist, load4, load8, store8}
-use Rattle.machine.specs.Binary64.{binary64}
+use Rattle.machine.proofs.Binary64.{binary64}
 use Rattle.machine.specs.State.{State, setx}
 use Rattle.machine.specs.Effect.{effect, apply}
-use Rattle.machine.specs.Step.{fetch, bytes-of, words, step, run}
+use Rattle.machine.specs.Step.{fetch, words, step}
+use Rattle.machine.proofs.Exec.{bytes-of, run}
 
 -- 3.0 + 2.0 + 1.0: each round calls the function at 44 by an odd address, and stores what is there so far
 unfoldable pub program : List Instr
@@ -52,12 +53,12 @@ seen t = t .pc ∷ t .x 1 ∷ t .x 5 ∷ t .x 10 ∷ t .f 10 ∷ load8 (t .mem) 
 
 -- 29 steps, three rounds of eight among them
 pub ran : Option·map seen (run binary64 29 begin) ≡ some (800 ∷ 20 ∷ 0 ∷ 0x4018000000000000 ∷ 0x4018000000000000 ∷ 0x4018000000000000 ∷ [])
-unfolding seen begin run step fetch decode reading cut encode join fields effect apply setx upd dist load4 load8 store8 binary64
+unfolding seen begin run step fetch decode reading cut encode join fields effect apply setx upd dist load4 load8 store8 binary64 bind
 ran = refl
 
 -- at 800 there is no instruction
 pub stuck : run binary64 30 begin ≡ none
-unfolding begin run step fetch decode reading cut encode join fields effect apply setx upd dist load4 load8 store8 binary64
+unfolding begin run step fetch decode reading cut encode join fields effect apply setx upd dist load4 load8 store8 binary64 bind
 stuck = refl
 
 -- -3.0, 0.0 and 3.0 to whole numbers, in the mode m

@@ -1,3 +1,5 @@
+pub mod Binary64
+pub mod Exec
 pub mod Memory
 pub mod Effects
 pub mod Runs

@@ -5,9 +5,11 @@ use Prim.Native.Nat.{ℕ, zero, suc, _+_, _*_, _^_, _≤_, _<_}
 use native.Mathlib.Nat.{add-assoc, add-zero}
 use native.Mathlib.Omega.{arith}
 use lib.ListN.{length, getD}
-use Rattle.isa.specs.Instr.{Instr, Valid}
+use Rattle.isa.specs.Instr.{Instr}
+use Rattle.isa.proofs.Validity.{Valid}
 use Rattle.machine.specs.Word.{w64, load4, load8}
-use Rattle.machine.specs.Step.{CodeAt, Loaded, bytes-of}
+use Rattle.machine.specs.Step.{CodeAt, Loaded}
+use Rattle.machine.proofs.Exec.{bytes-of}
 use Rattle.machine.proofs.Memory.{wrap-l, dist-ahead, bytes4, Agree, load4-local, load8-two, load4-wrap}
 
 -- ---- parts

@@ -1,12 +1,13 @@
 -- Laws of steps and runs. Assumes nothing.
 use mathlib.Core.Path.{_≡_, refl, subst, sym, _∙_}
 use mathlib.Core.Logic.{_≢_}
-use mathlib.Core.Option.{Option, some, none, Option·map}
+use mathlib.Core.Option.{Option, some, none, Option·map, bind}
 use Prim.Native.Nat.{ℕ, zero, suc, _+_, _%_, _<_}
 use native.Mathlib.Nat.{zero-add, suc-add}
 use native.Mathlib.Omega.{arith}
 use borrow.Author.Tests.{eq-eqb, ne-eqb}
-use Rattle.isa.specs.Instr.{Instr, Valid}
+use Rattle.isa.specs.Instr.{Instr}
+use Rattle.isa.proofs.Validity.{Valid}
 use Rattle.isa.specs.Encode.{encode}
 use Rattle.isa.specs.Decode.{decode}
 use Rattle.isa.proofs.Laws.{decode-encode}
@@ -14,7 +15,8 @@ use Rattle.machine.specs.Word.{load4}
 use Rattle.machine.specs.Floats.{Floats}
 use Rattle.machine.specs.State.{State, Sound}
 use Rattle.machine.specs.Effect.{effect, exec}
-use Rattle.machine.specs.Step.{and-then, fetch, step, Run, stop, go, RunIn, run}
+use Rattle.machine.specs.Step.{fetch, step, Run, stop, go, RunIn}
+use Rattle.machine.proofs.Exec.{run}
 use Rattle.machine.proofs.Effects.{apply-sound, effect-fits}
 
 pub fetch-at : (s : State) → s .pc % 4 ≡ 0 → fetch s ≡ some (load4 (s .mem) (s .pc))
@@ -27,25 +29,25 @@ some-inj s t e = cc
 module _ (Q : Floats) where
   -- A step, where a valid instruction's word stands at a multiple of 4.
   pub step-at : (i : Instr) (s : State) → Valid i → s .pc % 4 ≡ 0 → load4 (s .mem) (s .pc) ≡ encode i → step Q s ≡ some (exec Q i s)
-  unfolding step
+  unfolding step bind
   step-at i s v a e = rw (fetch-at s a, e, decode-encode i v)
 
   -- No step, where pc is no multiple of 4.
   pub step-none : (s : State) → s .pc % 4 ≢ 0 → step Q s ≡ none
-  unfolding step fetch
+  unfolding step fetch bind
   step-none s a = rw (ne-eqb (s .pc % 4) 0 a)
 
   pub run-of : {s u : State} {n : ℕ} → Run Q s n u → run Q n s ≡ some u
-  unfolding run
+  unfolding run bind
   run-of stop = refl
   run-of (go e r) = rw e (run-of r)
 
   pub to-run : (n : ℕ) (s u : State) → run Q n s ≡ some u → Run Q s n u
-  unfolding run
+  unfolding run bind
   to-run zero s u e = subst (Run Q s 0) (some-inj s u e) stop
   to-run (suc n) s u e = by (λ t. to-run n t u) (step Q s) refl e
     where
-      by : ((t : State) → run Q n t ≡ some u → Run Q t n u) → (o : Option State) → step Q s ≡ o → and-then o (run Q n) ≡ some u → Run Q s (suc n) u
+      by : ((t : State) → run Q n t ≡ some u → Run Q t n u) → (o : Option State) → step Q s ≡ o → bind o (run Q n) ≡ some u → Run Q s (suc n) u
       by h (some t) p q = go p (h t q)
       by h none p q = let z : _≡_ {A = ℕ} 0 1 = cc in absurd (omega arith)
 
@@ -78,8 +80,8 @@ module _ (Q : Floats) where
   run-unique {t = t} {u = u} p q = some-inj t u (sym (run-of p) ∙ run-of q)
 
   pub step-sound : (s t : State) → step Q s ≡ some t → Sound s → Sound t
-  unfolding step
-  step-sound s t e w = by (and-then (fetch s) decode) e
+  unfolding step bind
+  step-sound s t e w = by (bind (fetch s) decode) e
     where
       by : (o : Option Instr) → Option·map (λ i. exec Q i s) o ≡ some t → Sound t
       by (some i) q = subst Sound (some-inj (exec Q i s) t q) (apply-sound (effect Q i s) s (effect-fits Q i s w) w)

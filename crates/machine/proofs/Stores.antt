@@ -13,7 +13,8 @@ use Rattle.machine.specs.Word.{dist, store8}
 use Rattle.machine.specs.Floats.{Floats}
 use Rattle.machine.specs.State.{State, next}
 use Rattle.machine.specs.Effect.{Effect, write-x, write-f, store, jump, apply, effect, exec}
-use Rattle.machine.specs.Step.{CodeAt, words, Among, RunIn, execs, Fit}
+use Rattle.machine.specs.Step.{CodeAt, words, Among, RunIn}
+use Rattle.machine.proofs.Exec.{execs, Fit}
 use Rattle.machine.proofs.Memory.{dist-ahead, inside, store-miss}
 use Rattle.machine.proofs.Effects.{flows, apply-pc}
 use Rattle.machine.proofs.Runs.{step-at, no-step, one-more, wider}

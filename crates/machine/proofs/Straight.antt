@@ -12,7 +12,8 @@ use Rattle.machine.specs.Word.{w64, load4}
 use Rattle.machine.specs.Floats.{Floats}
 use Rattle.machine.specs.State.{State, Sound, next}
 use Rattle.machine.specs.Effect.{Effect, effect, exec}
-use Rattle.machine.specs.Step.{CodeAt, words, Among, RunIn, execs, Fit}
+use Rattle.machine.specs.Step.{CodeAt, words, Among, RunIn}
+use Rattle.machine.proofs.Exec.{execs, Fit}
 use Rattle.machine.specs.Ends.{Ends}
 use Rattle.machine.proofs.Effects.{flows, quiet, within, quiet-flows, apply-pc, apply-mem, apply-rm, apply-x}
 use Rattle.base.proofs.Bools.{and-l, and-r}

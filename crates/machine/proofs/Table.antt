@@ -1,7 +1,7 @@
 -- `step` gives what an outside machine gave: one computed test over the rows of `Rows`.
 use mathlib.Core.Path.{_≡_, refl}
 use mathlib.Core.Bool.{Bool, true, false, _&&_, cond}
-use mathlib.Core.Option.{Option, some, none}
+use mathlib.Core.Option.{Option, some, none, bind}
 use mathlib.Core.List.{List, [], _∷_, _++_, map}
 use Prim.Native.Nat.{ℕ, zero, suc, _+_, _-_, _/_, _%_, _^_}
 use lib.Dec.{T, eqb, ltb, leb}
@@ -9,10 +9,10 @@ use Rattle.isa.specs.Encode.{encode, join, fields}
 use Rattle.isa.specs.Decode.{decode, reading, cut}
 use Rattle.machine.specs.Word.{upd, dist, load4, load8, store8}
 use Rattle.machine.specs.Floats.{Floats}
-use Rattle.machine.specs.Binary64.{binary64}
+use Rattle.machine.proofs.Binary64.{binary64}
 use Rattle.machine.specs.State.{State, setx}
 use Rattle.machine.specs.Effect.{access, effect, apply}
-use Rattle.machine.specs.Step.{and-then, fetch, step}
+use Rattle.machine.specs.Step.{fetch, step}
 use Rattle.machine.proofs.Rows.{Row, row, Change, reg, freg, bytes, whole, shifts, jumps, memory, parts, moves, sums, products, roots, comparisons, conversions, stopped, asked-f, asked-x}
 
 -- ---- the state before
@@ -97,14 +97,14 @@ inner = whole ++ (shifts ++ (jumps ++ (moves ++ (sums ++ (products ++ (roots ++ 
 
 -- Every row: the step is what the outside machine made.
 pub rows-agree : T (every agrees (memory ++ (parts ++ inner)))
-unfolding memory parts whole shifts jumps moves sums products roots comparisons conversions step fetch decode reading cut encode join fields effect apply setx upd dist load4 load8 store8 binary64
+unfolding memory parts whole shifts jumps moves sums products roots comparisons conversions step fetch decode reading cut encode join fields effect apply setx upd dist load4 load8 store8 binary64 bind
 rows-agree = tt
 
 -- ---- what is accessed
 
 -- the address that the row's instruction reads or writes, if any
 abbrev accessed : Row → Option ℕ
-accessed r = and-then (and-then (fetch (start r)) decode) (λ i. access i (start r))
+accessed r = bind (bind (fetch (start r)) decode) (λ i. access i (start r))
 
 abbrev at-cell : Row → Option ℕ → Bool
 at-cell r none = false
@@ -112,18 +112,18 @@ at-cell (row w pc rm xs fs c pc′ cs) (some a) = eqb a (c .0)
 
 -- `access` names the cell in every load and store, and nothing in the other rows.
 pub cells-accessed : T (every (λ r. at-cell r (accessed r)) memory)
-unfolding memory access fetch decode reading cut encode join fields load4
+unfolding memory access fetch decode reading cut encode join fields load4 bind
 cells-accessed = tt
 
 pub nothing-accessed : T (every (λ r. is-none (accessed r)) inner)
-unfolding whole shifts jumps moves sums products roots comparisons conversions access fetch decode reading cut encode join fields load4
+unfolding whole shifts jumps moves sums products roots comparisons conversions access fetch decode reading cut encode join fields load4 bind
 nothing-accessed = tt
 
 -- ---- no next state
 
 -- Every word and pc of `stopped`: there is no step.
 pub stopped-stop : T (every (λ p. is-none (step binary64 (start (row (p .0) (p .1) 0 [] [] (0, 0) 0 [])))) stopped)
-unfolding stopped step fetch decode reading cut encode join fields load4
+unfolding stopped step fetch decode reading cut encode join fields load4 bind
 stopped-stop = tt
 
 -- ---- any `Floats`: the rows leave open which mode and which order of operands a sum is asked with
@@ -139,9 +139,9 @@ module _ (Q : Floats) where
 
   -- Each float instruction asks the function that the Manual names, with its operands in order and in the mode of its rounding field.
   pub asked-f-is : map (λ p. found (λ t. t .f 5) (p .0) (p .1)) asked-f ≡ map (λ p. (p .2) Q) asked-f
-  unfolding asked-f step fetch decode reading cut encode join fields effect apply upd load4
+  unfolding asked-f step fetch decode reading cut encode join fields effect apply upd load4 bind
   asked-f-is = refl
 
   pub asked-x-is : map (λ p. found (λ t. t .x 5) (p .0) (p .1)) asked-x ≡ map (λ p. (p .2) Q) asked-x
-  unfolding asked-x step fetch decode reading cut encode join fields effect apply setx upd load4
+  unfolding asked-x step fetch decode reading cut encode join fields effect apply setx upd load4 bind
   asked-x-is = refl

@@ -32,10 +32,7 @@ pub record Floats : Type 0 where
   pub to-l : ℕ → ℕ → ℕ  -- a float to one of 64 bits
   pub of-w : ℕ → ℕ → ℕ  -- a signed whole number of 32 bits to a float
   pub of-l : ℕ → ℕ → ℕ  -- one of 64 bits to a float
-  -- 0, 1 and -1 convert to 0.0, 1.0 and -1.0, at every rounding
+  -- 0, 1 and -1 of 32 bits convert to 0.0, 1.0 and -1.0, at every rounding (document 01 grants it of 64 bits too; nothing needs it)
   pub of-w-zero : (m : ℕ) → m ≤ 4 → of-w m 0 ≡ 0
   pub of-w-one : (m : ℕ) → m ≤ 4 → of-w m 1 ≡ one
   pub of-w-minus-one : (m : ℕ) → m ≤ 4 → of-w m (2 ^ 32 - 1) ≡ minus-one
-  pub of-l-zero : (m : ℕ) → m ≤ 4 → of-l m 0 ≡ 0
-  pub of-l-one : (m : ℕ) → m ≤ 4 → of-l m 1 ≡ one
-  pub of-l-minus-one : (m : ℕ) → m ≤ 4 → of-l m (2 ^ 64 - 1) ≡ minus-one

@@ -1,24 +1,18 @@
 -- Steps and runs of the machine, and code in memory.
 use mathlib.Core.Path.{_≡_}
 use mathlib.Core.Bool.{cond}
-use mathlib.Core.Option.{Option, some, none, Option·map}
+use mathlib.Core.Option.{Option, some, none, Option·map, bind}
 use mathlib.Core.List.{List, [], _∷_, map}
-use Prim.Native.Nat.{ℕ, zero, suc, _+_, _*_, _/_, _%_, _^_, _<_}
+use Prim.Native.Nat.{ℕ, suc, _+_, _*_, _%_, _<_}
 use lib.Dec.{eqb}
 use lib.ListN.{length, getD}
-use Rattle.isa.specs.Instr.{Instr, Valid}
+use Rattle.isa.specs.Instr.{Instr}
 use Rattle.isa.specs.Encode.{encode}
 use Rattle.isa.specs.Decode.{decode}
 use Rattle.machine.specs.Word.{w64, load4}
 use Rattle.machine.specs.Floats.{Floats}
 use Rattle.machine.specs.State.{State}
 use Rattle.machine.specs.Effect.{exec}
-
--- what f makes of the value, if there is one
-module _ {X Y : Type 0} where
-  abbrev pub and-then : Option X → (X → Option Y) → Option Y
-  and-then (some x) f = f x
-  and-then none f = none
 
 -- The word at pc; none where pc is no multiple of 4.
 unfoldable pub fetch : State → Option ℕ
@@ -42,15 +36,10 @@ Among a n x = (k : ℕ) × (k < n) × (x ≡ w64 (a + 4 * k))
 abbrev pub Loaded : (ℕ → ℕ) → ℕ → List ℕ → Type 0
 Loaded m a bs = (k : ℕ) → k < length bs → m (w64 (a + k)) ≡ getD bs k 0
 
--- the bytes of words, little-endian
-unfoldable pub bytes-of : List ℕ → List ℕ
-bytes-of [] = []
-bytes-of (w ∷ ws) = w % 256 ∷ w / 2 ^ 8 % 256 ∷ w / 2 ^ 16 % 256 ∷ w / 2 ^ 24 % 256 ∷ bytes-of ws
-
 module _ (Q : Floats) where
   -- One step: no next state where pc is no multiple of 4 or the word there is no instruction.
   unfoldable pub step : State → Option State
-  step s = Option·map (λ i. exec Q i s) (and-then (fetch s) decode)
+  step s = Option·map (λ i. exec Q i s) (bind (fetch s) decode)
 
   -- n steps lead from one state to another
   pub data Run : State → ℕ → State → Type 0 where
@@ -61,19 +50,3 @@ module _ (Q : Floats) where
   pub record RunIn (C : ℕ → Type 0) (s : State) (n : ℕ) (t : State) : Type 0 where
     pub runs : Run s n t
     pub inside : (k : ℕ) (u : State) → k < n → Run s k u → C (u .pc)
-
-  -- the state after n steps
-  unfoldable pub run : ℕ → State → Option State
-  run zero s = some s
-  run (suc n) s = and-then (step s) (run n)
-
-  -- ---- instructions one after another, wherever their words stand
-
-  abbrev pub execs : List Instr → State → State
-  execs [] s = s
-  execs (i ∷ is) s = execs is (exec Q i s)
-
-  -- What the machine asks of instructions done from a state on.
-  abbrev pub Fit : List Instr → State → Type 0
-  Fit [] s = Unit {0}
-  Fit (i ∷ is) s = Valid i × Fit is (exec Q i s)

@@ -13,7 +13,7 @@ use Rattle.machine.specs.Word.{upd}
 use Rattle.machine.specs.Floats.{Floats}
 use Rattle.machine.specs.State.{State, Sound, setx}
 use Rattle.machine.specs.Effect.{effect, apply}
-use Rattle.machine.specs.Step.{execs}
+use Rattle.machine.proofs.Exec.{execs}
 use Rattle.machine.specs.Ends.{temporary}
 use Rattle.machine.proofs.Straight.{straight}
 use Rattle.machine.proofs.Placed.{Valids}

@@ -4,7 +4,7 @@ use mathlib.Core.List.{[], _∷_}
 use Prim.Native.Nat.{ℕ, _*_}
 use Rattle.machine.specs.Floats.{Floats}
 use Rattle.machine.specs.State.{State}
-use Rattle.ast.specs.Constant.{constant-label, last-constant}
+use Rattle.ast.specs.Constant.{constant-label}
 use Rattle.ast.specs.declared.Order.{Order}
 use Rattle.ast.specs.declared.Order.the-variants.{Unary, Scratched, Binary, Fused, Ifelse, LoadConst, Load, Save, BranchIf, SetLabel}
 use Rattle.accesses.specs.Fault.{offset-limit}
@@ -36,7 +36,7 @@ module _ (Q : Floats) (places : ℕ → ℕ) (g : Placed places) (start here : �
       let r = checked-below (d ∷ a ∷ b ∷ []) (8 * i) offset-limit 1 h in
       ifelse-does places start here s Q d a b i (r .0 .0) (r .0 .1 .0) (r .0 .1 .1 .0) (r .1) o
   by-case (LoadConst d k) h o =
-      let r = checked-below (d ∷ []) k last-constant 8 h in
+      let r = checked-below (d ∷ []) k 1007 8 h in
       const-does places start here s Q g d (constant-label k) (r .0 .0) o
   by-case (Load d p i) h o =
       let r = checked-below (d ∷ []) (8 * i) offset-limit 1 h in

@@ -20,7 +20,7 @@ use Rattle.machine.proofs.Straight.{by-straight, ends-join}
 use Rattle.ast.specs.declared.Place.{Place}
 use Rattle.ast.specs.declared.Place.the-variants.{Mem, Stack, Param}
 use Rattle.assembler.specs.Item.{instr}
-use Rattle.accesses.specs.Code.{near-one, load-float-code, save-float-code, load-int-code}
+use Rattle.accesses.specs.Code.{near, load-float-code, save-float-code, load-int-code}
 use Rattle.accesses.specs.Fault.{offset-limit, one-fault}
 use Rattle.accesses.specs.Stands.{Stands, Goes, behind, cell-at, with-t0}
 use Rattle.accesses.proofs.Then.{fits, stands-first, stands-second}
@@ -41,7 +41,7 @@ base-fits Param = (omega arith, refl)
 pub cell-accepted : (d : ℕ) (p : Place) (n : ℕ) → d < 32 → n ≤ offset-limit → one-fault d (base p) n ≡ 0
 cell-accepted d p n hd hn =
     let b = base-fits p in
-    rw (lt-ltb d 32 hd, lt-ltb (base p) 32 (b .0), le-leb n offset-limit hn, b .1) (by (ltb n near-one))
+    rw (lt-ltb d 32 hd, lt-ltb (base p) 32 (b .0), le-leb n offset-limit hn, b .1) (by (ltb n near))
   where
     by : (t : Bool) → _≡_ {A = ℕ} (cond (t || true) 0 10) 0
     by true = refl
@@ -53,8 +53,8 @@ t0-temporary : (r : ℕ) → T (not (temporary r)) → r ≢ 5
 unfolding temporary
 t0-temporary r h e = rw e at h
 
-t0-kept : (near b n : ℕ) (s : State) (r : ℕ) → T (not (temporary r)) → with-t0 near b n s r ≡ s .x r
-t0-kept near b n s r h = by (ltb n near)
+t0-kept : (limit b n : ℕ) (s : State) (r : ℕ) → T (not (temporary r)) → with-t0 limit b n s r ≡ s .x r
+t0-kept limit b n s r h = by (ltb n limit)
   where
     by : (t : Bool) → cond t (s .x) (setx (s .x) 5 (cell-at s b n)) r ≡ s .x r
     by true = refl
@@ -70,14 +70,14 @@ module _ (places : ℕ → ℕ) (start here : ℕ) (s : State) (Q : Floats) wher
   load-does d p i hd hi o =
       let is : List Instr = load-float-code d (base p) (8 * i) in
       goes-on places start here s is o Q _ _
-      (kept-ends Q s is (with-t0 near-one (base p) (8 * i) s) _ _ (t0-kept near-one (base p) (8 * i) s)
+      (kept-ends Q s is (with-t0 near (base p) (8 * i) s) _ _ (t0-kept near (base p) (8 * i) s)
       (load-float-runs d (base p) (8 * i) (cell-accepted d p (8 * i) hd hi) Q s (at-stands places start here s is o)))
 
   pub save-does : (d : ℕ) (p : Place) (i : ℕ) → d < 32 → 8 * i ≤ offset-limit → At places start here (map instr (save-float-code d (base p) (8 * i))) s → Done places start Q here (map instr (save-float-code d (base p) (8 * i))) s (s .f) (store8 (s .mem) (cell s p i) (s .f d)) on
   save-does d p i hd hi o =
       let is : List Instr = save-float-code d (base p) (8 * i) in
       goes-on places start here s is o Q _ _
-      (kept-ends Q s is (with-t0 near-one (base p) (8 * i) s) _ _ (t0-kept near-one (base p) (8 * i) s)
+      (kept-ends Q s is (with-t0 near (base p) (8 * i) s) _ _ (t0-kept near (base p) (8 * i) s)
       (save-float-runs d (base p) (8 * i) (cell-accepted d p (8 * i) hd hi) Q s (at-stands places start here s is o)))
 
   -- one list behind another, the first to a state that is known
@@ -96,7 +96,7 @@ module _ (places : ℕ → ℕ) (start here : ℕ) (s : State) (Q : Floats) wher
       let is : List Instr = load-int-code 5 (base Stack) (8 * i) in
       let js : List Instr = choose-code d a b in
       let v : ℕ = cell-value s Stack i in
-      let w : ℕ → ℕ = with-t0 near-one (base Stack) (8 * i) s in
+      let w : ℕ → ℕ = with-t0 near (base Stack) (8 * i) s in
       let x : ℕ → ℕ = setx w 5 v in
       let st : Stands (is ++ js) s = at-stands places start here s (is ++ js) o in
       let r = load-int-runs 5 (base Stack) (8 * i) (cell-accepted 5 Stack (8 * i) (omega arith) hi) Q s (stands-first Q is js s x (s .f) st) in
@@ -104,6 +104,6 @@ module _ (places : ℕ → ℕ) (start here : ℕ) (s : State) (Q : Floats) wher
       let c = chosen 64 v (s .f a) (s .f b) (load8-small (s .mem) (cell s Stack i) (o .sound .mem)) (o .sound .f a) (o .sound .f b) in
       goes-on places start here s (is ++ js) o Q _ _
       (both-end is js x (s .f) _ _
-      (λ k h. setx-other w 5 v k (t0-temporary k h) ∙ t0-kept near-one (base Stack) (8 * i) s k h)
+      (λ k h. setx-other w 5 v k (t0-temporary k h) ∙ t0-kept near (base Stack) (8 * i) s k h)
       r
       (by-straight Q temporary js _ _ _ (fits Q js (behind is s x (s .f) (s .mem)) (omega arith)) tt (u .sound) (u .aligned) (u .code) (rw c) refl))

@@ -6,28 +6,37 @@ use Prim.Native.Nat.{ℕ, suc, _+_, _*_, _%_, _≤_, _<_}
 use native.Mathlib.Nat.{le-refl}
 use native.Mathlib.Omega.{arith}
 use lib.Dec.{T, ltb, leb, ltb→lt, leb→le}
+use lib.IntN.{subℕ}
 use lib.ListN.{length, length-map}
 use Rattle.isa.specs.Instr.{Instr}
 use Rattle.isa.specs.Encode.{encode}
 use Rattle.machine.specs.Word.{w64}
 use Rattle.machine.specs.Floats.{Floats}
 use Rattle.machine.specs.State.{State}
-use Rattle.machine.specs.Step.{execs}
+use Rattle.machine.proofs.Exec.{execs}
 use Rattle.machine.specs.Ends.{temporary, Ends}
 use Rattle.base.proofs.Bools.{and-l, and-r, passed}
 use Rattle.machine.proofs.Straight.{straight, by-straight}
 use Rattle.machine.proofs.Placed.{Valids}
-use Rattle.assembler.specs.Item.{Item, instr}
+use Rattle.assembler.specs.Item.{Item, instr, raw, jump, label}
+use Rattle.assembler.specs.Jump.{jump-instr}
 use Rattle.assembler.specs.Resolved.{resolved}
 pub use Rattle.assembler.proofs.Items.{resolved-instrs}
 use Rattle.accesses.specs.Stands.{Stands}
 use Rattle.accesses.proofs.Then.{fits}
 use Rattle.reading.specs.Meaning.{on}
-use Rattle.orders.specs.Code.{resolve}
 use Rattle.ast.specs.Uses.{registers-fit}
 use Rattle.orders.specs.Does.{At, Done}
 
 -- ---- instructions as items
+
+-- The instructions of items of which the first is at `here`, once every label has its place. (Items of an order are no raw words.)
+unfoldable pub resolve : (places : ℕ → ℕ) → (here : ℕ) → List Item → List Instr
+resolve places here [] = []
+resolve places here (instr i ∷ is) = i ∷ resolve places (here + 4) is
+resolve places here (raw w ∷ is) = resolve places (here + 4) is
+resolve places here (jump k l r ∷ is) = jump-instr k r (subℕ (places l) here) ∷ resolve places (here + 4) is
+resolve places here (label l ∷ is) = resolve places here is
 
 pub resolve-instrs : (places : ℕ → ℕ) (here : ℕ) (is : List Instr) → resolve places here (map instr is) ≡ is
 unfolding resolve

@@ -8,7 +8,8 @@ use lib.Dec.{eqb}
 use lib.IntN.{ℤ, pos, subℕ}
 use lib.Signed.{mag}
 use Rattle.isa.specs.Immediate.{twos, hi, lo}
-use Rattle.isa.specs.Instr.{Instr, Valid, M, I, B, U, BOp, FMV-X-D, JALR, FLD, AUIPC}
+use Rattle.isa.specs.Instr.{Instr, M, I, B, U, BOp, FMV-X-D, JALR, FLD, AUIPC}
+use Rattle.isa.proofs.Validity.{Valid}
 use Rattle.isa.proofs.HiLo.{lo-fits, hi-fits}
 use Rattle.machine.specs.Word.{w64, upd, load8}
 use Rattle.machine.specs.Floats.{Floats}

@@ -8,21 +8,21 @@ use lib.ListN.{length, length-append}
 use Rattle.isa.specs.Instr.{Instr, I, S, LD, FLD, FSD}
 use Rattle.machine.specs.Step.{words}
 use Rattle.machine.proofs.Placed.{Valids}
-use Rattle.ast.specs.Constant.{constant-label, last-constant}
+use Rattle.ast.specs.Constant.{constant-label}
 use Rattle.ast.specs.declared.Order.{Order}
 use Rattle.ast.specs.declared.Order.the-variants.{Unary, Scratched, Binary, Fused, Ifelse, LoadConst, Load, Save, BranchIf, SetLabel}
 use Rattle.ast.specs.declared.Place.the-variants.{Stack}
 use Rattle.assembler.specs.Item.{instr}
 use Rattle.assembler.specs.Resolved.{resolved}
-use Rattle.accesses.specs.Code.{near-one, load-float-code, save-float-code, load-int-code}
+use Rattle.accesses.specs.Code.{near, load-float-code, save-float-code, load-int-code}
 use Rattle.accesses.specs.Fault.{offset-limit}
 use Rattle.accesses.proofs.Then.{valids-join}
 use Rattle.accesses.proofs.Runs.{access-length, load-float-valid, save-float-valid, load-int-valid}
 use Rattle.reading.specs.Line.{Line, order, constant, weight}
-use Rattle.ast.specs.Uses.{order-weight}
-use Rattle.orders.specs.Code.{base, unary-code, scratched-code, binary-code, fused-code, choose-code, skip, code, line-code, resolve}
+use Rattle.ast.specs.Uses.{sets, weighs}
+use Rattle.orders.specs.Code.{base, unary-code, scratched-code, binary-code, fused-code, choose-code, skip, code, line-code}
 use Rattle.orders.specs.Fault.{fault, last-user-label}
-use Rattle.orders.proofs.Items.{resolve-instrs, resolved-instrs, resolved-length, registers-below, checked-below}
+use Rattle.orders.proofs.Items.{resolve, resolve-instrs, resolved-instrs, resolved-length, registers-below, checked-below}
 use Rattle.orders.proofs.Arithmetic.{unary-valid, scratched-valid, binary-valid, fused-valid, unary-length, scratched-length, binary-length}
 use Rattle.orders.proofs.Cells.{cell-accepted}
 use Rattle.orders.proofs.Jumps.{const-valid, branch-valid}
@@ -71,7 +71,7 @@ module _ (places : ℕ → ℕ) (here : ℕ) where
       instrs-valid (is ++ choose-code d a b)
       (valids-join is (choose-code d a b) (load-int-valid 5 (base Stack) (8 * i) (cell-accepted 5 Stack (8 * i) (omega arith) (r .1))) (omega arith))
   code-valid (LoadConst d k) h =
-      let r = checked-below (d ∷ []) k last-constant 8 h in
+      let r = checked-below (d ∷ []) k 1007 8 h in
       const-valid places here d (constant-label k) (r .0 .0)
   code-valid (Load d p i) h =
       let r = checked-below (d ∷ []) (8 * i) offset-limit 1 h in
@@ -89,7 +89,7 @@ module _ (places : ℕ → ℕ) (here : ℕ) where
   instrs-length : (is : List Instr) → length is ≤ 11 → length (resolved places here (map instr is)) ≤ 11
   instrs-length is h = rw (resolved-length places here is) h
 
-  pub code-length : (o : Order) → length (resolved places here (code o)) ≤ 11 * order-weight o
+  pub code-length : (o : Order) → length (resolved places here (code o)) ≤ 11 * weighs (sets o)
   unfolding code resolved
   code-length (Unary k d s) = instrs-length (unary-code k d s) (unary-length k d s)
   code-length (Scratched k d s t) = instrs-length (scratched-code k d s t) (scratched-length k d s t)
@@ -98,14 +98,14 @@ module _ (places : ℕ → ℕ) (here : ℕ) where
   code-length (Ifelse d a b i) =
       let is : List Instr = load-int-code 5 (base Stack) (8 * i) in
       instrs-length (is ++ choose-code d a b)
-      (omega (arith, length-append is (choose-code d a b), access-length near-one (λ b n. I LD 5 b (pos n) ∷ []) (base Stack) (8 * i) 1 (omega arith) (omega arith)))
+      (omega (arith, length-append is (choose-code d a b), access-length near (λ b n. I LD 5 b (pos n) ∷ []) (base Stack) (8 * i) 1 (omega arith) (omega arith)))
   code-length (LoadConst d k) = omega arith
   code-length (Load d p i) =
       instrs-length (load-float-code d (base p) (8 * i))
-      (omega (arith, access-length near-one (λ b n. I FLD d b (pos n) ∷ []) (base p) (8 * i) 1 (omega arith) (omega arith)))
+      (omega (arith, access-length near (λ b n. I FLD d b (pos n) ∷ []) (base p) (8 * i) 1 (omega arith) (omega arith)))
   code-length (Save s p i) =
       instrs-length (save-float-code s (base p) (8 * i))
-      (omega (arith, access-length near-one (λ b n. S FSD b s (pos n) ∷ []) (base p) (8 * i) 1 (omega arith) (omega arith)))
+      (omega (arith, access-length near (λ b n. S FSD b s (pos n) ∷ []) (base p) (8 * i) 1 (omega arith) (omega arith)))
   code-length (BranchIf c l e) = omega arith
   code-length (SetLabel l) = omega arith
 

@@ -32,23 +32,23 @@ use Rattle.assembler.proofs.Steps.{put-done}
 use Rattle.assembler.proofs.Writes.{length-written}
 use Rattle.accesses.specs.Fault.{offset-limit}
 use Rattle.base.proofs.Bools.{passed}
-use Rattle.ast.specs.Uses.{uses, padded, index-holds, saves-hold, sets, weighs, order-weight, registers-fit}
+use Rattle.ast.specs.Uses.{uses, padded, index-holds, saves-hold, sets, weighs, registers-fit}
 use Rattle.ast.specs.declared.Operand.{Operand}
 use Rattle.ast.specs.declared.Operand.the-variants.{Nothing, Loaded, Stored, Constant, GoneTo, Set}
 use Rattle.ast.specs.declared.View.{View}
 use Rattle.ast.specs.declared.Head.{Head}
 use Rattle.ast.specs.declared.Order.{Order}
 use Rattle.ast.specs.declared.Order.the-variants.{Unary, Scratched, Binary, Fused, Ifelse, LoadConst, Load, Save, BranchIf, SetLabel}
-use Rattle.orders.specs.Code.{code, resolve}
+use Rattle.orders.specs.Code.{code}
 use Rattle.orders.specs.Emitted.{emitted, turned-down, emitted-in}
 use Rattle.orders.specs.Fault.{operand-fault, fault, last-user-label}
-use Rattle.ast.specs.Constant.{last-constant}
-use Rattle.orders.specs.Parts.{instrs, rest-items, behind-operand, rest-of, rest-fault}
+use Rattle.orders.specs.Inner.Parts.{instrs, behind-operand, rest-of}
 use Rattle.orders.specs.declared.Rest.{Rest}
 use Rattle.orders.specs.declared.Rest.the-variants.{Jumps, Label, Alone}
-use Rattle.orders.specs.Wrote.{word, Puts}
+use Rattle.orders.specs.Wrote.{word}
+use Rattle.orders.specs.Inner.Wrote.{Puts}
 use Rattle.orders.proofs.Wrote.{words-valid}
-use Rattle.orders.proofs.Items.{below}
+use Rattle.orders.proofs.Items.{resolve, below}
 use Rattle.orders.proofs.Laws.{code-valid, code-length}
 
 -- ---- refusals
@@ -78,7 +78,7 @@ abbrev pub Small : Operand → Type 0
 Small Nothing = Unit {0}
 Small (Loaded p i) = 8 * i ≤ offset-limit
 Small (Stored p i) = 8 * i ≤ offset-limit
-Small (Constant k) = k ≤ last-constant
+Small (Constant k) = k ≤ 1007
 Small (GoneTo l) = l ≤ last-user-label
 Small (Set l) = l ≤ last-user-label
 
@@ -89,7 +89,7 @@ small : (x : Operand) → operand-fault x ≡ 0 → Small x
 small Nothing h = tt
 small (Loaded p i) h = within (8 * i) offset-limit 1 h
 small (Stored p i) h = within (8 * i) offset-limit 1 h
-small (Constant k) h = within k last-constant 8 h
+small (Constant k) h = within k 1007 8 h
 small (GoneTo l) h = within l last-user-label 2 h
 small (Set l) h = within l last-user-label 2 h
 
@@ -100,12 +100,12 @@ operands-fit o h = passed (registers-fit (uses o .registers)) _ _ h
 pub order-small : (o : Order) {x : Operand} → fault o ≡ 0 → uses o .operand ≡ x → Small x
 order-small o {x} h e = small x (ap operand-fault (sym e) ∙ (operands-fit o h) .1)
 
-pub const-fits : (d k : ℕ) → (d < 32) × (k ≤ last-constant) → jump-fault (1024 + k) d ≡ 0
+pub const-fits : (d k : ℕ) → (d < 32) × (k ≤ 1007) → jump-fault (1024 + k) d ≡ 0
 const-fits d k h =
     let l : 1024 + k < 2039 = omega (arith, h .1) in
     rw (lt-ltb d 32 (h .0), lt-ltb (1024 + k) 2039 l)
 
-pub const-small : (o : Order) (u : View) {k : ℕ} → fault o ≡ 0 → u ≡ padded (uses o) → u .operand ≡ Constant k → k ≤ last-constant
+pub const-small : (o : Order) (u : View) {k : ℕ} → fault o ≡ 0 → u ≡ padded (uses o) → u .operand ≡ Constant k → k ≤ 1007
 const-small o u {k} h e x = order-small o {x = Constant k} h (sym (ap (λ (v : View). v .operand) e) ∙ x)
 
 pub label-fits : (l : ℕ) → l ≤ last-user-label → label-fault l ≡ 0
@@ -117,6 +117,17 @@ unfolding put placed place
 put-label t u f l s = refl
 
 -- ---- the instructions of an order, and what stands behind them
+
+-- jumps, or a label
+abbrev pub rest-items : Rest → List Item
+rest-items (Jumps t) = tail-items t
+rest-items (Label l) = label l ∷ []
+rest-items (Alone t) = tail-items t
+
+abbrev pub rest-fault : Rest → ℕ
+rest-fault (Jumps t) = tail-fault t
+rest-fault (Label l) = label-fault l
+rest-fault (Alone t) = tail-fault t
 
 pub rest-right : (o : Order) → code o ≡ map instr (instrs o) ++ rest-items (rest-of o)
 unfolding code
@@ -194,7 +205,7 @@ light (some l) = omega arith
 -- an order's instructions and k words behind them
 together : (o : Order) (js : List Item) (k : ℕ) → code o ≡ map instr (instrs o) ++ js → ((here : ℕ) → k ≤ length (resolved nowhere here js)) → length (instrs o) + k ≤ 11
 together o js k g h =
-    let e : length (resolved nowhere 0 (map instr (instrs o) ++ js)) ≤ 11 * order-weight o = rw g at (code-length nowhere 0 o) in
+    let e : length (resolved nowhere 0 (map instr (instrs o) ++ js)) ≤ 11 * weighs (sets o) = rw g at (code-length nowhere 0 o) in
     omega (arith, e, front-length nowhere js k h 0 (instrs o), light (sets o))
 
 pub order-short : (o : Order) → length (instrs o) ≤ 11

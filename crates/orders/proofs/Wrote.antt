@@ -22,10 +22,12 @@ use Rattle.encoder.proofs.Answers.{good, bad-value, bad-register}
 use Rattle.assembler.specs.Bytes.{bytes, written, room}
 use Rattle.assembler.proofs.Writes.{written-is, written-none, written-then}
 use Rattle.accesses.specs.Code.{point-code, access-code}
-use Rattle.accesses.specs.Plans.{answer-of, word-of, access-instr, one-code}
+use Rattle.accesses.specs.Plans.{answer-of, word-of, access-instr}
+use Rattle.accesses.specs.Inner.Plans.{one-code}
 use Rattle.accesses.specs.declared.Cell.{Cell}
 use Rattle.accesses.proofs.Collect.{answered, li-far, word as answers-word}
-use Rattle.orders.specs.Wrote.{word, no-room, roomy, offset, Puts, Fits, Is, far-code}
+use Rattle.orders.specs.Wrote.{word, no-room, roomy, offset}
+use Rattle.orders.specs.Inner.Wrote.{Puts, Fits, Is, far-code}
 
 -- words written at the start
 start-written : (b ws : List ℕ) → 4 * length ws ≤ length b → written b 0 ws ≡ bytes ws ++ drop (4 * length ws) b

@@ -1,9 +1,9 @@
 -- The instructions of each order (document 01, "mod.rs, orders").
 use mathlib.Core.Bool.{Bool, cond}
 use mathlib.Core.List.{List, [], _∷_, _++_, map}
-use Prim.Native.Nat.{ℕ, _+_, _*_}
+use Prim.Native.Nat.{ℕ, _*_}
 use lib.Dec.{eqb}
-use lib.IntN.{pos, negsuc, subℕ}
+use lib.IntN.{pos, negsuc}
 use Rattle.isa.specs.Register.{zero, t0, t1, t2, s1, s4, s5}
 use Rattle.isa.specs.Instr.{Instr, R, F, C, M, R4, I, B, R4Op, BOp}
 use Rattle.isa.specs.Instr.{SUB, XOR, OR, AND, ADDI, XORI, BEQ, BNE, FSGNJ-D, FLT-D, FEQ-D, FSUB-D, FMUL-D, FDIV-D}
@@ -21,8 +21,7 @@ use Rattle.ast.specs.declared.Fused.the-variants.{MulAdd, MulSub, NegMulAdd, Ne
 use Rattle.ast.specs.declared.Order.{Order}
 use Rattle.ast.specs.declared.Order.the-variants.{Unary, Scratched, Binary, Fused, Ifelse, LoadConst, Load, Save, BranchIf, SetLabel}
 use Rattle.ast.specs.Constant.{constant-label}
-use Rattle.assembler.specs.Item.{Item, instr, raw, jump, label}
-use Rattle.assembler.specs.Jump.{jump-instr}
+use Rattle.assembler.specs.Item.{Item, instr, jump, label}
 use Rattle.assembler.specs.declared.JumpKind.the-variants.{Auipc, Jalr, Fld}
 use Rattle.accesses.specs.Code.{load-float-code, save-float-code, load-int-code}
 use Rattle.reading.specs.Line.{Line, order, constant}
@@ -105,11 +104,3 @@ code (SetLabel l) = label l ∷ []
 unfoldable pub line-code : Line → List Item
 line-code (order o) = code o
 line-code (constant c) = []
-
--- The instructions of items of which the first is at `here`, once every label has its place. (Items of an order are no raw words.)
-unfoldable pub resolve : (places : ℕ → ℕ) → (here : ℕ) → List Item → List Instr
-resolve places here [] = []
-resolve places here (instr i ∷ is) = i ∷ resolve places (here + 4) is
-resolve places here (raw w ∷ is) = resolve places (here + 4) is
-resolve places here (jump k l r ∷ is) = jump-instr k r (subℕ (places l) here) ∷ resolve places (here + 4) is
-resolve places here (label l ∷ is) = resolve places here is

@@ -1,7 +1,7 @@
--- What it is for a machine to do what an order means: the terms of `order-does` (`proofs`, module Does).
+-- What it is for a machine to do what an order means, and that it does (document 01, demand 2).
 use mathlib.Core.Path.{_≡_}
 use mathlib.Core.List.{List, [], _∷_}
-use Prim.Native.Nat.{ℕ, _+_, _*_, _%_, _≤_, _<_}
+use Prim.Native.Nat.{ℕ, _+_, _*_, _%_, _≤_}
 use lib.ListN.{length}
 use Rattle.machine.specs.Word.{w64, load8, store8}
 use Rattle.machine.specs.Floats.{Floats}
@@ -16,6 +16,7 @@ use Rattle.assembler.specs.Resolved.{resolved}
 use Rattle.accesses.specs.Stands.{cell-at}
 use Rattle.reading.specs.Meaning.{Exit, on, to, Written, meaning}
 use Rattle.orders.specs.Code.{base, code}
+use Rattle.orders.specs.Fault.{fault}
 
 -- ---- cells by address: s1, s4 and s5 are arbitrary, and cells may alias
 
@@ -68,3 +69,11 @@ module _ (places : ℕ → ℕ) (start : ℕ) where
   OrderDoes Q here o s =
       let M = meaning Q (s .f) (s .rm) (cell-value s) (const-value s) o in
       Done Q here (code o) s (M .f) (written s (M .cells) (s .mem)) (M .exit)
+
+-- DEMAND 2: the words of an accepted order do what the order means, from every state that stands at them, wherever they stand.
+-- s1, s4, s5 and memory are arbitrary.
+abbrev pub Claim : Type 0
+Claim =
+    (Q : Floats) (places : ℕ → ℕ) → Placed places → (start here : ℕ) (o : Order) → fault o ≡ 0 → (s : State)
+    → At places start here (code o) s
+    → OrderDoes places start Q here o s

@@ -1,15 +1,14 @@
 -- What the orders refuse (document 01, "Numbers of refusal"): the number, or 0.
 use mathlib.Core.Bool.{cond}
-use Prim.Native.Nat.{ℕ, _*_}
+use Prim.Native.Nat.{ℕ, _-_, _*_}
 use lib.Dec.{leb}
 use Rattle.refusal.specs.Number.{number-of}
 use Rattle.refusal.specs.declared.Refusal.the-variants.{Register, Value, Label, Count}
 use Rattle.ast.specs.declared.Order.{Order}
 use Rattle.ast.specs.declared.Operand.{Operand}
 use Rattle.ast.specs.declared.Operand.the-variants.{Nothing, Loaded, Stored, Constant, GoneTo, Set}
-use Rattle.ast.specs.Constant.{last-constant}
-use Rattle.ast.specs.Uses.{registers-fit}
-use Rattle.ast.specs.Uses.{uses}
+use Rattle.ast.specs.Constant.{constant-limit}
+use Rattle.ast.specs.Uses.{uses, registers-fit}
 use Rattle.accesses.specs.Fault.{offset-limit}
 
 abbrev pub last-user-label : ℕ
@@ -20,7 +19,7 @@ abbrev pub operand-fault : Operand → ℕ
 operand-fault Nothing = 0
 operand-fault (Loaded p i) = cond (leb (8 * i) offset-limit) 0 (number-of Value)
 operand-fault (Stored p i) = cond (leb (8 * i) offset-limit) 0 (number-of Value)
-operand-fault (Constant k) = cond (leb k last-constant) 0 (number-of Count)
+operand-fault (Constant k) = cond (leb k (constant-limit - 1)) 0 (number-of Count)
 operand-fault (GoneTo l) = cond (leb l last-user-label) 0 (number-of Label)
 operand-fault (Set l) = cond (leb l last-user-label) 0 (number-of Label)
 

@@ -11,7 +11,7 @@ ghost use Rattle.assembler.specs.Plan.{fault-number, tail-items, tail-fault};
 ghost use Rattle.orders.specs.Code.{code};
 ghost use Rattle.orders.specs.Fault.{fault as fault-of, operand-fault};
 ghost use Rattle.orders.specs.Emitted.{emitted, emitted-in};
-ghost use Rattle.orders.specs.Parts.{instrs, rest-of};
+ghost use Rattle.orders.specs.Inner.Parts.{instrs, rest-of};
 
 pub mod named;
 mod write;

@@ -10,6 +10,7 @@ use lib.Dec.{leb}
 use lib.ListN.{length}
 use lib.Seq.{sets}
 use Rattle.print.specs.Text.{Puts, length-in}
+use Rattle.print.specs.declared.Text.{Text}
 use Rattle.print.specs.declared.Text.the-variants as Text
 
 pub too-long : (text : List ℕ) (at : ℕ) (buf : List ℕ) → leb (at + length text) (length buf) ≡ false → Puts text at buf Text.TooLong buf
@@ -34,3 +35,8 @@ length-within text at buf n e = go (leb (at + length text) (length buf)) refl e
         let g : length text ≡ n = cc in
         rw (← g) (leb-true (at + length text) (length buf) h)
     go false h f = absurd (let z : _≡_ {A = ℕ} 0 1 = cc in omega arith)
+
+pub text-room : (text buf left : List ℕ) (n : ℕ) (r : Text) → r ≡ length-in text 0 buf → r ≡ Text.Length n → length left ≡ length buf → n ≤ length left
+text-room text buf left n r e f g =
+    let h = length-within text 0 buf n (sym e ∙ f) in
+    omega arith

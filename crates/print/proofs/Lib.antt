@@ -3,3 +3,4 @@ pub mod Stores
 pub mod Lines
 pub mod Fitting
 pub mod Short
+pub mod Sentences

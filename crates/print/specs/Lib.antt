@@ -1,1 +1,6 @@
+-- the lines that are printed, and a text in a lent buffer
 pub mod Text
+-- a refusal in words
+pub mod Reason
+-- what only private functions promise
+pub mod Inner

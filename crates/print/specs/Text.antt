@@ -4,7 +4,7 @@ use mathlib.Core.Bool.{cond}
 use mathlib.Core.List.{List, [], _∷_, _++_}
 use Prim.Native.Nat.{ℕ, _+_, _*_}
 use lib.Dec.{leb}
-use lib.ListN.{length, getD}
+use lib.ListN.{length}
 use lib.Seq.{sets}
 use Rattle.text.specs.Ascii.{bytes}
 use Rattle.text.specs.Digits.{decimal, digits}
@@ -14,10 +14,6 @@ use Rattle.print.specs.declared.Text.the-variants as Text
 -- the word of four bytes, little-endian
 abbrev pub le-word : (a b c d : ℕ) → ℕ
 le-word a b c d = a + b * 256 + c * 65536 + d * 16777216
-
--- the word from byte i on
-abbrev pub word-in : List ℕ → (i : ℕ) → ℕ
-word-in s i = le-word (getD s i 0) (getD s (i + 1) 0) (getD s (i + 2) 0) (getD s (i + 3) 0)
 
 -- the words that bytes hold, four bytes each; fewer than four are no word
 unfoldable pub words-of : List ℕ → List ℕ

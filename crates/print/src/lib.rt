@@ -5,7 +5,13 @@ ghost use lib.Dec.{leb};
 ghost use lib.ListN.{length};
 ghost use lib.Seq.{sets};
 ghost use Rattle.text.specs.Digits.{digit-byte, digits, decimal};
-ghost use Rattle.print.specs.Text.{Puts, word-in, hex, word-line, code-lines, refusal-line};
+ghost use Rattle.print.specs.Text.{Puts, hex, word-line, code-lines, refusal-line};
+ghost use Rattle.print.specs.Inner.Text.{word-in};
+
+mod reason;
+
+pub use reason::reason_line;
+pub use reason::refusal_text;
 
 // How long a text is that was put into a buffer; nothing is put where it does not fit.
 pub enum Text {
@@ -189,7 +195,7 @@ fn put_refusal_line(number: u64, line: u64, out: &mut [u8])
 }
 
 // A refusal's number and line.
-pub fn refusal_text(number: u8, line: u32, out: &mut [u8]) -> Text
+pub fn refusal_line(number: u8, line: u32, out: &mut [u8]) -> Text
     ensures { λ r. ⌜ Puts (refusal-line number line) 0 (now (out .entry)) r (now (out .exit)) ⌝ }
 {
     let k = decimal_length(number as u64) + decimal_length(line as u64) + 10;

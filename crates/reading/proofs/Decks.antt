@@ -6,7 +6,7 @@ use Prim.Native.Nat.{ℕ}
 use lib.ListN.{getD}
 use Rattle.machine.specs.Word.{upd}
 use Rattle.machine.specs.Floats.{one}
-use Rattle.machine.specs.Binary64.{binary64}
+use Rattle.machine.proofs.Binary64.{binary64}
 use Rattle.ast.specs.declared.Place.the-variants.{Mem, Stack}
 use Rattle.ast.specs.declared.Unary.the-variants.{Recip}
 use Rattle.ast.specs.declared.Binary.the-variants.{Gt, Times}

@@ -6,7 +6,7 @@ use Prim.Native.Nat.{ℕ, _+_}
 use lib.ListN.{getD}
 use Rattle.machine.specs.Word.{upd}
 use Rattle.machine.specs.Floats.{one, minus-one}
-use Rattle.machine.specs.Binary64.{binary64}
+use Rattle.machine.proofs.Binary64.{binary64}
 use Rattle.ast.specs.declared.Place.{Place}
 use Rattle.ast.specs.declared.Place.the-variants.{Mem, Stack, Param}
 use Rattle.ast.specs.declared.Unary.the-variants.{Fmov, Recip, Round, Floor, Not}

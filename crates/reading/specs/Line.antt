@@ -2,7 +2,7 @@
 use Prim.Native.Nat.{ℕ}
 use Rattle.ast.specs.declared.Order.{Order}
 use Rattle.ast.specs.declared.Constant.{Constant}
-use Rattle.ast.specs.Uses.{order-weight}
+use Rattle.ast.specs.Uses.{sets, weighs}
 
 pub data Line : Type 0 where
   order : Order → Line
@@ -10,5 +10,5 @@ pub data Line : Type 0 where
 
 -- 1 for an order, 0 for `label`, `float` and `bits`
 abbrev pub weight : Line → ℕ
-weight (order o) = order-weight o
+weight (order o) = weighs (sets o)
 weight (constant c) = 0

@@ -1,6 +1,6 @@
 -- The plain reading of a file (document 01, "The machine and the terms of a call"): no word of code, no register but floats.
 use mathlib.Core.Path.{_≡_}
-use mathlib.Core.Bool.{Bool, true, false, cond, _&&_}
+use mathlib.Core.Bool.{Bool, cond, _&&_}
 use mathlib.Core.List.{List, [], _∷_}
 use mathlib.Core.Option.{Option, some}
 use Prim.Native.Nat.{ℕ, suc, _+_, _≤_, _<_}
@@ -25,16 +25,13 @@ pub record Reading : Type 0 where
   pub cells : Place → ℕ → ℕ
   pub obs : ℕ → ℕ
 
+abbrev pub place-number : Place → ℕ
+place-number Mem = 0
+place-number Stack = 1
+place-number Param = 2
+
 abbrev pub same-place : Place → Place → Bool
-same-place Mem Mem = true
-same-place Mem Stack = false
-same-place Mem Param = false
-same-place Stack Mem = false
-same-place Stack Stack = true
-same-place Stack Param = false
-same-place Param Mem = false
-same-place Param Stack = false
-same-place Param Param = true
+same-place p q = eqb (place-number p) (place-number q)
 
 -- the cells with one of them written
 unfoldable pub with-cell : Written → (Place → ℕ → ℕ) → Place → ℕ → ℕ

@@ -12,7 +12,7 @@ use Rattle.base.proofs.Bools.{both}
 use Rattle.refusal.specs.Answer.{Answer, accepted, refused}
 use Rattle.ast.specs.declared.Head.{Head}
 use Rattle.text.specs.Lines.{lines-of}
-use Rattle.form.specs.Form.{form-of}
+use Rattle.form.specs.Grammar.{said}
 use Rattle.deck.specs.Judge.{Content, line-judged}
 use Rattle.deck.specs.Judge as Deck
 use Rattle.assembler.specs.Bytes.{bytes, room}
@@ -96,7 +96,7 @@ module _ (b : List ℕ) (s : State) (a : Represents b [] [] s) where
   lines-all : (ts : List (List ℕ)) → Agrees b (then (file-read (length b) ts) (ending b)) (first-run ts s)
   unfolding head-read
   lines-all [] = refuses 12 1
-  lines-all (t ∷ ts) = head-agrees ts (line-judged true (form-of t)) (line-said true (form-of t))
+  lines-all (t ∷ ts) = head-agrees ts (line-judged true (said t)) (line-said true (said t))
 
   file-agrees : (file : List ℕ) → Agrees b (program-of (length b) file) (file-run file s)
   unfolding program-of file-run

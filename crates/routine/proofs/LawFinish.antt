@@ -9,13 +9,13 @@ use native.Mathlib.Omega.{arith}
 use borrow.Author.Tests.{le-leb, lt-ltb, le-ltb, eq-eqb, ltb-true, ltb-false}
 use lib.Dec.{eqb, ltb}
 use lib.ListN.{length, getD}
-use Rattle.base.specs.Tests.{Each}
-use Rattle.base.proofs.Each.{each-both, each-map}
+use Rattle.base.proofs.Each.{Each, each-both, each-map}
 use Rattle.refusal.specs.Answer.{accepted, refused}
 use Rattle.assembler.specs.Item.{Item, instr, raw, jump, label}
 use Rattle.assembler.specs.Jump.{kind-number}
 use Rattle.assembler.specs.Label.{is-set}
-use Rattle.assembler.specs.Memory.{Jump, jump-at, tag-at, jumps-of, tags-of}
+use Rattle.assembler.specs.Memory.{Jump, jump-at, tag-at, jumps-of}
+use Rattle.assembler.proofs.Tags.{tags-of}
 use Rattle.assembler.specs.State.{State}
 use Rattle.assembler.specs.Put.{jumps, labels}
 use Rattle.assembler.specs.Resolved.{label-place, jumps-in}
@@ -30,7 +30,7 @@ use Rattle.call.specs.Layout.{span, items, place, constants-offset}
 use Rattle.call.proofs.Items.{within, resolved-length}
 use Rattle.routine.specs.Routine.{unset, far, first-line, jump-lines, finished, refused-at}
 use Rattle.routine.specs.Run.{finish-run}
-use Rattle.routine.proofs.LawRoom.{span-words, place-among, laid-sound, set-among}
+use Rattle.routine.proofs.LawRoom.{span-words, laid-sound, set-among}
 use Rattle.routine.proofs.LawFit.{Fit, fit-labelled}
 use Rattle.routine.proofs.LawParts.{Left, Agrees, laid-unmade}
 
@@ -121,10 +121,6 @@ jumps-sound len here (jump k l r ∷ is) f e h = (
 )
 jumps-sound len here (label l ∷ is) f e h = jumps-sound len here is (f .1) e h
 
-not-not : (t : Bool) → not (not t) ≡ t
-not-not true = refl
-not-not false = refl
-
 -- what 2, 5 and 6 are on, by the two tests
 abbrev by-tests : Bool → Bool → ℕ
 by-tests u f = cond u 5 (cond f 6 0)
@@ -160,7 +156,7 @@ module _ (b : List ℕ) (is : List Item) (ts : List ℕ) (s : State) (a : Repres
   jump-is : (j : Jump) → Sound (s .asm .len) j → jump-number (s .labels) (s .asm .len) j ≡ by-tests (unset is j) (far is j)
   unfolding jump-number
   jump-is j g =
-      let u : not (is-set (getD (s .labels) (j .label) 0)) ≡ unset is j = ap not (set-among b is ts s a (j .label) (g .1) ∙ sym (place-among (j .label) 0 is)) ∙ not-not (unset is j) in
+      let u : not (is-set (getD (s .labels) (j .label) 0)) ≡ unset is j = ap not (set-among b is ts s a (j .label) (g .1)) in
       rw (g .0, u, place-known b is ts s a (j .label) (g .1))
 
   all-sound : Each (Sound (s .asm .len)) (jumps-in 0 is)

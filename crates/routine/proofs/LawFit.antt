@@ -1,5 +1,5 @@
 -- The items of frames, orders and constants: their jumps' registers and labels, and the labels that they set. Assumes nothing.
-use mathlib.Core.Path.{_≡_, refl, sym, subst}
+use mathlib.Core.Path.{_≡_, refl, subst}
 use mathlib.Core.Bool.{Bool, true, false, _&&_, cond}
 use mathlib.Core.List.{List, [], _∷_, _++_, map, append-assoc}
 use Prim.Native.Nat.{ℕ, suc, _+_, _*_, _≤_, _<_}
@@ -8,8 +8,8 @@ use borrow.Author.Tests.{ne-eqb, leb-true, ltb-true}
 use lib.Dec.{eqb, ltb, leb}
 use lib.IntN.{pos}
 use lib.ListN.{length}
-use Rattle.base.specs.Tests.{Each}
-use Rattle.base.proofs.Each.{each-map}
+use Rattle.base.specs.Tests.{member}
+use Rattle.base.proofs.Each.{Each, each-map}
 use Rattle.isa.specs.Instr.{Instr, R, I, Shift, ADD, FLD, SLLI}
 use Rattle.base.proofs.Bools.{both}
 use Rattle.ast.specs.declared.Frame.{Frame}
@@ -18,7 +18,7 @@ use Rattle.ast.specs.declared.Head.{Head}
 use Rattle.ast.specs.declared.Order.{Order}
 use Rattle.ast.specs.declared.Order.the-variants.{Unary, Scratched, Binary, Fused, Ifelse, LoadConst, Load, Save, BranchIf, SetLabel}
 use Rattle.assembler.specs.Item.{Item, instr, raw, jump, label}
-use Rattle.assembler.specs.Put.{jumps, labels, among}
+use Rattle.assembler.specs.Put.{jumps, labels}
 use Rattle.assembler.specs.declared.JumpKind.the-variants.{Bne}
 use Rattle.accesses.specs.Code.{li-code, sub-stack-code, allocate-stack-code, load-int-code, load-float-code, save-float-code}
 use Rattle.reading.specs.Size.{frame-size, stack-size}
@@ -147,13 +147,11 @@ pub each-append : (P : ℕ → Type 0) (xs ys : List ℕ) → Each P xs → Each
 each-append P [] ys e f = f
 each-append P (x ∷ xs) ys e f = (e .0, each-append P xs ys (e .1) f)
 
-not-among : (m : ℕ) (ls : List ℕ) → Each (λ l. m ≡ l → ⊥) ls → among m ls ≡ false
-unfolding among
+not-among : (m : ℕ) (ls : List ℕ) → Each (λ l. m ≡ l → ⊥) ls → member m ls ≡ false
 not-among m [] e = refl
-not-among m (l ∷ ls) e = rw (ne-eqb l m (λ q. e .0 (sym q))) (not-among m ls (e .1))
+not-among m (l ∷ ls) e = rw (ne-eqb m l (e .0)) (not-among m ls (e .1))
 
 pub shared-none : (ls : List ℕ) → shared ls [] ≡ false
-unfolding among
 shared-none [] = refl
 shared-none (l ∷ ls) = shared-none ls
 
@@ -255,7 +253,7 @@ no-labels : (o : Order) → labels (code o) ≡ [] → UserLabels o
 no-labels o e = record { once = rw e tt; small = rw e tt }
 
 pub code-labels : (o : Order) → fault o ≡ 0 → UserLabels o
-unfolding code fault labels among
+unfolding code fault labels
 code-labels (Unary k d s) e = no-labels (Unary k d s) (labels-instrs (unary-code k d s))
 code-labels (Scratched k d s t) e = no-labels (Scratched k d s t) (labels-instrs (scratched-code k d s t))
 code-labels (Binary k d a b) e = no-labels (Binary k d a b) (labels-instrs (binary-code k d a b))

@@ -15,7 +15,7 @@ use Rattle.assembler.specs.Bytes.{room}
 use Rattle.assembler.specs.Constant.{constant-items, constant-fault}
 use Rattle.ast.specs.Constant.{constant-bits}
 use Rattle.assembler.specs.State.{State}
-use Rattle.assembler.specs.Put.{jumps, labels, among, put}
+use Rattle.assembler.specs.Put.{jumps, labels, put}
 use Rattle.assembler.proofs.Items.{jumps-append, labels-append}
 use Rattle.frame_code.specs.Items.{epilogue, reloads}
 use Rattle.frame_code.specs.Fault.{epilogue-fault}
@@ -27,8 +27,7 @@ use Rattle.call.proofs.Labels.{Late}
 use Rattle.routine.specs.Routine.{then, unless, shared, room-number, last-line, closed-off, finished, body-lines, jump-lines}
 use Rattle.routine.specs.Run.{RunOutcome, next, finish-run, constants-run, leave-run}
 use Rattle.routine.proofs.LawRoom.{Once, span-words, space-number, room-space}
-use Rattle.base.specs.Tests.{Each}
-use Rattle.base.proofs.Each.{each-map}
+use Rattle.base.proofs.Each.{Each, each-map}
 use Rattle.routine.proofs.LawFit.{Fit, fit-append, fit-labelled, epilogue-fit, reloads-fit, data-fit, each-append, shared-not, exit-late, epilogue-once, epilogue-labels, reloads-labels, reloads-jumps, data-labels}
 use Rattle.routine.proofs.LawParts.{Agrees, part-agrees}
 use Rattle.routine.proofs.LawFinish.{finish-agrees}
@@ -56,7 +55,7 @@ module _ (b : List ℕ) (line : ℕ) (x : Program) (g : Program → Answer Progr
   constants-agrees : (cs : List Constant) (k : ℕ) (is : List Item) (ts : List ℕ) (s : State) → Represents b is ts s → Each (Unused k) (labels is) → k + length cs ≤ 1008
       → ((t : State) → Represents b (is ++ constants-from k (map constant-bits cs)) ts t → Agrees b (g x) (f t))
       → Agrees b (then (unless (space-number (length b) is (constants-from k (map constant-bits cs))) line x) g) (constants-run line k cs s f)
-  unfolding constants-from constants-run jumps labels among
+  unfolding constants-from constants-run jumps labels
   constants-agrees [] k is ts s a u h more = rw (space-left b is ts s a) (more s (rw (append-nil is) a))
   constants-agrees (c ∷ cs) k is ts s a u h more =
       part-agrees b is ts s a (constant-items k c) 0 (constant-fault k) (omega arith, tt) (refl, tt) (rw (le-leb k 1007 (omega arith))) line
@@ -181,7 +180,6 @@ module _ (b : List ℕ) (p : Program) (cs : List Constant) (s : State) (a : Repr
       (λ u m. after-epilogue u (subst (λ (ts : List ℕ). Represents b ((B ++ reloads (p .head .mask)) ++ epilogue (p .head)) ts u) (tags-all p) m))
 
   reloads-once : Once (labels (reloads (p .head .mask)))
-  unfolding among
   reloads-once = rw (reloads-labels (p .head .mask)) (refl, (refl, tt))
 
   number-is : room-number (length b) B (exit p ++ data-items p) ≡ space-number (length b) B (reloads (p .head .mask) ++ (epilogue (p .head) ++ data-items p))

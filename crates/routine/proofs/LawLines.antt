@@ -12,7 +12,7 @@ use Rattle.ast.specs.Uses.{index-holds, saves-hold}
 use Rattle.refusal.specs.Answer.{Answer, accepted, refused}
 use Rattle.ast.specs.declared.Order.{Order}
 use Rattle.ast.specs.declared.Constant.{Constant}
-use Rattle.form.specs.Form.{form-of}
+use Rattle.form.specs.Grammar.{said}
 use Rattle.deck.specs.Judge.{Content, line-judged}
 use Rattle.deck.specs.Judge as Deck
 use Rattle.assembler.specs.Item.{Item}
@@ -30,9 +30,8 @@ use Rattle.reading.specs.Program.{Program, constants}
 use Rattle.call.specs.Layout.{body, entry}
 use Rattle.routine.specs.Routine.{then, unless, room-number, order-number, constant-number, placed-at, as-line, line-read, lines-read, next-line, last-line, with-line, closed-off, finished, body-lines}
 use Rattle.routine.specs.Run.{RunOutcome, refused-at, next, constant-run, line-run, waiting, lines-run}
-use Rattle.base.specs.Tests.{Each}
 use Rattle.routine.proofs.LawFit.{Fit, fit-append, fit-labelled, code-fit, code-labels, each-append}
-use Rattle.base.proofs.Each.{each-map}
+use Rattle.base.proofs.Each.{Each, each-map}
 use Rattle.routine.proofs.LawJudged.{Said, line-said}
 use Rattle.routine.proofs.LawParts.{Agrees, then-then, laid-refuses, put-agrees}
 use Rattle.routine.proofs.LawLeave.{Before, tags-so-far, leave-agrees}
@@ -169,4 +168,4 @@ module _ (b : List ℕ) where
   lines-agrees (t ∷ ts) p cs s a =
       line-agrees b p cs s a (λ l. lines-read (length b) (with-line p l) ts) ending (λ (ds : List Constant) (u : State). lines-run (p .head) (next-line p) ds ts u)
       (λ l ds u g. subst (λ (n : ℕ). Agrees b (then (lines-read (length b) (with-line p l) ts) ending) (lines-run (p .head) n ds ts u)) (line-after p l) (lines-agrees ts (with-line p l) ds u g))
-      (line-judged false (form-of t)) (line-said false (form-of t))
+      (line-judged false (said t)) (line-said false (said t))

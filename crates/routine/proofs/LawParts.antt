@@ -8,7 +8,8 @@ use lib.ListN.{length, drop, getD, replicate}
 use Rattle.refusal.specs.Answer.{Answer, accepted, refused}
 use Rattle.assembler.specs.Item.{Item}
 use Rattle.assembler.specs.Bytes.{written, room}
-use Rattle.assembler.specs.Memory.{jumps-of, tags-of}
+use Rattle.assembler.specs.Memory.{jumps-of}
+use Rattle.assembler.proofs.Tags.{tags-of}
 use Rattle.assembler.specs.State.{State}
 use Rattle.assembler.specs.Put.{words, jumps, labels, placed, put-number, settled, put}
 use Rattle.assembler.specs.Resolved.{label-place, jumps-in}

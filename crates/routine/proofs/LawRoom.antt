@@ -1,19 +1,20 @@
 -- Over a state that items were placed in, an order is refused exactly where the plain definition refuses it. Assumes nothing.
-use mathlib.Core.Path.{_≡_, refl, ap, _∙_}
+use mathlib.Core.Path.{_≡_, refl, sym, ap, _∙_}
 use mathlib.Core.Bool.{Bool, true, false, not, _&&_, _||_, cond}
 use mathlib.Core.List.{List, [], _∷_, _++_}
 use mathlib.Core.Option.{Option, none, some}
 use Prim.Native.Nat.{ℕ, suc, _+_, _*_, _%_, _^_, _≤_, _<_}
 use native.Mathlib.Omega.{arith}
-use borrow.Author.Tests.{ne-eqb, leb-false, lt-leb}
+use borrow.Author.Tests.{eqb-true, eqb-false, eq-eqb, ne-eqb, leb-false, lt-leb}
 use lib.Dec.{eqb, leb}
 use lib.ListN.{length, getD}
-use Rattle.base.specs.Tests.{Each}
+use Rattle.base.specs.Tests.{member}
+use Rattle.base.proofs.Each.{Each}
 use Rattle.assembler.specs.Item.{Item, instr, raw, jump, label}
 use Rattle.assembler.specs.Bytes.{room}
 use Rattle.assembler.specs.Label.{is-set}
 use Rattle.assembler.specs.State.{State, sound, fits}
-use Rattle.assembler.specs.Put.{words, jumps, labels, among, twice, verdict, put-number}
+use Rattle.assembler.specs.Put.{words, jumps, labels, twice, verdict, put-number}
 use Rattle.assembler.specs.Resolved.{label-place}
 use Rattle.assembler.proofs.Items.{jumps-append}
 use Rattle.assembler.proofs.Writes.{length-written}
@@ -22,7 +23,7 @@ use Rattle.finish.proofs.Append.{label-within}
 use Rattle.finish.proofs.Both.{sound-is}
 use Rattle.call.specs.Layout.{span}
 use Rattle.call.proofs.Items.{span-append}
-use Rattle.routine.specs.Routine.{shared, is-none, room-number}
+use Rattle.routine.specs.Routine.{shared, room-number}
 
 pub span-words : (is : List Item) → 4 * length (words is) ≡ span is
 unfolding words span
@@ -37,7 +38,7 @@ span-words (label l ∷ is) = span-words is
 -- none comes twice
 abbrev pub Once : List ℕ → Type 0
 Once [] = Unit {0}
-Once (l ∷ ls) = (among l ls ≡ false) × Once ls
+Once (l ∷ ls) = (member l ls ≡ false) × Once ls
 
 pub labelled-each : (is : List Item) → Labelled is → Each (λ l. l < 2039) (labels is)
 unfolding labels
@@ -47,19 +48,23 @@ labelled-each (raw w ∷ is) h = labelled-each is h
 labelled-each (jump k l r ∷ is) h = labelled-each is (h .1)
 labelled-each (label l ∷ is) h = (h .0, labelled-each is (h .1))
 
+abbrev pub is-none : Option ℕ → Bool
+is-none none = true
+is-none (some n) = false
+
 -- a label has a place exactly where it is set
-pub place-among : (l here : ℕ) (is : List Item) → not (is-none (label-place l here is)) ≡ among l (labels is)
-unfolding label-place labels among
+pub place-among : (l here : ℕ) (is : List Item) → not (is-none (label-place l here is)) ≡ member l (labels is)
+unfolding label-place labels
 place-among l here [] = refl
 place-among l here (instr i ∷ is) = place-among l (here + 4) is
 place-among l here (raw w ∷ is) = place-among l (here + 4) is
 place-among l here (jump k m r ∷ is) = place-among l (here + 4) is
-place-among l here (label m ∷ is) = by (eqb m l) (place-among l here is)
+place-among l here (label m ∷ is) = by (eqb l m) refl (place-among l here is)
   where
-    by : (t : Bool) → not (is-none (label-place l here is)) ≡ among l (labels is)
-        → not (is-none (cond t (some here) (label-place l here is))) ≡ (t || among l (labels is))
-    by true e = refl
-    by false e = e
+    by : (t : Bool) → eqb l m ≡ t → not (is-none (label-place l here is)) ≡ member l (labels is)
+        → not (is-none (cond (eqb m l) (some here) (label-place l here is))) ≡ (t || member l (labels is))
+    by true q e = rw (eq-eqb m l (sym (eqb-true l m q)))
+    by false q e = rw (ne-eqb m l (λ z. eqb-false l m q (sym z))) e
 
 entry-set : (o : Option ℕ) → ((p : ℕ) → o ≡ some p → p ≤ 65536) → is-set (entry o) ≡ not (is-none o)
 entry-set none h = refl
@@ -68,7 +73,7 @@ entry-set (some p) h =
     let n : (p + 1) % 2 ^ 32 ≡ p + 1 = omega arith in
     ap not (ne-eqb ((p + 1) % 2 ^ 32) 0 (λ z. omega arith))
 
-twice-shared : (m ms : List ℕ) → ((l : ℕ) → l < 2039 → is-set (getD m l 0) ≡ among l ms)
+twice-shared : (m ms : List ℕ) → ((l : ℕ) → l < 2039 → is-set (getD m l 0) ≡ member l ms)
     → (ls : List ℕ) → Each (λ l. l < 2039) ls → Once ls → twice m ls ≡ shared ls ms
 unfolding twice
 twice-shared m ms h [] e o = refl
@@ -87,7 +92,7 @@ module _ (b : List ℕ) (is : List Item) (ts : List ℕ) (s : State) (a : Repres
       sound-is (length (s .buf)) (s .asm) (omega (arith, a .len)) (omega (arith, a .len)) (omega (arith, a .count, a .few))
 
   -- a label's entry says whether it is set
-  pub set-among : (l : ℕ) → l < 2039 → is-set (getD (s .labels) l 0) ≡ among l (labels is)
+  pub set-among : (l : ℕ) → l < 2039 → is-set (getD (s .labels) l 0) ≡ member l (labels is)
   set-among l h =
       let w = a .within in
       ap is-set (a .set-labels l h)

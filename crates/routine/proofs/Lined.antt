@@ -16,7 +16,7 @@ use Rattle.ast.specs.declared.Order.{Order}
 use Rattle.ast.specs.declared.Frame.{Frame}
 use Rattle.ast.specs.declared.Constant.{Constant}
 use Rattle.text.specs.Lines.{lines-of}
-use Rattle.form.specs.Form.{form-of}
+use Rattle.form.specs.Grammar.{said}
 use Rattle.deck.specs.Judge.{Content, line-judged}
 use Rattle.deck.specs.Judge as Deck
 use Rattle.assembler.specs.State.{State, Outcome, state, outcome, emit-answer}
@@ -104,7 +104,7 @@ module _ (file : List ℕ) (s : State) where
     unfolding file-run
     file-empty e = rw (le-leb (length file) 65536 h, e)
 
-    pub file-goes : (t : List ℕ) (ts : List (List ℕ)) → lines-of file ≡ t ∷ ts → (x : Answer Content) → x ≡ line-judged true (form-of t) → head-run x ts s ≡ file-run file s
+    pub file-goes : (t : List ℕ) (ts : List (List ℕ)) → lines-of file ≡ t ∷ ts → (x : Answer Content) → x ≡ line-judged true (said t) → head-run x ts s ≡ file-run file s
     unfolding file-run
     file-goes t ts i x e = rw (le-leb (length file) 65536 h, i, e)
 

@@ -16,7 +16,7 @@ use Rattle.assembler.specs.declared.Asm.{Asm}
 use Rattle.assembler.specs.State.{State, Outcome, state}
 use Rattle.orders.specs.Wrote.{roomy}
 use Rattle.orders.specs.Emitted.{emitted-in}
-use Rattle.fast.specs.Fast.{small, small-order, if-accepted, taken, placed-in, fast-line, not-mine, asm-of, left}
+use Rattle.fast.specs.Inner.Fast.{small, small-order, if-accepted, taken, placed-in, fast-line, not-mine, asm-of, left}
 use Rattle.routine.specs.Run.{says, lines-run}
 use Rattle.routine.proofs.Lined.{order-passes}
 

@@ -1,1 +1,2 @@
+-- constants by their lines' places, and parts of the run
 pub mod Places

@@ -1,13 +1,14 @@
 -- What a deck file is taken as: a program, or its refusal by number and line
 -- (document 01, "Added: the routine", "Numbers of refusal", "The deck file").
 use mathlib.Core.Path.{_≡_}
-use mathlib.Core.Bool.{Bool, true, false, not, _&&_, _||_, cond}
+use mathlib.Core.Bool.{Bool, true, false, not, _&&_, cond}
 use mathlib.Core.List.{List, [], _∷_, _++_}
 use mathlib.Core.Option.{Option, some, none}
 use Prim.Native.Nat.{ℕ, zero, suc, _+_, _-_}
 use lib.Dec.{ltb, leb}
 use lib.IntN.{subℕ}
 use lib.ListN.{length, drop, replicate}
+use Rattle.base.specs.Tests.{any}
 use Rattle.ast.specs.Uses.{index-holds, saves-hold}
 use Rattle.ast.specs.Constant.{constant-limit}
 use Rattle.isa.specs.Instr.{holds, offset}
@@ -18,15 +19,16 @@ use Rattle.ast.specs.declared.Frame.{Frame}
 use Rattle.ast.specs.declared.Head.{Head}
 use Rattle.ast.specs.declared.Order.{Order}
 use Rattle.text.specs.Lines.{lines-of}
-use Rattle.form.specs.Form.{form-of}
+use Rattle.form.specs.Grammar.{said}
 use Rattle.deck.specs.Judge.{Content, line-judged}
 use Rattle.deck.specs.Judge as Deck
 use Rattle.reading.specs.Line.{Line, order, constant}
 use Rattle.assembler.specs.Item.{Item}
 use Rattle.assembler.specs.Bytes.{bytes, room}
 use Rattle.assembler.specs.Memory.{Jump}
-use Rattle.assembler.specs.Put.{jumps, labels, among}
-use Rattle.assembler.specs.Resolved.{label-place, jumps-in, place-in}
+use Rattle.assembler.specs.Put.{jumps, labels}
+use Rattle.base.specs.Tests.{any, member}
+use Rattle.assembler.specs.Resolved.{jumps-in, place-in}
 use Rattle.orders.specs.Code.{code, line-code}
 use Rattle.reading.specs.Program.{Program, constants}
 use Rattle.call.specs.Layout.{span, body, entry, exit, data-items, items, constants-offset, code-length, routine-words}
@@ -43,7 +45,7 @@ unless (suc n) line a = refused (suc n) line
 
 -- ---- lines in order
 
--- "Lines are counted from 1": the line that comes next, and the one read last
+-- lines are counted from 1: the line that comes next, and the one read last
 abbrev pub next-line : Program → ℕ
 next-line p = suc (suc (length (p .lines)))
 
@@ -55,8 +57,7 @@ with-line p l = record { head = p .head; lines = p .lines ++ (l ∷ []) }
 
 -- one of them is among the others
 abbrev pub shared : List ℕ → List ℕ → Bool
-shared [] ms = false
-shared (l ∷ ls) ms = among l ms || shared ls ms
+shared ls ms = any (λ l. member l ms) ls
 
 -- Items behind others, in a buffer of `size` bytes: 4, a label is set already; 7, the words or the jumps don't fit.
 abbrev pub room-number : (size : ℕ) → (before is : List Item) → ℕ
@@ -87,7 +88,7 @@ as-line size p (Deck.constant c) = unless (constant-number p) (next-line p) (con
 
 -- one line more
 unfoldable pub line-read : (size : ℕ) → Program → List ℕ → Answer Line
-line-read size p text = then (placed-at (next-line p) (line-judged false (form-of text))) (as-line size p)
+line-read size p text = then (placed-at (next-line p) (line-judged false (said text))) (as-line size p)
 
 -- "A routine's lines are taken in order and the first refused one decides"
 unfoldable pub lines-read : (size : ℕ) → Program → List (List ℕ) → Answer Program
@@ -104,7 +105,7 @@ as-head size (Deck.order o) = refused (number-of Refusal.Line) 1
 as-head size (Deck.constant c) = refused (number-of Refusal.Line) 1
 
 unfoldable pub head-read : (size : ℕ) → List ℕ → Answer Program
-head-read size text = then (placed-at 1 (line-judged true (form-of text))) (as-head size)
+head-read size text = then (placed-at 1 (line-judged true (said text))) (as-head size)
 
 -- "an empty file is 12 at line 1"
 abbrev pub file-read : (size : ℕ) → List (List ℕ) → Answer Program
@@ -135,13 +136,9 @@ first-line t [] ns = none
 first-line t (j ∷ js) [] = none
 first-line t (j ∷ js) (n ∷ ns) = cond (t j) (some n) (first-line t js ns)
 
-abbrev pub is-none : Option ℕ → Bool
-is-none none = true
-is-none (some n) = false
-
--- 5: its label has no place
+-- 5: its label has no place, since no item sets it
 abbrev pub unset : List Item → Jump → Bool
-unset is j = is-none (label-place (j .label) 0 is)
+unset is j = not (member (j .label) (labels is))
 
 -- 6: a `beq` or `bne` beyond B
 abbrev pub far : List Item → Jump → Bool

@@ -12,7 +12,7 @@ use Rattle.ast.specs.Constant.{constant-limit}
 use Rattle.ast.specs.declared.Head.{Head}
 use Rattle.ast.specs.declared.Constant.{Constant}
 use Rattle.text.specs.Lines.{lines-of}
-use Rattle.form.specs.Form.{form-of}
+use Rattle.form.specs.Grammar.{said}
 use Rattle.deck.specs.Judge.{Content, line-judged}
 use Rattle.deck.specs.Judge as Deck
 use Rattle.assembler.specs.Bytes.{room}
@@ -82,7 +82,7 @@ constant-run k s =
 
 -- what a line behind line 1 says
 abbrev pub says : (line : List ℕ) → Answer Content
-says t = line-judged false (form-of t)
+says t = line-judged false (said t)
 
 -- a line by what it says, behind k constants
 abbrev pub line-run : Head → (line k : ℕ) → Answer Content → State → Outcome
@@ -118,7 +118,7 @@ head-run (accepted (Deck.constant c)) ts s = refused-at (number-of Refusal.Line)
 
 abbrev pub first-run : List (List ℕ) → State → RunOutcome
 first-run [] s = refused-at (number-of Refusal.Line) 1 s
-first-run (t ∷ ts) s = head-run (line-judged true (form-of t)) ts s
+first-run (t ∷ ts) s = head-run (line-judged true (said t)) ts s
 
 unfoldable pub file-run : (file : List ℕ) → State → RunOutcome
 file-run file s = cond (leb (length file) 65536) (first-run (lines-of file) s) (refused-at (number-of Refusal.Full) 1 s)

@@ -5,7 +5,7 @@ use Prim.Native.Nat.{ℕ, _+_, _*_, _%_, _<_, _≤_}
 use native.Mathlib.Numerals.{add-one}
 use lib.ListN.{length, getD, drop, drop-of-length-le}
 use lib.Seq.{drop-cons}
-use Rattle.test_decks.specs.Bytes.{hash-of}
+use Rattle.test_decks.specs.Inner.Bytes.{hash-of}
 
 module _ (s : List ℕ) (i : ℕ) where
   pub hash-ends : (h : ℕ) → length s ≤ i → hash-of h (drop i s) ≡ h

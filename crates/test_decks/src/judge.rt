@@ -1,7 +1,7 @@
 // Rows, one by one: a deck is put together, handed to the routine, and its answer and buffer compared.
 ghost use mathlib.Core.Path.{_≡_};
 ghost use Prim.Native.Nat.{_≤_};
-ghost use Rattle.test_decks.specs.Bytes.{hash-of};
+ghost use Rattle.test_decks.specs.Inner.Bytes.{hash-of};
 use crate::piece::ROOM;
 use ast::Frame;
 use routine::RoutineAnswer;

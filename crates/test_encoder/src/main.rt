@@ -4,7 +4,7 @@
 mod form;
 
 ghost use mathlib.Core.Path.{_≡_};
-ghost use Rattle.test_encoder.specs.Row.{agreed};
+ghost use Rattle.test_encoder.specs.Inner.Row.{agreed};
 use encoder::Encoded;
 use test_rows::Hex;
 use test_rows::Outcome;

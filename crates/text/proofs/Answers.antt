@@ -10,8 +10,9 @@ use lib.Dec.{eqb, ltb}
 use lib.IntN.{pos}
 use lib.ListN.{length, getD, take, drop, length-drop}
 use lib.Seq.{drop-drop, take-all}
-use Rattle.text.specs.Digits.{read-from, read-decimal, read-integer, read-word, sized, numeral, negative, integer, word}
-use Rattle.text.specs.Fields.{upto, end-from, next-from, onto, split, fields-from}
+use Rattle.text.specs.Readers.{read-from, read-decimal, read-integer, read-word, sized, numeral, negative, integer, word}
+use Rattle.text.specs.Readers.{upto, end-from, next-from, split, fields-from}
+use Rattle.text.specs.Fields.{onto}
 use Rattle.text.specs.declared.Number.{Number}
 use Rattle.text.specs.declared.Number.the-variants.{Value, TooBig}
 use Rattle.text.specs.declared.Numeral.{Numeral}

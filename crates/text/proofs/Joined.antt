@@ -9,7 +9,8 @@ use lib.Dec.{eqb, ltb}
 use lib.IntN.{ℤ, pos, negsuc}
 use Rattle.base.proofs.Bools.{both}
 use Rattle.text.specs.Digits.{digit-byte, digits, decimal, integer-bytes, word-bytes}
-use Rattle.text.specs.Fields.{commas, onto, split, same}
+use Rattle.text.specs.Fields.{commas, onto}
+use Rattle.text.specs.Readers.{split, same}
 use Rattle.text.proofs.Answers.{first-field}
 
 -- no comma in it

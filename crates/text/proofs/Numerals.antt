@@ -10,7 +10,8 @@ use borrow.Author.Tests.{lt-ltb, le-ltb, ltb-false, ltb-true, eq-eqb, ne-eqb, eq
 use lib.Dec.{eqb, ltb, leb}
 use lib.IntN.{ℤ, pos, negsuc}
 use lib.ListN.{length}
-use Rattle.text.specs.Digits.{digit-byte, digits, above, decimal, integer-bytes, word-bytes, digit-value, read-from, read-decimal, negative, read-integer, read-word}
+use Rattle.text.specs.Digits.{digit-byte, digits, above, decimal, integer-bytes, word-bytes}
+use Rattle.text.specs.Readers.{digit-value, read-from, read-decimal, negative, read-integer, read-word}
 
 -- ---- one digit
 

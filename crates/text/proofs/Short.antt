@@ -8,8 +8,9 @@ use native.Mathlib.Omega.{arith}
 use borrow.Author.Tests.{lt-ltb, le-ltb, lt-leb, le-leb, ltb-true, ltb-false, leb-true}
 use lib.Dec.{eqb, ltb, leb}
 use lib.ListN.{length, getD}
-use Rattle.text.specs.Digits.{digit-value, read-from, read-decimal, or-1000, short-of}
-use Rattle.text.specs.Fields.{commas, split}
+use Rattle.text.specs.Readers.{digit-value, read-from, read-decimal, split}
+use Rattle.text.specs.Inner.Parts.{or-1000, short-of}
+use Rattle.text.specs.Fields.{commas}
 use Rattle.text.proofs.Answers.{empty, alone, leading, led}
 use Rattle.text.proofs.Numerals.{decimal-read}
 use Rattle.text.proofs.Joined.{free, split-join, free-decimal}

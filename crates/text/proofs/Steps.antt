@@ -11,9 +11,8 @@ use borrow.Author.Tests.{lt-ltb, le-ltb, ltb-false, eq-eqb, ne-eqb, eqb-false}
 use lib.Dec.{eqb, ltb}
 use lib.ListN.{length, getD, drop, drop-of-length-le}
 use lib.Seq.{drop-cons}
-use Rattle.text.specs.Digits.{digit-value, read-from, sized, numeral}
+use Rattle.text.specs.Readers.{digit-value, read-from, sized, numeral, upto, end-from, same}
 use Rattle.text.specs.Inner.Parts.{further}
-use Rattle.text.specs.Fields.{upto, end-from, same}
 use Rattle.text.specs.declared.Number.{Number}
 use Rattle.text.specs.declared.Number.the-variants.{Value, TooBig}
 use Rattle.text.specs.declared.Numeral.{Numeral}

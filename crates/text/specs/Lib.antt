@@ -1,7 +1,14 @@
--- bytes of a quoted text; numbers, fields and lines as bytes; bytes as one number; Inner: what only private functions promise
+-- a quoted text as bytes
 pub mod Ascii
+-- numbers as bytes
 pub mod Digits
+-- fields parted by commas
 pub mod Fields
+-- a file as lines
 pub mod Lines
+-- what the readers answer
+pub mod Readers
+-- bytes as one number
 pub mod Bytes
+-- what only private functions and the fast path's promise
 pub mod Inner

@@ -6,13 +6,11 @@ ghost use lib.Count.{trailingZeros};
 ghost use lib.Dec.{eqb};
 ghost use lib.ListN.{length, getD, take};
 ghost use lib.Pow.{areBytes};
-ghost use Rattle.text.specs.Digits.{negative, digit-value, read-from, read-decimal, read-integer, read-word};
-ghost use Rattle.text.specs.Digits.{numeral, short-of, integer, word};
-ghost use Rattle.text.specs.Inner.Parts.{further};
-ghost use Rattle.text.specs.Fields.{same, fields-from, end-from, next-from, first-decimal};
+ghost use Rattle.text.specs.Readers.{negative, digit-value, read-from, read-decimal, read-integer, read-word, numeral, integer, word};
+ghost use Rattle.text.specs.Inner.Parts.{short-of, further, four-are, each, marks};
+ghost use Rattle.text.specs.Readers.{same, fields-from, end-from, next-from, first-decimal};
 ghost use Rattle.text.specs.Lines.{Ends};
 ghost use Rattle.text.specs.Bytes.{joined-eight, word-to};
-ghost use Rattle.text.specs.Inner.Parts.{four-are, each, marks};
 
 // A number of any size.
 pub enum Number {

@@ -14,7 +14,7 @@ use mathlib.Core.List.{[], _∷_}
 use mir.Syntax.{w32}
 use mir.ValLaws.{toZ-ofZ}
 use Rattle.isa.specs.Instr.{I, ADDI}
-use Rattle.encoder.specs.Field.{sign-of}
+use Rattle.encoder.specs.Sign.{sign-of}
 use Rattle.encoder.proofs.Signs.{handed}
 use Rattle.accesses.proofs.li_plan.Statement.{statement}
 use Rattle.accesses.proofs.li_plan.Tie as tie

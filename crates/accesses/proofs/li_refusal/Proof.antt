@@ -1,7 +1,7 @@
 use borrow.Author.Needs.{needs}
 use borrow.Author.Tests.{lt-ltb, le-ltb, le-leb, lt-leb}
 use mathlib.Core.Path.{_≡_, sym, _∙_}
-use Rattle.encoder.specs.Field.{sign-of}
+use Rattle.encoder.specs.Sign.{sign-of}
 use Rattle.encoder.proofs.Signs.{handed}
 use Rattle.accesses.proofs.Collect.{takes-pos, takes-neg}
 use Rattle.accesses.proofs.li_refusal.Statement.{statement}

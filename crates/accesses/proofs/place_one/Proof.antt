@@ -1,4 +1,4 @@
-use Rattle.accesses.specs.Plans.{one-code}
+use Rattle.accesses.specs.Inner.Plans.{one-code}
 use Rattle.accesses.proofs.Runs.{one-valid}
 use Rattle.accesses.proofs.Lengths.{one-length}
 use Rattle.accesses.proofs.Placed.{one-as}

@@ -1,4 +1,4 @@
-use Rattle.accesses.specs.Plans.{pair-code}
+use Rattle.accesses.specs.Inner.Plans.{pair-code}
 use Rattle.accesses.proofs.Runs.{pair-valid}
 use Rattle.accesses.proofs.Lengths.{pair-length}
 use Rattle.accesses.proofs.Placed.{pair-as}

@@ -1,6 +1,6 @@
 use mathlib.Core.Path.{sym, _∙_}
 use borrow.Author.Needs.{needs}
-use Rattle.accesses.specs.Plans.{settled-plan}
+use Rattle.accesses.specs.Inner.Plans.{settled-plan}
 use Rattle.accesses.proofs.Placed.{alone}
 use lib.ListN.{replicate}
 use borrow.Author.Tests.{eq-eqb, ne-eqb}

@@ -31,7 +31,7 @@ returns-3 c =
     let n = c .before .before .before .before in
     let g = n .before .before in
     let a = g .before .before .before .before .args in
-    refusal-told (a .answer) (now (a .code)) (now (a .out)) _ _ _ _ _ (g .answer2 .given .1) (n .number .ensures) (omega (arith, n .number .ok)) (omega (arith, n .before .known-told2 .given)) (c .before .before .refusal-text .ensures)
+    refusal-told (a .answer) (now (a .code)) (now (a .out)) _ _ _ _ _ (g .answer2 .given .1) (n .number .ensures) (omega (arith, n .number .ok)) (omega (arith, n .before .known-told2 .given)) (c .before .before .refusal-line .ensures)
 
 pub answer-text-spec : {M : Type 1} → statement M
 answer-text-spec =

@@ -2,7 +2,7 @@
 use mathlib.Core.Bool.{Bool, _&&_}
 use Prim.Native.Nat.{ℕ, _%_, _^_}
 use Rattle.text.specs.declared.Number.{Number}
-use Rattle.deck.specs.Judge.{below, value}
+use Rattle.deck.specs.Inner.Forms.{below, value}
 
 -- four numbers below one bound
 abbrev pub are-below : ℕ → (a b c d : Number) → Bool

@@ -6,7 +6,6 @@ use lib.ListN.{getD}
 use mathlib.Core.List.{[], _∷_}
 use Rattle.isa.specs.Instr.{register, registers-hold, C, FSQRT-D, valid, rounding, c-rounding}
 use Rattle.isa.specs.Decode.{c-ops}
-use Rattle.isa.proofs.Validity.{Holds-holds}
 use Rattle.encoder.proofs.Answers.{bad-register, small, good, word-C, inside}
 use Rattle.encoder.proofs.ctype.Statement.{statement}
 use Rattle.encoder.proofs.ctype.Tie as tie
@@ -17,7 +16,7 @@ passed c = sym (c .before .registers .ensures) ∙ not-false _ (c .if1 .left)
 rounded : (c : tie.Else1) → valid (C (getD c-ops (c .before .before .args .op) FSQRT-D) (c .before .before .args .rd) (c .before .before .args .rs1) (c .before .before .args .rm)) ≡ true
 rounded c =
     let o = rounding (c-rounding (getD c-ops (c .before .before .args .op) FSQRT-D)) (c .before .before .args .rm) in
-    inside o (c .before .before .args .rd ∷ c .before .before .args .rs1 ∷ []) (passed c) (Holds-holds o (c .before .before .pre .1))
+    inside o (c .before .before .args .rd ∷ c .before .before .args .rs1 ∷ []) (passed c) (c .before .before .pre .1)
 
 returns : tie.Need-returns
 returns c = bad-register _ (sym (c .before .registers .ensures) ∙ not-true _ (c .if1 .taken))

@@ -3,13 +3,12 @@ use mathlib.Core.Path.{sym, _∙_}
 use mathlib.Core.List.{[], _∷_}
 use lib.Dec.{lit<}
 use Rattle.isa.specs.Instr.{rounding, free}
-use Rattle.base.proofs.Bools.{true-T}
 use Rattle.encoder.proofs.Answers.{bad-register, bad-value, outside}
 use Rattle.encoder.proofs.fcvt_l_d.Statement.{statement}
 use Rattle.encoder.proofs.fcvt_l_d.Tie as tie
 
 ctype-requires : tie.Need-ctype-requires
-ctype-requires c κs = (lit< tt, true-T _ (sym (c .before .rounding .ensures) ∙ c .if1 .taken))
+ctype-requires c κs = (lit< tt, sym (c .before .rounding .ensures) ∙ c .if1 .taken)
 
 returns-2 : tie.Need-returns-2
 returns-2 c =

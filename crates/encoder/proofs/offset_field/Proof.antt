@@ -2,7 +2,8 @@ use borrow.Author.Needs.{needs}
 use borrow.Author.Tests.{eq-eqb, ne-eqb}
 use mathlib.Core.Path.{_≡_, sym, _∙_, ap}
 use lib.IntN.{ℤ}
-use Rattle.encoder.specs.Field.{sign-of, signed-field, even-field}
+use Rattle.encoder.specs.Sign.{sign-of}
+use Rattle.encoder.specs.Inner.Field.{signed-field, even-field}
 use Rattle.encoder.proofs.Signs.{handed}
 use Rattle.encoder.proofs.offset_field.Statement.{statement}
 use Rattle.encoder.proofs.offset_field.Tie as tie

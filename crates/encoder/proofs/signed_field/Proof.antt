@@ -1,6 +1,6 @@
 use borrow.Author.Needs.{needs}
 use mathlib.Core.Path.{_≡_, sym, _∙_}
-use Rattle.encoder.specs.Field.{sign-of}
+use Rattle.encoder.specs.Sign.{sign-of}
 use Rattle.encoder.proofs.Signs.{handed}
 use Rattle.encoder.proofs.Fields.{low, high, below, deep}
 use Rattle.encoder.proofs.signed_field.Statement.{statement}

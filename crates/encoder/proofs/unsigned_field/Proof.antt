@@ -1,6 +1,6 @@
 use borrow.Author.Needs.{needs}
 use mathlib.Core.Path.{_≡_, sym, _∙_}
-use Rattle.encoder.specs.Field.{sign-of}
+use Rattle.encoder.specs.Sign.{sign-of}
 use Rattle.encoder.proofs.Signs.{handed}
 use Rattle.encoder.proofs.Fields.{low, high, negative}
 use Rattle.encoder.proofs.unsigned_field.Statement.{statement}

@@ -1,7 +1,7 @@
 use mathlib.Core.Path.{refl, sym, ap, _∙_}
 use denote.Ref.{now}
 use Rattle.assembler.specs.State.{State, state}
-use Rattle.fast.specs.Fast.{fast-line}
+use Rattle.fast.specs.Inner.Fast.{fast-line}
 use Rattle.fast.specs.Inner.Packed.{unpacked}
 use Rattle.fast.proofs.Apart.{unsaid, says-order}
 use Rattle.fast.proofs.Judged.{within-jumps}

@@ -3,7 +3,7 @@ use Prim.Native.Nat.{_≤_, _*_, _%_}
 use denote.Ref.{now}
 use native.Mathlib.Omega.{arith}
 use borrow.Author.Needs.{needs}
-use Rattle.text.specs.Fields.{fields-from}
+use Rattle.text.specs.Readers.{fields-from}
 use Rattle.fast.specs.Inner.Packed.{number}
 use Rattle.fast.specs.Inner.Fields.{operands, numbers-packed, registers-of, bound-of}
 use Rattle.fast.proofs.Fields.{Through, starts, goes-on, ends-early, no-register, ends, ends-badly, none-behind, some-behind, product, most-of-all, is-some, last-below}

@@ -4,7 +4,7 @@ use native.Mathlib.Omega.{arith}
 use denote.Ref.{now}
 use Prim.Native.Nat.{_-_}
 use lib.ListN.{length}
-use Rattle.form.specs.Read.{kind-of}
+use Rattle.form.specs.Inner.Read.{kind-of}
 use Rattle.form.proofs.Names.{few-coded}
 use Rattle.fast.proofs.Whole.{short-line, no-end, near-end, far-end, no-comma, line-said}
 use borrow.Author.Needs.{needs}

@@ -1,6 +1,6 @@
 use mathlib.Core.Path.{sym, _∙_}
 use denote.Ref.{now}
-use Rattle.text.specs.Fields.{fields-from}
+use Rattle.text.specs.Readers.{fields-from}
 use Rattle.fast.proofs.Fields.{is-numbers, is-cell, is-branch, is-other}
 use borrow.Author.Needs.{needs}
 use Rattle.fast.proofs.order_of.Statement.{statement}

@@ -6,11 +6,12 @@ use Prim.Native.Nat.{ℕ, zero, suc, _+_, _*_, _%_}
 use lib.Dec.{eqb, ltb}
 use lib.ListN.{getD}
 use Rattle.base.specs.Tests.{member}
-use Rattle.text.specs.Digits.{short-of}
+use Rattle.text.specs.Inner.Parts.{short-of}
 use Rattle.ast.specs.declared.Place.{Place}
-use Rattle.form.specs.Syntax.{flag, place-name}
-use Rattle.form.specs.Read.{first, all-places}
-use Rattle.form.specs.Form.{only}
+use Rattle.form.specs.Inner.Syntax.{flag}
+use Rattle.form.specs.Text.{place-name}
+use Rattle.form.specs.Inner.Read.{first, all-places}
+use Rattle.form.specs.Inner.Parts.{only}
 use Rattle.fast.specs.Inner.Packed.{place-number, flag-number, below}
 
 -- ---- numbers

@@ -12,7 +12,7 @@ use Rattle.ast.specs.declared.Order.{Order}
 use Rattle.assembler.specs.declared.Asm.{Asm}
 use Rattle.assembler.specs.State.{state, Lent}
 use Rattle.fast.specs.Inner.Packed.{unpacked}
-use Rattle.fast.specs.Fast.{placed-in, not-mine, left}
+use Rattle.fast.specs.Inner.Fast.{placed-in, not-mine, left}
 
 -- open, and sound but for its room
 abbrev pub ready : Asm → Bool

@@ -1,7 +1,7 @@
 use mathlib.Core.Path.{_≡_, refl, sym, _∙_}
 use denote.Ref.{now}
 use borrow.Author.Needs.{needs}
-use Rattle.text.specs.Fields.{fields-from}
+use Rattle.text.specs.Readers.{fields-from}
 use Rattle.form.specs.Inner.Parts.{zeros, read-numbers}
 use Rattle.form.specs.declared.Numbers.the-variants as Numbers
 use Rattle.form.proofs.Shapes.{goes-on, stops, none-left, some-left}

@@ -16,7 +16,7 @@ use Rattle.ast.specs.declared.Fused as F
 use Rattle.ast.specs.declared.Fused.the-variants.{MulAdd, MulSub, NegMulAdd, NegMulSub}
 use Rattle.ast.specs.declared.Frame.{Frame}
 use Rattle.ast.specs.declared.Frame.the-variants.{Fast, Indirect}
-use Rattle.form.specs.Syntax.{names}
+use Rattle.form.specs.Inner.Syntax.{names}
 use Rattle.form.specs.declared.Kind.{Kind}
 use Rattle.form.specs.declared.Kind.the-variants as Kind
 

@@ -1,27 +1,33 @@
 -- The parts of the reader: what only its own functions promise.
-use mathlib.Core.Option.{Option, some, none}
+use mathlib.Core.Bool.{Bool}
+use mathlib.Core.Option.{Option, some, none, Option·map}
 use mathlib.Core.List.{List, [], _∷_}
 use Prim.Native.Nat.{ℕ, zero, suc}
 use lib.ListN.{replicate}
-use Rattle.text.specs.Digits.{sized}
+use Rattle.text.specs.Readers.{sized}
 use Rattle.text.specs.declared.Number.{Number}
 use Rattle.text.specs.declared.Number.the-variants as Number
-use Rattle.form.specs.Syntax.{Sort, number, Value, Values, sorts}
-use Rattle.form.specs.Read.{read-field, read-values}
+use Rattle.form.specs.Inner.Syntax.{Sort, number, Value, Values, sorts, line-of}
+use Rattle.form.specs.Inner.Read.{read-field, read-values}
 use Rattle.form.specs.Form.{cut}
+use Rattle.ast.specs.declared.Place.{Place}
 use Rattle.form.specs.declared.Kind.{Kind}
 use Rattle.form.specs.declared.Kind.the-variants as Kind
 use Rattle.form.specs.declared.Form.{Form}
 use Rattle.form.specs.declared.Form.the-variants as Form
 use Rattle.form.specs.declared.Named.{Named}
 use Rattle.form.specs.declared.Named.the-variants as Named
+use Rattle.form.specs.declared.Where.{Where}
+use Rattle.form.specs.declared.Where.the-variants as Where
+use Rattle.form.specs.declared.Flag.{Flag}
+use Rattle.form.specs.declared.Flag.the-variants as Flag
 use Rattle.form.specs.declared.Numbers.{Numbers}
 use Rattle.form.specs.declared.Numbers.the-variants as Numbers
 
 -- a line of kind k with these fields behind the name
 abbrev pub shaped′ : (k : Kind) → Option (Values (sorts k)) → Form
 shaped′ k none = Form.Malformed
-shaped′ k (some vs) = cut k vs
+shaped′ k (some vs) = cut (line-of k vs)
 
 unfoldable pub shaped : Kind → List (List ℕ) → Form
 shaped k fs = shaped′ k (read-values (sorts k) fs)
@@ -71,3 +77,15 @@ of-numbers (Numbers.Are v w x y z) Kind.Bits = Form.Malformed
 abbrev pub first-of : (q : Sort) → List (List ℕ) → Option (Value q)
 first-of q [] = none
 first-of q (f ∷ fs) = read-field q f
+
+-- the value of the only field
+abbrev pub only : (q : Sort) → List (List ℕ) → Option (Value q)
+only q fs = Option·map (λ vs. vs .0) (read-values (q ∷ []) fs)
+
+abbrev pub placed : Option Place → Where
+placed none = Where.Malformed
+placed (some p) = Where.Is p
+
+abbrev pub flagged : Option Bool → Flag
+flagged none = Flag.Malformed
+flagged (some b) = Flag.Is b

@@ -6,8 +6,8 @@ use Rattle.assembler.specs.Item.{Item}
 use Rattle.assembler.specs.Put.{jumps, put}
 use Rattle.assembler.specs.State.{state}
 use Rattle.frame_code.specs.Items.{times-over}
-use Rattle.frame_code.specs.Copies.{copy-first, copy-each}
-use Rattle.frames.specs.Whole.{looped}
+use Rattle.frame_code.specs.Inner.Copies.{copy-first, copy-each}
+use Rattle.frames.specs.Inner.Whole.{looped}
 use Rattle.accesses.proofs.Placed.{plan-code}
 use Rattle.frames.proofs.Parts.{jumps-code, untagged}
 use Rattle.frames.proofs.Sizes.{none-are, few-are, many-are}

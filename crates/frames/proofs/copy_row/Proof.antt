@@ -9,7 +9,7 @@ use denote.Ref.{now}
 use Rattle.assembler.specs.State.{State, state}
 use Rattle.finish.proofs.Both.{Accepts}
 use Rattle.frame_code.specs.Items.{code, times-over}
-use Rattle.frame_code.specs.Copies.{copy-each}
+use Rattle.frame_code.specs.Inner.Copies.{copy-each}
 use Rattle.accesses.proofs.Placed.{plan-code}
 use Rattle.frames.proofs.Parts.{refuses, opens, closed, row-piece, left-of, checked, checks}
 use Rattle.frames.proofs.Sizes.{six, row-number}

@@ -13,7 +13,7 @@ use Rattle.ast.specs.declared.Frame.the-variants.{Indirect}
 use Rattle.accesses.proofs.Collect.{answered, collected}
 use Rattle.frame_code.proofs.Valid.{opening-valid}
 use Rattle.frames.proofs.Wholes.{opening-few, arguments, entry-number}
-use Rattle.frames.specs.Whole.{entry}
+use Rattle.frames.specs.Inner.Whole.{entry}
 use borrow.Author.Needs.{needs}
 use Rattle.frames.proofs.enter.Statement.{statement}
 use Rattle.frames.proofs.enter.Tie as tie

@@ -9,7 +9,7 @@ use Rattle.assembler.specs.Put.{jumps}
 use Rattle.assembler.specs.State.{state, State}
 use Rattle.assembler.specs.declared.JumpKind.the-variants.{Beq}
 use Rattle.frame_code.specs.Items.{code, closing, epilogue-indirect, at-done}
-use Rattle.frame_code.specs.Copies.{copies}
+use Rattle.frame_code.specs.Inner.Copies.{copies}
 use Rattle.accesses.proofs.Placed.{plan-code}
 use Rattle.frames.proofs.Parts.{label-set, refuses, opens, closes, piece, left-of, checked, checks}
 use Rattle.ast.specs.declared.Frame.the-variants.{Indirect}

@@ -10,8 +10,8 @@ use Rattle.assembler.specs.Item.{label}
 use Rattle.assembler.specs.Put.{jumps}
 use Rattle.assembler.specs.State.{State, state}
 use Rattle.frame_code.specs.Items.{code, mv, prologue-indirect, at-main}
-use Rattle.frame_code.specs.Copies.{copies}
-use Rattle.frames.specs.Whole.{entry}
+use Rattle.frame_code.specs.Inner.Copies.{copies}
+use Rattle.frames.specs.Inner.Whole.{entry}
 use Rattle.accesses.proofs.Placed.{plan-code}
 use Rattle.frames.proofs.Parts.{label-set, left-of, checked, checks, refuses, opens, closes, front-piece, piece, size-put}
 use Rattle.isa.specs.Instr.{Shift, SLLI}

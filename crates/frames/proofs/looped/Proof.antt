@@ -13,8 +13,8 @@ use Rattle.assembler.specs.Put.{jumps}
 use Rattle.assembler.specs.State.{state, State}
 use Rattle.assembler.specs.declared.JumpKind.the-variants.{Bne}
 use Rattle.frame_code.specs.Items.{code, count-down}
-use Rattle.frame_code.specs.Copies.{copy-first, copy-each, copy-label}
-use Rattle.frames.specs.Whole.{looped}
+use Rattle.frame_code.specs.Inner.Copies.{copy-first, copy-each, copy-label}
+use Rattle.frames.specs.Inner.Whole.{looped}
 use Rattle.accesses.proofs.Placed.{plan-code}
 use Rattle.frames.proofs.Parts.{label-set, plan-jump, refuses, opens, closes, front-piece, piece, left-of, checked, checks}
 use Rattle.frame_code.proofs.Valid.{first-valid, each-valid}

@@ -8,7 +8,7 @@ use denote.Ref.{now}
 use Rattle.assembler.specs.Put.{jumps}
 use Rattle.assembler.specs.State.{state, State}
 use Rattle.frame_code.specs.Items.{code, times-over}
-use Rattle.frame_code.specs.Copies.{copy-first, copy-each}
+use Rattle.frame_code.specs.Inner.Copies.{copy-first, copy-each}
 use Rattle.accesses.proofs.Placed.{plan-code}
 use Rattle.frames.proofs.Parts.{refuses, opens, closes, code-piece, left-of, checked, checks}
 use Rattle.frame_code.proofs.Valid.{first-valid}

@@ -5,7 +5,8 @@ use Prim.Native.Nat.{ℕ, _*_, _≤_}
 use lib.IntN.{ℤ, pos}
 use mir.Syntax.{w32}
 use mir.Val.{toZ}
-use Rattle.isa.specs.Instr.{Instr, Valid, S, FSD, I, FLD}
+use Rattle.isa.specs.Instr.{Instr, S, FSD, I, FLD}
+use Rattle.isa.proofs.Validity.{Valid}
 use Rattle.encoder.specs.declared.Encoded.{Encoded}
 use Rattle.encoder.specs.declared.Encoded.the-variants.{Word}
 use Rattle.accesses.specs.Plans.{answer-of, word-of}

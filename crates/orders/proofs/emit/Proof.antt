@@ -6,9 +6,9 @@ use Rattle.assembler.specs.State.{State, state}
 use Rattle.ast.specs.declared.Order.{Order}
 use Rattle.orders.specs.Code.{code}
 use Rattle.orders.specs.Fault.{fault}
-use Rattle.orders.specs.Parts.{instrs, rest-items, rest-fault}
+use Rattle.orders.specs.Inner.Parts.{instrs}
 use Rattle.orders.specs.declared.Rest.{Rest}
-use Rattle.orders.proofs.Whole.{Bare, behind-as, order-refused, order-label, order-alone}
+use Rattle.orders.proofs.Whole.{rest-items, rest-fault, Bare, behind-as, order-refused, order-label, order-alone}
 use borrow.Author.Needs.{needs}
 use Rattle.orders.proofs.emit.Statement.{statement}
 use Rattle.orders.proofs.emit.Tie as tie

@@ -3,7 +3,7 @@ use Prim.Native.Nat.{_-_, _≤_}
 use lib.ListN.{length, drop}
 use denote.Ref.{now}
 use borrow.Author.Needs.{needs}
-use Rattle.text.specs.Digits.{read-from, numeral}
+use Rattle.text.specs.Readers.{read-from, numeral}
 use Rattle.text.proofs.Steps.{cut-from, cut-read, no-digit, one-digit, no-digits}
 use Rattle.text.proofs.digits.Statement.{statement}
 use Rattle.text.proofs.digits.Tie as tie

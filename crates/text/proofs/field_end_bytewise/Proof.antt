@@ -3,7 +3,7 @@ use mathlib.Core.Path.{_≡_, refl, sym, _∙_}
 use Prim.Native.Nat.{_-_, _≤_}
 use lib.ListN.{length}
 use borrow.Author.Needs.{needs}
-use Rattle.text.specs.Fields.{end-from}
+use Rattle.text.specs.Readers.{end-from}
 use Rattle.text.proofs.Steps.{ends-here, ends-later, ends-behind}
 use Rattle.text.proofs.field_end_bytewise.Statement.{statement}
 use Rattle.text.proofs.field_end_bytewise.Tie as tie

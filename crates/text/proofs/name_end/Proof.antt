@@ -6,7 +6,7 @@ use borrow.Author.Needs.{needs}
 use denote.Ref.{now}
 use lib.Count.{trailing-le}
 use Rattle.text.specs.Inner.Parts.{each}
-use Rattle.text.specs.Fields.{end-from}
+use Rattle.text.specs.Readers.{end-from}
 use Rattle.text.proofs.Steps.{ends-here, ends-later}
 use Rattle.text.proofs.Eights.{Found, found-eight}
 use Rattle.text.proofs.name_end.Statement.{statement}

@@ -1,4 +1,4 @@
-use Rattle.text.specs.Digits.{read-decimal}
+use Rattle.text.specs.Readers.{read-decimal}
 use mathlib.Core.Path.{sym, _∙_}
 use denote.Ref.{now}
 use Rattle.text.proofs.Answers.{empty-integer, minus, plain, plain-is, plain-bad, part-is}

@@ -1,4 +1,4 @@
-use Rattle.text.specs.Digits.{read-decimal}
+use Rattle.text.specs.Readers.{read-decimal}
 use mathlib.Core.Path.{sym, ap, _∙_}
 use denote.Ref.{now}
 use Rattle.text.proofs.Answers.{minus-big, minus-value, minus-bad, minus-zero}

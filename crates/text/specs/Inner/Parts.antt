@@ -1,11 +1,12 @@
 -- The parts of the readers: what only their own functions promise.
 use mathlib.Core.Path.{_≡_}
 use mathlib.Core.Bool.{cond}
+use mathlib.Core.Option.{Option, some, none}
 use mathlib.Core.List.{List}
 use Prim.Native.Nat.{ℕ, zero, suc, _+_, _*_, _/_, _%_}
-use lib.Dec.{eqb}
-use lib.ListN.{getD}
-use Rattle.text.specs.Digits.{sized}
+use lib.Dec.{eqb, leb}
+use lib.ListN.{length, getD}
+use Rattle.text.specs.Readers.{read-decimal, sized}
 use Rattle.text.specs.declared.Number.{Number}
 use Rattle.text.specs.declared.Number.the-variants as Number
 
@@ -31,3 +32,13 @@ marks c (suc k) x = marks c k (x / 256) * 256 + cond (eqb (x % 256) c) 128 0
 abbrev pub further : (b : ℕ) → Number → (d : ℕ) → Number
 further b (Number.Value v) d = sized (v * b + d)
 further b Number.TooBig d = Number.TooBig
+
+-- ---- the fast path's numbers
+
+-- a number of at most three digits, 1000 for everything else
+abbrev pub or-1000 : Option ℕ → ℕ
+or-1000 none = 1000
+or-1000 (some n) = n
+
+unfoldable pub short-of : List ℕ → ℕ
+short-of s = cond (leb (length s) 3) (or-1000 (read-decimal s)) 1000

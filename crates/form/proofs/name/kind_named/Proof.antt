@@ -1,7 +1,7 @@
 use mathlib.Core.Path.{ap, _∙_}
 use Prim.Native.Nat.{ℕ}
 use borrow.Author.Needs.{needs}
-use Rattle.form.specs.Read.{kind-of}
+use Rattle.form.specs.Inner.Read.{kind-of}
 use Rattle.form.specs.Inner.Parts.{named}
 use Rattle.form.specs.Inner.Names.{kind-at}
 use Rattle.form.proofs.Names.{kind-back}

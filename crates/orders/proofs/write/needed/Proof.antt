@@ -2,7 +2,7 @@ use mathlib.Core.Path.{_≡_, sym, _∙_}
 use native.Mathlib.Omega.{arith}
 use Prim.Native.Nat.{_/_}
 use lib.ListN.{length, length-map}
-use Rattle.orders.specs.Parts.{instrs}
+use Rattle.orders.specs.Inner.Parts.{instrs}
 use Rattle.orders.specs.Wrote.{word}
 use Rattle.orders.proofs.Whole.{order-short}
 use borrow.Author.Needs.{needs}

@@ -2,7 +2,7 @@ use mathlib.Core.Path.{_≡_, ap}
 use denote.Ref.{now}
 use Rattle.ast.specs.declared.Binary.{Binary}
 use Rattle.orders.specs.Code.{binary-code}
-use Rattle.orders.specs.Wrote.{Fits}
+use Rattle.orders.specs.Inner.Wrote.{Fits}
 use Rattle.orders.proofs.Wrote.{fits-as}
 use borrow.Author.Needs.{needs}
 use Rattle.orders.proofs.write.put_binary.Statement.{statement}

@@ -1,7 +1,7 @@
 use native.Mathlib.Omega.{arith}
 use denote.Ref.{now}
 use lib.ListN.{length-append, length-map}
-use Rattle.accesses.specs.Plans.{one-code}
+use Rattle.accesses.specs.Inner.Plans.{one-code}
 use Rattle.accesses.specs.declared.Cell.the-variants.{LoadInt}
 use Rattle.orders.specs.Code.{choose-code}
 use Rattle.orders.specs.Wrote.{word}

@@ -1,8 +1,8 @@
 use mathlib.Core.Path.{_≡_, ap}
 use native.Mathlib.Omega.{arith}
 use denote.Ref.{now}
-use Rattle.orders.specs.Parts.{instrs}
-use Rattle.orders.specs.Wrote.{Fits}
+use Rattle.orders.specs.Inner.Parts.{instrs}
+use Rattle.orders.specs.Inner.Wrote.{Fits}
 use Rattle.orders.proofs.Whole.{Small, order-small}
 use Rattle.orders.proofs.Wrote.{fits-as, put-none}
 use Rattle.ast.specs.Uses.{uses}

@@ -3,7 +3,7 @@ use denote.Ref.{now}
 use borrow.Author.Tests.{eq-eqb, ne-eqb}
 use Rattle.ast.specs.declared.Unary.{Unary}
 use Rattle.orders.specs.Code.{unary-code}
-use Rattle.orders.specs.Wrote.{Fits}
+use Rattle.orders.specs.Inner.Wrote.{Fits}
 use Rattle.orders.proofs.Wrote.{fits-as, put-none}
 use borrow.Author.Needs.{needs}
 use Rattle.orders.proofs.write.put_unary.Statement.{statement}

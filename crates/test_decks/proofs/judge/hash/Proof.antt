@@ -2,7 +2,7 @@ use borrow.Author.Needs.{needs}
 use mathlib.Core.Path.{_≡_, sym, _∙_}
 use Prim.Native.Nat.{_-_, _≤_, _<_}
 use lib.ListN.{length, drop}
-use Rattle.test_decks.specs.Bytes.{hash-of}
+use Rattle.test_decks.specs.Inner.Bytes.{hash-of}
 use Rattle.test_decks.proofs.Bytes.{hash-ends, hash-goes}
 use Rattle.test_decks.proofs.judge.hash.Statement.{statement}
 use Rattle.test_decks.proofs.judge.hash.Tie as tie

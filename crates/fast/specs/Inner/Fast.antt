@@ -17,7 +17,7 @@ use Rattle.assembler.specs.declared.Asm.{Asm}
 use Rattle.assembler.specs.State.{State, Outcome, state, Lent, before}
 use Rattle.orders.specs.Emitted.{emitted-in}
 use Rattle.orders.specs.Wrote.{roomy}
-use Rattle.form.specs.Form.{form-of}
+use Rattle.form.specs.Grammar.{said}
 use Rattle.deck.specs.Judge.{Content, head, order, constant, line-judged}
 
 -- ---- the lines that it takes
@@ -41,8 +41,8 @@ small-order (accepted (head h)) = none
 small-order (accepted (constant c)) = none
 small-order (refused n place) = none
 
-abbrev pub said : (line : List ℕ) → Option Order
-said line = small-order (line-judged false (form-of line))
+abbrev pub order-said : (line : List ℕ) → Option Order
+order-said line = small-order (line-judged false (said line))
 
 -- ---- the state that it leaves
 
@@ -60,7 +60,7 @@ placed-in H tag none s = none
 placed-in H tag (some o) s = cond (roomy (s .asm .len) (s .buf)) (taken (emitted-in H tag o s)) none
 
 unfoldable pub fast-line : Head → (tag : ℕ) → (line : List ℕ) → State → Option State
-fast-line H tag line s = placed-in H tag (said line) s
+fast-line H tag line s = placed-in H tag (order-said line) s
 
 -- ---- the answer
 

@@ -1,16 +1,10 @@
--- A line as text: its name, each field behind a comma, and byte 10.
+-- A line as text, by its kind and values: its name, each field behind a comma, and byte 10.
 use mathlib.Core.List.{List, [], _∷_, _++_}
 use Prim.Native.Nat.{ℕ, _<_, _^_}
 use Rattle.text.specs.Digits.{decimal, integer-bytes, word-bytes}
 use Rattle.text.specs.Fields.{commas}
-use Rattle.form.specs.Syntax.{Sort, number, integer, word, place, flag, Value, Values, place-name, flag-name, sorts, Syntax}
-use Rattle.form.specs.declared.Kind.{Kind}
-use Rattle.form.proofs.Names.{name-of}
-
--- ---- names
-
-abbrev pub name : Kind → List ℕ
-name k = name-of k .spelling
+use Rattle.form.specs.Inner.Syntax.{Sort, number, integer, word, place, flag, Value, Values, name, sorts, Syntax}
+use Rattle.form.specs.Text.{place-name, flag-name}
 
 -- ---- fields
 
@@ -39,8 +33,8 @@ All (s ∷ ss) vs = Holds s (vs .0) × All ss (vs .1)
 
 -- ---- lines
 
-abbrev pub Fits : Syntax → Type 0
-Fits l = All (sorts (l .kind)) (l .values)
+abbrev pub SyntaxFits : Syntax → Type 0
+SyntaxFits l = All (sorts (l .kind)) (l .values)
 
-unfoldable pub text : Syntax → List ℕ
-text l = (name (l .kind) ++ commas (fields (sorts (l .kind)) (l .values))) ++ (10 ∷ [])
+unfoldable pub syntax-text : Syntax → List ℕ
+syntax-text l = (name (l .kind) ++ commas (fields (sorts (l .kind)) (l .values))) ++ (10 ∷ [])

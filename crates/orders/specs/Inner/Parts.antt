@@ -1,4 +1,4 @@
--- An order's items apart: its instructions, and what stands behind them. (What private functions promise.)
+-- An order's items apart: its instructions, and what stands behind them.
 use mathlib.Core.Bool.{Bool}
 use mathlib.Core.List.{List, [], _∷_}
 use Prim.Native.Nat.{ℕ, _*_}
@@ -6,8 +6,6 @@ use lib.IntN.{pos}
 use lib.ListN.{getD}
 use Rattle.isa.specs.Register.{zero, t0}
 use Rattle.isa.specs.Instr.{Instr, M, B, FMV-X-D}
-use Rattle.assembler.specs.Item.{Item, label}
-use Rattle.assembler.specs.Plan.{tail-items, tail-fault, label-fault}
 use Rattle.accesses.specs.Code.{load-float-code, save-float-code}
 use Rattle.assembler.specs.declared.Tail.the-variants as Tail
 use Rattle.assembler.specs.declared.JumpKind.the-variants.{Jalr, Fld}
@@ -37,12 +35,6 @@ instrs (Save s p i) = save-float-code s (base p) (8 * i)
 instrs (BranchIf c l e) = skip-code c e
 instrs (SetLabel l) = []
 
--- jumps, or a label
-abbrev pub rest-items : Rest → List Item
-rest-items (Jumps t) = tail-items t
-rest-items (Label l) = label l ∷ []
-rest-items (Alone t) = tail-items t
-
 -- by the operand that is no register, and the first register
 abbrev pub behind-operand : Operand → (d : ℕ) → Rest
 behind-operand Nothing d = Jumps Tail.Nothing
@@ -54,8 +46,3 @@ behind-operand (Set l) d = Label l
 
 abbrev pub rest-of : Order → Rest
 rest-of o = behind-operand (uses o .operand) (getD (uses o .registers) 0 0)
-
-abbrev pub rest-fault : Rest → ℕ
-rest-fault (Jumps t) = tail-fault t
-rest-fault (Label l) = label-fault l
-rest-fault (Alone t) = tail-fault t

@@ -1,4 +1,4 @@
--- Document 01, "The deck file": what a line's bytes say. It is the inverse of writing a line down (`proofs/Text`, `proofs/Inverse`).
+-- The reader of a line: the inverse of its text (`proofs/Inverse`).
 use mathlib.Core.Bool.{Bool, true, false, cond}
 use mathlib.Core.Option.{Option, some, none, Option·map}
 use mathlib.Core.List.{List, [], _∷_}
@@ -7,9 +7,9 @@ use lib.Dec.{eqb}
 use lib.ListN.{length, getD, take}
 use Rattle.ast.specs.declared.Place.{Place}
 use Rattle.ast.specs.declared.Place.the-variants as Place
-use Rattle.text.specs.Digits.{read-decimal, read-integer, read-word}
-use Rattle.text.specs.Fields.{split, same}
-use Rattle.form.specs.Syntax.{Sort, number, integer, word, place, flag, Value, Values, place-name, flag-name, names, sorts, Syntax}
+use Rattle.text.specs.Readers.{read-decimal, read-integer, read-word, split, same}
+use Rattle.form.specs.Text.{DeckLine, place-name, flag-name}
+use Rattle.form.specs.Inner.Syntax.{Sort, number, integer, word, place, flag, Value, Values, names, sorts, Syntax, line}
 use Rattle.form.specs.declared.Kind.{Kind}
 
 -- the first member whose name is s
@@ -60,6 +60,10 @@ read-kind (some k) fs = with-values k (read-values (sorts k) fs)
 abbrev pub read-fields : List (List ℕ) → Option Syntax
 read-fields [] = none
 read-fields (f ∷ fs) = read-kind (kind-of f) fs
+
+-- what the fields of a line say
+abbrev pub fields-say : List (List ℕ) → Option DeckLine
+fields-say fs = Option·map line (read-fields fs)
 
 -- fields behind commas, and byte 10
 unfoldable pub read : List ℕ → Option Syntax

@@ -113,7 +113,4 @@ binary64 =
       of-w-zero = λ m h. refl;
       of-w-one = λ m h. refl;
       of-w-minus-one = λ m h. refl;
-      of-l-zero = λ m h. refl;
-      of-l-one = λ m h. refl;
-      of-l-minus-one = λ m h. refl;
     }

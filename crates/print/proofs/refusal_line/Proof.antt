@@ -7,8 +7,8 @@ use Rattle.print.specs.Text.{refusal-line}
 use Rattle.print.proofs.Lines.{length-refusal-line}
 use Rattle.print.proofs.Fitting.{too-long, fits}
 use borrow.Author.Needs.{needs}
-use Rattle.print.proofs.refusal_text.Statement.{statement}
-use Rattle.print.proofs.refusal_text.Tie as tie
+use Rattle.print.proofs.refusal_line.Statement.{statement}
+use Rattle.print.proofs.refusal_line.Tie as tie
 
 returns : tie.Need-returns
 returns c =
@@ -30,8 +30,8 @@ returns-2 c =
     let h = length-refusal-line (a .number) (a .line) in
     fits t 0 (now (a .out)) _ _ (le-leb (0 + length t) (length (now (a .out))) (omega arith)) (omega arith) (c .before .before .put-refusal-line .ensures)
 
-pub refusal-text-spec : {M : Type 1} → statement M
-refusal-text-spec =
+pub refusal-line-spec : {M : Type 1} → statement M
+refusal-line-spec =
     tie.close
     (tie.spec
     (λ c κs. search needs)

@@ -2,7 +2,6 @@
 use mathlib.Core.Bool.{cond}
 use Prim.Native.Nat.{ℕ, _+_, _-_, _*_, _%_}
 use lib.Dec.{ltb, eqb}
-use lib.IntN.{ℤ, pos, negsuc}
 use Rattle.encoder.specs.declared.Sign.{Sign}
 use Rattle.encoder.specs.declared.Sign.the-variants.{NonNeg, Neg}
 use Rattle.encoder.specs.declared.Field.{Field}
@@ -12,10 +11,6 @@ use Rattle.encoder.specs.declared.Field.the-variants.{Bits, Outside}
 abbrev pub packed : ℕ → ℕ → ℕ → ℕ → ℕ → ℕ → ℕ
 packed base rd funct3 rs1 rs2 funct7 =
     base + rd * 128 + funct3 * 4096 + rs1 * 32768 + rs2 * 1048576 + funct7 * 33554432
-
-abbrev pub sign-of : ℤ → Sign
-sign-of (pos n) = NonNeg n
-sign-of (negsuc n) = Neg n
 
 abbrev pub signed-field : ℕ → Sign → Field
 signed-field half (NonNeg n) = cond (ltb n half) (Bits n) Outside

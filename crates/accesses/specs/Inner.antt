@@ -1,0 +1,2 @@
+-- accesses by what they do, and a plan placed
+pub mod Plans

@@ -1,0 +1,2 @@
+-- steps of the state, and room
+pub mod State

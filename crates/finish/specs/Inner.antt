@@ -1,0 +1,2 @@
+-- nothing is wrong with any jump
+pub mod Finish

@@ -1,0 +1,2 @@
+-- the copies of states and observations by one choice
+pub mod Copies

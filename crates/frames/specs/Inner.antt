@@ -1,0 +1,2 @@
+-- parts of an indirect prologue; copies by the loop
+pub mod Whole

@@ -1,0 +1,2 @@
+-- what a line says, over the code's forms
+pub mod Forms

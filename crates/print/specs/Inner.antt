@@ -1,0 +1,2 @@
+-- a word in bytes
+pub mod Text

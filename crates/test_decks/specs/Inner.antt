@@ -1,0 +1,2 @@
+-- the hash of bytes
+pub mod Bytes

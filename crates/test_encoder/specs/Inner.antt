@@ -1,0 +1,2 @@
+-- when the encoder's answer is the expected one
+pub mod Row
