@@ -5,7 +5,7 @@ use mathlib.Core.Option.{Option, some, none}
 use mathlib.Core.List.{List, [], map, append-nil}
 use Prim.Native.Nat.{ℕ, suc, _*_, _/_, _%_, _+_, _<_, _≤_}
 use native.Mathlib.Omega.{arith}
-use borrow.Author.Tests.{lt-ltb, le-leb, leb-true, not-true}
+use borrow.Author.Tests.{lt-ltb, le-leb, leb-true, ne-eqb, not-true}
 use lib.Dec.{eqb, leb}
 use lib.ListN.{length, length-map}
 use Rattle.isa.specs.Instr.{Instr}
@@ -19,18 +19,18 @@ use Rattle.assembler.specs.Item.{Item, instr, raw}
 use Rattle.assembler.specs.Bytes.{written, room}
 use Rattle.assembler.specs.declared.Asm.{Asm}
 use Rattle.assembler.specs.State.{State, state, sound}
-use Rattle.assembler.specs.Put.{labels, twice, words, jumps, placed, put-number, settled, put}
+use Rattle.assembler.specs.Put.{labels, twice, words, jumps, placed, verdict, put-number, settled, put}
 use Rattle.assembler.proofs.Items.{with-words}
 use Rattle.assembler.proofs.Checks.{v-closed, v-record}
 use Rattle.assembler.proofs.Plans.{put-same}
-use Rattle.assembler.proofs.Steps.{put-raw}
+use Rattle.assembler.proofs.Steps.{put-raw, settled-no}
 use Rattle.accesses.specs.Fault.{offset-limit}
 use Rattle.orders.specs.Code.{code}
-use Rattle.orders.specs.Emitted.{emitted}
+use Rattle.orders.specs.Emitted.{emitted, count-fault, unsaved-fault}
 use Rattle.orders.specs.Fault.{fault}
 use Rattle.orders.specs.Inner.Parts.{instrs}
 use Rattle.orders.specs.Wrote.{word, roomy, no-room}
-use Rattle.orders.proofs.Whole.{order-valid, order-short}
+use Rattle.orders.proofs.Whole.{order-valid, order-short, unsaved-some, counted-some}
 use Rattle.orders.proofs.Wrote.{words-valid}
 use Rattle.fast.specs.Inner.Fast.{taken, placed-in, not-mine, left}
 use Rattle.fast.specs.Inner.Packed.{unpacked}
@@ -62,15 +62,31 @@ neither : (t : Bool) → cond {A = Option State} t none none ≡ none
 neither true = refl
 neither false = refl
 
+-- a number is refused: nothing is taken
+settled-none : (n : ℕ) (t u : State) (k : ℕ) → suc k ≡ n → taken (settled n t u) ≡ none
+unfolding settled
+settled-none n t u k e = rw (← e)
+
+fault-none : (tag f : ℕ) (is : List Item) (s : State) → (f ≡ 0 → ⊥) → taken (put tag f is s) ≡ none
+unfolding put verdict
+fault-none tag f is s h = rw (ne-eqb f 0 h) (by (s .asm .closed) (eqb f 1) (eqb f 3) (sound (length (s .buf)) (s .asm)))
+  where
+    by : (c r l q : Bool) → taken (settled (cond c 8 (cond r 1 (cond l 3 (cond q f 2)))) s (placed tag is s)) ≡ none
+    by true r l q = settled-none 8 s (placed tag is s) 7 refl
+    by false true l q = settled-none 1 s (placed tag is s) 0 refl
+    by false false true q = settled-none 3 s (placed tag is s) 2 refl
+    by false false false true = ap taken (settled-no f s (placed tag is s) h)
+    by false false false false = settled-none 2 s (placed tag is s) 1 refl
+
 module _ (H : Head) (tag : ℕ) (o : Order) (s : State) where
   no-cell : index-holds H o ≡ false → placed-in H tag (some o) s ≡ none
-  no-cell e = rw e (neither (roomy (s .asm .len) (s .buf)))
+  no-cell e = rw (e, fault-none tag (count-fault o) (code o) s (counted-some o)) (neither (roomy (s .asm .len) (s .buf)))
 
   pub no-save : saves-hold (H .mask) o ≡ false → placed-in H tag (some o) s ≡ none
   no-save f = go (index-holds H o) refl
     where
       go : (t : Bool) → index-holds H o ≡ t → placed-in H tag (some o) s ≡ none
-      go true e = rw (e, f) (neither (roomy (s .asm .len) (s .buf)))
+      go true e = rw (e, f, fault-none tag (unsaved-fault (fault o)) (code o) s (unsaved-some (fault o))) (neither (roomy (s .asm .len) (s .buf)))
       go false e = no-cell e
 
   pub no-place : roomy (s .asm .len) (s .buf) ≡ false → placed-in H tag (some o) s ≡ none
@@ -80,10 +96,6 @@ module _ (H : Head) (tag : ℕ) (o : Order) (s : State) where
   judged e f r = rw (r, e, f)
 
   -- the record is closed, or none that orders make
-  settled-none : (n : ℕ) (t u : State) (k : ℕ) → suc k ≡ n → taken (settled n t u) ≡ none
-  unfolding settled
-  settled-none n t u k e = rw (← e)
-
   unready : ready (s .asm) ≡ false → fault o ≡ 0 → taken (emitted tag o s) ≡ none
   unfolding put sound
   unready h z = rw z (go (s .asm .closed) refl)

@@ -6,14 +6,13 @@ use mathlib.Core.Option.{Option, some, none}
 use Prim.Native.Nat.{ℕ, zero, suc, _+_, _*_, _%_, _≤_, _<_}
 use native.Mathlib.Nat.{zero-add}
 use native.Mathlib.Omega.{arith}
-use borrow.Author.Tests.{lt-ltb, le-leb, lt-leb, leb-true, leb-false, eq-eqb, eqb-true}
-use lib.Dec.{T, leb, leb→le}
+use borrow.Author.Tests.{lt-ltb, le-leb, lt-leb, leb-true, leb-false, eq-eqb, eqb-true, eqb-false}
+use lib.Dec.{T, leb, eqb, leb→le}
 use lib.ListN.{length, length-append, length-map, getD}
 use Rattle.isa.specs.Instr.{Instr}
 use Rattle.isa.specs.Encode.{encode}
 use Rattle.machine.proofs.Placed.{Valids}
 use Rattle.refusal.specs.Answer.{Answer, accepted, refused}
-use Rattle.refusal.specs.declared.Refusal.the-variants.{Count, Unsaved}
 use Rattle.assembler.specs.Bytes.{room}
 use Rattle.assembler.specs.Item.{Item, instr, raw, label}
 use Rattle.assembler.specs.State.{State, Outcome, state, sound, fits}
@@ -28,10 +27,10 @@ use Rattle.assembler.specs.declared.Tail.the-variants as Tails
 use Rattle.assembler.proofs.Checks.{v-good}
 use Rattle.assembler.proofs.Items.{with-words, placed-append, placed-raw, words-append, jumps-append, labels-append, words-raw, jumps-raw, labels-raw, words-tail, jumps-tail, labels-tail}
 use Rattle.assembler.proofs.Plans.{put-fault, put-same, earlier-none}
-use Rattle.assembler.proofs.Steps.{put-done}
+use Rattle.assembler.proofs.Steps.{settled-yes, put-done}
 use Rattle.assembler.proofs.Writes.{length-written}
 use Rattle.accesses.specs.Fault.{offset-limit}
-use Rattle.base.proofs.Bools.{passed}
+use Rattle.base.proofs.Bools.{T-true, passed}
 use Rattle.ast.specs.Uses.{uses, padded, index-holds, saves-hold, sets, weighs, registers-fit}
 use Rattle.ast.specs.declared.Operand.{Operand}
 use Rattle.ast.specs.declared.Operand.the-variants.{Nothing, Loaded, Stored, Constant, GoneTo, Set}
@@ -40,7 +39,7 @@ use Rattle.ast.specs.declared.Head.{Head}
 use Rattle.ast.specs.declared.Order.{Order}
 use Rattle.ast.specs.declared.Order.the-variants.{Unary, Scratched, Binary, Fused, Ifelse, LoadConst, Load, Save, BranchIf, SetLabel}
 use Rattle.orders.specs.Code.{code}
-use Rattle.orders.specs.Emitted.{emitted, turned-down, emitted-in}
+use Rattle.orders.specs.Emitted.{emitted, count-fault, unsaved-fault, fault-in, emitted-in}
 use Rattle.orders.specs.Fault.{operand-fault, fault, last-user-label}
 use Rattle.orders.specs.Inner.Parts.{instrs, behind-operand, rest-of}
 use Rattle.orders.specs.declared.Rest.{Rest}
@@ -320,7 +319,7 @@ behind-as o h r e =
     subst (λ (q : Rest). (code o ≡ map instr (instrs o) ++ rest-items q) × (rest-fault q ≡ 0) × Bare q (instrs o)) e (rest-right o, rest-fits o h, rest-bare o)
 
 -- refused for an operand
-pub order-refused : (o : Order) (tag : ℕ) (s : State) (f : Fault) (x : Outcome) → fault-number f ≡ fault o → (fault-number f ≡ 0 → ⊥) → x ≡ settled (verdict (earlier (fault-number f) 0) (twice (s .labels) []) 0 0 (length (s .buf)) (s .asm)) s s → x ≡ put tag (fault o) (code o) s
+pub order-refused : (o : Order) (tag : ℕ) (s : State) (f : Fault) (x : Outcome) {n : ℕ} → fault-number f ≡ n → (fault-number f ≡ 0 → ⊥) → x ≡ settled (verdict (earlier (fault-number f) 0) (twice (s .labels) []) 0 0 (length (s .buf)) (s .asm)) s s → x ≡ put tag n (code o) s
 unfolding put words jumps labels placed
 order-refused o tag s f x e h q =
     q
@@ -373,12 +372,88 @@ order-alone o tag s t p h g z n q =
 
 -- ---- an order of a deck
 
-module _ (H : Head) (tag : ℕ) (o : Order) (s : State) where
-  pub order-counted : index-holds H o ≡ false → turned-down Count s ≡ emitted-in H tag o s
-  order-counted e = rw e
+sound-fits : (n : ℕ) (a : Asm) → sound n a ≡ true → fits n a 0 0 ≡ true
+unfolding sound fits
+sound-fits n a e =
+    let x = both (leb (a .len) (room n)) (eqb (a .len % 4) 0 && leb (a .jumps) 4096) e in
+    let y = both (eqb (a .len % 4) 0) (leb (a .jumps) 4096) (x .1) in
+    let l : a .len ≤ room n = leb-true (a .len) (room n) (x .0) in
+    let j : a .jumps ≤ 4096 = leb-true (a .jumps) 4096 (y .1) in
+    rw (le-leb (a .len + 4 * 0) (room n) (omega (arith, l)), le-leb (a .jumps + 0) 4096 (omega (arith, j)))
 
-  pub order-unsaved : index-holds H o ≡ true → saves-hold (H .mask) o ≡ false → turned-down Unsaved s ≡ emitted-in H tag o s
-  order-unsaved e f = rw (e, f)
+pub unsaved-some : (k : ℕ) → unsaved-fault k ≡ 0 → ⊥
+unsaved-some k = by (eqb k 0) refl
+  where
+    by : (t : Bool) → eqb k 0 ≡ t → cond t 11 k ≡ 0 → ⊥
+    by true q e = omega arith
+    by false q e = eqb-false k 0 q e
+
+pub counted-some : (o : Order) → count-fault o ≡ 0 → ⊥
+counted-some o = by (registers-fit (uses o .registers))
+  where
+    by : (t : Bool) → _≡_ {A = ℕ} (cond t 9 1) 0 → ⊥
+    by true e = omega arith
+    by false e = omega arith
+
+-- what is told of an order that may not write what it writes, by what is told without that
+record Told (k v : ℕ) : Type 0 where
+  none-else : v ≡ 0 → 11 ≡ k
+  else-same : (v ≡ 0 → ⊥) → v ≡ k
+
+told : (k n : ℕ) (a : Asm) → Told (verdict (unsaved-fault k) false 0 0 n a) (verdict k false 0 0 n a)
+unfolding verdict
+told k n a = by (eqb k 0) refl
+  where
+    none : (c s : Bool) → sound n a ≡ s → Told (cond c 8 (cond s 11 2)) (cond c 8 (cond s (cond (fits n a 0 0) 0 7) 2))
+    none true s q = record { none-else = λ e. absurd (omega arith); else-same = λ h. refl }
+    none false false q = record { none-else = λ e. absurd (omega arith); else-same = λ h. refl }
+    none false true q = rw (sound-fits n a q) (record { none-else = λ e. refl; else-same = λ h. absurd (h refl) })
+
+    some : (k ≡ 0 → ⊥) → (c r l s : Bool) → Told (cond c 8 (cond r 1 (cond l 3 (cond s k 2)))) (cond c 8 (cond r 1 (cond l 3 (cond s k 2))))
+    some h true r l s = record { none-else = λ e. absurd (omega arith); else-same = λ h. refl }
+    some h false true l s = record { none-else = λ e. absurd (omega arith); else-same = λ h. refl }
+    some h false false true s = record { none-else = λ e. absurd (omega arith); else-same = λ h. refl }
+    some h false false false true = record { none-else = λ e. absurd (h e); else-same = λ h. refl }
+    some h false false false false = record { none-else = λ e. absurd (omega arith); else-same = λ h. refl }
+
+    by : (t : Bool) → eqb k 0 ≡ t → Told (verdict (cond t 11 k) false 0 0 n a) (verdict k false 0 0 n a)
+    by true q = rw (eqb-true k 0 q) (none (a .closed) (sound n a) refl)
+    by false q = rw q (some (eqb-false k 0 q) (a .closed) (eqb k 1) (eqb k 3) (sound n a))
+
+module _ (f : Fault) (s : State) (x : Outcome) (q : x ≡ settled (verdict (earlier (fault-number f) 0) (twice (s .labels) []) 0 0 (length (s .buf)) (s .asm)) s s) where
+  asked-number : verdict (earlier (fault-number f) 0) (twice (s .labels) []) 0 0 (length (s .buf)) (s .asm) ≡ verdict (fault-number f) false 0 0 (length (s .buf)) (s .asm)
+  unfolding twice
+  asked-number = ap (λ (k : ℕ). verdict k false 0 0 (length (s .buf)) (s .asm)) (earlier-none f)
+
+  unsaved-told : Told (verdict (unsaved-fault (fault-number f)) false 0 0 (length (s .buf)) (s .asm)) (verdict (fault-number f) false 0 0 (length (s .buf)) (s .asm))
+  unsaved-told = told (fault-number f) (length (s .buf)) (s .asm)
+
+  pub unsaved-same : mark (x .answer) ≡ 1 → x ≡ put 0 (unsaved-fault (fault-number f)) [] s
+  unfolding put words jumps labels twice placed
+  unsaved-same m =
+      let v = rw asked-number at q in
+      v ∙ ap (λ (k : ℕ). settled k s s) (unsaved-told .else-same (λ e. zero-marks (v ∙ ap (λ (k : ℕ). settled k s s) e)))
+    where
+      zero-marks : x ≡ settled 0 s s → ⊥
+      zero-marks e = omega (arith, m, ap (λ (y : Outcome). mark (y .answer)) (e ∙ settled-yes s s))
+
+  pub unsaved-alone : mark (x .answer) ≡ 0 → _≡_ {A = Outcome} (record { answer = refused 11 0; state = s }) (put 0 (unsaved-fault (fault-number f)) [] s)
+  unfolding put words jumps labels twice placed settled
+  unsaved-alone m = ap (λ (k : ℕ). settled k s s) (unsaved-told .none-else (sym asked-number ∙ agreed _ s x q m))
+
+module _ (H : Head) (tag : ℕ) (o : Order) (s : State) where
+  pub order-counted : (f : Fault) (x : Outcome) → index-holds H o ≡ false → fault-number f ≡ count-fault o → x ≡ settled (verdict (earlier (fault-number f) 0) (twice (s .labels) []) 0 0 (length (s .buf)) (s .asm)) s s → x ≡ emitted-in H tag o s
+  order-counted f x e g q = rw e (order-refused o tag s f x g (λ z. counted-some o (sym g ∙ z)) q)
+
+  pub order-unsaved : (f : Fault) (x : Outcome) → index-holds H o ≡ true → saves-hold (H .mask) o ≡ false → fault-number f ≡ fault o → x ≡ put 0 (unsaved-fault (fault-number f)) [] s → x ≡ emitted-in H tag o s
+  order-unsaved f x e g h q = rw (e, g) (q ∙ put-fault 0 tag (unsaved-fault (fault-number f)) [] (code o) s (unsaved-some (fault-number f)) ∙ ap (λ (k : ℕ). put tag (unsaved-fault k) (code o) s) h)
 
   pub order-goes : index-holds H o ≡ true → saves-hold (H .mask) o ≡ true → emitted tag o s ≡ emitted-in H tag o s
   order-goes e f = rw (e, f)
+
+-- of an order without a fault of its own
+pub deck-fault : (H : Head) (o : Order) → fault o ≡ 0 → fault-in H o ≡ cond (index-holds H o) (cond (saves-hold (H .mask) o) 0 11) 9
+deck-fault H o z = rw (z, registers-true)
+  where
+    registers-true : registers-fit (uses o .registers) ≡ true
+    registers-true = T-true _ ((operands-fit o z) .0)

@@ -1,11 +1,10 @@
 -- What an order does to the assembler's state: all of its items are placed, or it is refused and nothing changes.
 use mathlib.Core.Bool.{cond}
 use Prim.Native.Nat.{ℕ}
-use Rattle.refusal.specs.Answer.{refused}
+use lib.Dec.{eqb}
 use Rattle.refusal.specs.Number.{number-of}
-use Rattle.refusal.specs.declared.Refusal.{Refusal}
-use Rattle.refusal.specs.declared.Refusal.the-variants.{Count, Unsaved}
-use Rattle.ast.specs.Uses.{index-holds, saves-hold}
+use Rattle.refusal.specs.declared.Refusal.the-variants.{Register, Count, Unsaved}
+use Rattle.ast.specs.Uses.{uses, registers-fit, index-holds, saves-hold}
 use Rattle.ast.specs.declared.Head.{Head}
 use Rattle.ast.specs.declared.Order.{Order}
 use Rattle.assembler.specs.State.{State, Outcome}
@@ -16,11 +15,19 @@ use Rattle.orders.specs.Fault.{fault}
 abbrev pub emitted : (tag : ℕ) → Order → State → Outcome
 emitted tag o s = put tag (fault o) (code o) s
 
--- nothing changes
-abbrev pub turned-down : Refusal → State → Outcome
-turned-down r s = record { answer = refused (number-of r) 0; state = s }
+-- ---- an order of a deck with line 1 H
 
--- an order of a deck with line 1 H: 9, 11, then its own refusals
+-- its cell is not below its count: 1, then 9, whatever the index
+abbrev pub count-fault : Order → ℕ
+count-fault o = cond (registers-fit (uses o .registers)) (number-of Count) (number-of Register)
+
+-- it writes a register outside the mask, or a saved one's cell: its own fault, then 11
+abbrev pub unsaved-fault : (fault : ℕ) → ℕ
+unsaved-fault fault = cond (eqb fault 0) (number-of Unsaved) fault
+
+abbrev pub fault-in : Head → Order → ℕ
+fault-in H o = cond (index-holds H o) (cond (saves-hold (H .mask) o) (fault o) (unsaved-fault (fault o))) (count-fault o)
+
+-- so 8, 1, 3, 2, 9, 11, 4, 7
 abbrev pub emitted-in : Head → (tag : ℕ) → Order → State → Outcome
-emitted-in H tag o s =
-    cond (index-holds H o) (cond (saves-hold (H .mask) o) (emitted tag o s) (turned-down Unsaved s)) (turned-down Count s)
+emitted-in H tag o s = put tag (fault-in H o) (code o) s

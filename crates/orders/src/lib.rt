@@ -1,16 +1,17 @@
 // mod.rs, orders: the words of each order, all or nothing. Registers are physical.
 ghost use mathlib.Core.Path.{_≡_};
 ghost use mathlib.Core.Bool.{cond};
-ghost use mathlib.Core.List.{_++_, map};
+ghost use mathlib.Core.List.{[], _++_, map};
 ghost use Prim.Native.Nat.{_≤_};
 ghost use lib.Dec.{leb};
 ghost use lib.ListN.{length};
 ghost use Rattle.assembler.specs.Item.{instr};
-ghost use Rattle.assembler.specs.State.{before, after};
+ghost use Rattle.assembler.specs.State.{before, after, Answered};
+ghost use Rattle.assembler.specs.Put.{put};
 ghost use Rattle.assembler.specs.Plan.{fault-number, tail-items, tail-fault};
 ghost use Rattle.orders.specs.Code.{code};
 ghost use Rattle.orders.specs.Fault.{fault as fault-of, operand-fault};
-ghost use Rattle.orders.specs.Emitted.{emitted, emitted-in};
+ghost use Rattle.orders.specs.Emitted.{emitted, count-fault, unsaved-fault, emitted-in};
 ghost use Rattle.orders.specs.Inner.Parts.{instrs, rest-of};
 
 pub mod named;
@@ -177,7 +178,33 @@ pub fn emit(
     }
 }
 
-// An order of a deck with this line 1: 9, 11, then its own refusals.
+// Of an order whose cell is not below its count: 1, then 9.
+fn count_fault(o: Order) -> Fault
+    ensures { λ r. ⌜ fault-number r ≡ count-fault o ⌝ }
+{
+    if ast::registers_fit(o) {
+        Fault::Count
+    } else {
+        Fault::Register
+    }
+}
+
+// 11, behind what else is refused of the order and of the record.
+fn unsaved(f: Fault, buf: &[u8], labels: &Labels, asm: Asm) -> EmitResult
+    ensures { λ r. ⌜ Answered (put 0 (unsaved-fault (fault-number f)) []) asm r labels buf ⌝ }
+{
+    let d = assembler::check_whole(f, Sets::Nothing, 0, 0, buf, labels, asm);
+    let a = d.answer;
+    match a {
+        Answer::Refused(_, _) => d,
+        Answer::Accepted => EmitResult {
+            asm,
+            answer: Answer::Refused(Refusal::Unsaved, 0),
+        },
+    }
+}
+
+// An order of a deck with this line 1.
 pub fn emit_in(
     head: Head,
     tag: u32,
@@ -193,13 +220,7 @@ pub fn emit_in(
         if ast::saves_hold(head.mask, o) {
             return emit(o, tag, buf, labels, jumps, asm);
         }
-        return EmitResult {
-            asm,
-            answer: Answer::Refused(Refusal::Unsaved, 0),
-        };
+        return unsaved(fault(o), buf, labels, asm);
     }
-    EmitResult {
-        asm,
-        answer: Answer::Refused(Refusal::Count, 0),
-    }
+    assembler::check_whole(count_fault(o), Sets::Nothing, 0, 0, buf, labels, asm)
 }

@@ -24,6 +24,7 @@ use Rattle.reading.specs.Line.{Line, order, constant}
 use Rattle.orders.specs.Code.{code, line-code}
 use Rattle.orders.specs.Emitted.{emitted-in}
 use Rattle.orders.specs.Fault.{fault}
+use Rattle.orders.proofs.Whole.{deck-fault}
 use Rattle.ast.specs.Counts.{epilogue-holds}
 use Rattle.finish.proofs.Represents.{Represents}
 use Rattle.reading.specs.Program.{Program, constants}
@@ -33,7 +34,7 @@ use Rattle.routine.specs.Run.{RunOutcome, refused-at, next, constant-run
 use Rattle.routine.proofs.LawFit.{Fit, fit-append, fit-labelled, code-fit, code-labels, each-append}
 use Rattle.base.proofs.Each.{Each, each-map}
 use Rattle.routine.proofs.LawJudged.{Said, line-said}
-use Rattle.routine.proofs.LawParts.{Agrees, then-then, laid-refuses, put-agrees}
+use Rattle.routine.proofs.LawParts.{Agrees, then-then, laid-refuses, fault-agrees, put-agrees}
 use Rattle.routine.proofs.LawLeave.{Before, tags-so-far, leave-agrees}
 
 -- ---- one line more
@@ -123,17 +124,17 @@ module _ (b : List ℕ) (p : Program) (cs : List Constant) (s : State) (a : Goin
     refuses = laid-refuses b (entry p ++ body (p .lines)) (tags-so-far p) s (a .laid)
 
     order-agrees : (o : Order) → fault o ≡ 0 → Agrees b (then (then (unless (order-number (length b) p o) (next-line p) (order o)) F) K) (next (emitted-in (p .head) (next-line p) o s) (next-line p) (more cs))
-    order-agrees o e = by (index-holds (p .head) o) (saves-hold (p .head .mask) o)
+    order-agrees o e = rw (deck-fault (p .head) o e) (by (index-holds (p .head) o) (saves-hold (p .head .mask) o))
       where
         by : (t u : Bool)
             → Agrees b (then (then (unless (cond t (cond u (room-number (length b) (entry p ++ body (p .lines)) (code o)) 11) 9) (next-line p) (order o)) F) K)
-            (next (cond t (cond u (put (next-line p) (fault o) (code o) s) (record { answer = refused 11 0; state = s })) (record { answer = refused 9 0; state = s })) (next-line p) (more cs))
+            (next (put (next-line p) (cond t (cond u 0 11) 9) (code o) s) (next-line p) (more cs))
         by true true =
             rw (then-then (unless (room-number (length b) (entry p ++ body (p .lines)) (code o)) (next-line p) (order o)) F K)
-            (put-agrees b (entry p ++ body (p .lines)) (tags-so-far p) s (a .laid) (code o) (next-line p) (fault o) (fit-labelled (code o) (code-fit o e)) (code-labels o e .once) e (next-line p) (more cs) Line (order o) (λ l. then (F l) K)
+            (put-agrees b (entry p ++ body (p .lines)) (tags-so-far p) s (a .laid) (code o) (next-line p) 0 (fit-labelled (code o) (code-fit o e)) (code-labels o e .once) refl (next-line p) (more cs) Line (order o) (λ l. then (F l) K)
             (λ t l. m (order o) cs t (going-order o t e l)))
-        by true false = refuses 11 (next-line p)
-        by false u = refuses 9 (next-line p)
+        by true false = fault-agrees b (entry p ++ body (p .lines)) (tags-so-far p) s (a .laid) (code o) (next-line p) 10 (λ z. omega arith) (λ z. omega arith) (next-line p) (more cs)
+        by false u = fault-agrees b (entry p ++ body (p .lines)) (tags-so-far p) s (a .laid) (code o) (next-line p) 8 (λ z. omega arith) (λ z. omega arith) (next-line p) (more cs)
 
     constant-agrees : (c : Constant) → Agrees b (then (then (unless (constant-number p) (next-line p) (constant c)) F) K) (next (constant-run (length cs) s) (next-line p) (more (cs ++ (c ∷ []))))
     constant-agrees c =

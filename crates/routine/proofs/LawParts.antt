@@ -11,8 +11,9 @@ use Rattle.assembler.specs.Bytes.{written, room}
 use Rattle.assembler.specs.Memory.{jumps-of}
 use Rattle.assembler.proofs.Tags.{tags-of}
 use Rattle.assembler.specs.State.{State}
-use Rattle.assembler.specs.Put.{words, jumps, labels, placed, put-number, settled, put}
+use Rattle.assembler.specs.Put.{words, jumps, labels, twice, placed, put-number, settled, put}
 use Rattle.assembler.specs.Resolved.{label-place, jumps-in}
+use Rattle.assembler.proofs.Checks.{v-fault}
 use Rattle.assembler.proofs.Steps.{put-done, settled-no}
 use Rattle.finish.proofs.Represents.{Represents, Labelled, entry}
 use Rattle.finish.proofs.All.{put-represents}
@@ -21,7 +22,7 @@ use Rattle.reading.specs.Program.{Program}
 use Rattle.call.specs.Layout.{items, code-length, routine-words}
 use Rattle.routine.specs.Routine.{then, unless, shared, room-number, jump-lines, summary-of}
 use Rattle.routine.specs.Run.{RunOutcome, refused-at, next}
-use Rattle.routine.proofs.LawRoom.{Once, laid-size, put-room, space-number, room-space, space-none, space-part}
+use Rattle.routine.proofs.LawRoom.{Once, laid-size, laid-sound, put-room, space-number, room-space, space-none, space-part}
 
 -- ---- agreement
 
@@ -60,6 +61,13 @@ module _ (b : List ℕ) (is : List Item) (ts : List ℕ) (s : State) (a : Repres
 
   pub laid-refuses : (n line : ℕ) → Agrees b (refused n line) (refused-at n line s)
   laid-refuses n line = (refl, laid-unmade)
+
+  -- a fault that is neither 1 nor 3 is what is told: the record is open and sound
+  pub fault-agrees : (js : List Item) (tag k : ℕ) → (suc k ≡ 1 → ⊥) → (suc k ≡ 3 → ⊥) → (line : ℕ) (f : State → RunOutcome) → Agrees b (refused (suc k) line) (next (put tag (suc k) js s) line f)
+  unfolding put
+  fault-agrees js tag k h g line f =
+      let q : suc k ≡ put-number (suc k) js s = v-fault (suc k) (twice (s .labels) (labels js)) (length (words js)) (jumps js) (length (s .buf)) (s .asm) (a .unclosed) h g (laid-sound b is ts s a) (λ z. omega arith) in
+      rw (← q, settled-no (suc k) s (placed tag js s) (λ z. omega arith)) (laid-refuses (suc k) line)
 
   module _ (js : List Item) (tag fault : ℕ) (h : Labelled js) (o : Once (labels js)) (z : fault ≡ 0) where
     number-is : put-number fault js s ≡ room-number (length b) is js

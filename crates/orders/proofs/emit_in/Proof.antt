@@ -19,14 +19,18 @@ returns c =
 
 returns-2 : tie.Need-returns-2
 returns-2 c =
-    let i = c .before .before in
+    let f = c .before .before .before in
+    let k = f .before in
+    let i = k .before .before in
     let a = i .before .before .before .args in
-    order-unsaved (a .head) (a .tag) (a .o) (state (a .asm) (now (a .labels)) (now (a .jumps)) (now (a .buf))) (sym (i .before .index-holds .ensures) ∙ i .if1 .taken) (sym (c .before .saves-hold .ensures) ∙ c .if2 .left)
+    order-unsaved (a .head) (a .tag) (a .o) (state (a .asm) (now (a .labels)) (now (a .jumps)) (now (a .buf))) (f .fault .result) _ (sym (i .before .index-holds .ensures) ∙ i .if1 .taken) (sym (k .before .saves-hold .ensures) ∙ k .if2 .left) (f .fault .ensures) (c .unsaved .ensures (now (a .jumps)))
 
 returns-3 : tie.Need-returns-3
 returns-3 c =
-    let a = c .before .before .before .args in
-    order-counted (a .head) (a .tag) (a .o) (state (a .asm) (now (a .labels)) (now (a .jumps)) (now (a .buf))) (sym (c .before .index-holds .ensures) ∙ c .if1 .left)
+    let f = c .before .before .before in
+    let i = f .before in
+    let a = i .before .before .before .args in
+    order-counted (a .head) (a .tag) (a .o) (state (a .asm) (now (a .labels)) (now (a .jumps)) (now (a .buf))) (f .count-fault .result) _ (sym (i .before .index-holds .ensures) ∙ i .if1 .left) (f .count-fault .ensures) (c .check-whole .ensures (now (a .jumps)))
 
 pub emit-in-spec : {M : Type 1} → statement M
 emit-in-spec =
@@ -37,5 +41,11 @@ emit-in-spec =
     (λ c κs. search needs)
     (λ c. search needs)
     returns
+    (λ c κs. search needs)
+    (λ c κs. search needs)
+    (λ c. search needs)
     returns-2
+    (λ c κs. search needs)
+    (λ c κs. search needs)
+    (λ c. search needs)
     returns-3)
