@@ -100,7 +100,7 @@ enum {
 /* One order by its line in a deck file, byte 10 included; any other line is DECK_LINE, a constant's
    too. Its words go behind those written, its jumps behind the others, with the tag. A refusal changes
    nothing. Answers the number. No head is known here, and no count: the index of a cell goes up to
-   268,435,199, so that its offset, 8 times the index, is at most 0x7FFFF7FF, and a larger one is
+   268,435,455, so that its offset, 8 times the index, is at most 0x7FFFFFFF, and a larger one is
    DECK_VALUE. DECK_COUNT comes for k of load_const alone, above 1,007; DECK_BASE and DECK_UNSAVED
    never come. Of two refusals the first of these is answered: DECK_LINE, DECK_CLOSED, DECK_REGISTER,
    DECK_LABEL, DECK_VALUE, DECK_COUNT, DECK_TWICE, DECK_FULL. */

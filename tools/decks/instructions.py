@@ -37,7 +37,7 @@ def u_type(imm, rd, op):
 
 # ---- whole numbers, loads and stores
 
-OP, OP_IMM, LOAD_FP, STORE_FP = 0b0110011, 0b0010011, 0b0000111, 0b0100111
+OP, OP_IMM, OP_IMM_32, LOAD_FP, STORE_FP = 0b0110011, 0b0010011, 0b0011011, 0b0000111, 0b0100111
 
 
 def add(d, a, b): return r_type(0, b, a, 0, d, OP)
@@ -48,6 +48,7 @@ def and_(d, a, b): return r_type(0, b, a, 0b111, d, OP)
 def mv(d, a): return add(d, a, ZERO)
 def neg(d, a): return sub(d, ZERO, a)
 def addi(d, a, n): return i_type(n, a, 0, d, OP_IMM)
+def addiw(d, a, n): return i_type(n, a, 0, d, OP_IMM_32)
 def inv(d, a): return i_type(-1, a, 0b100, d, OP_IMM)
 def slli(d, a, n): return i_type(n, a, 0b001, d, OP_IMM)
 def ld(d, base, n): return i_type(n, base, 0b011, d, 0b0000011)
@@ -74,9 +75,10 @@ def lo(n):
 
 
 def li(d, n):
+    """From 0x7FFFF800 on `lui` gives a negative number, and `addiw` brings the sum back (document 02, point 6)."""
     if -2048 <= n <= 2047:
         return [addi(d, ZERO, n)]
-    return [lui(d, hi(n)), addi(d, d, lo(n))]
+    return [lui(d, hi(n)), (addiw if n >= 0x7FFFF800 else addi)(d, d, lo(n))]
 
 
 def access(instruction, r, base, offset):

@@ -102,6 +102,29 @@ test("lui x0, 0x12345")
 for n in [0, 1, 0x7FFFF, 0x80000, 0xFFFFF]:
     test(f"auipc x5, {n:#x}", pc=PC + 4 * n % 1024)
 test("auipc x0, 0x12345")
+# 32 bits: carries at bit 31 both ways, and an upper half that must not matter
+for a, n in [
+    (0x7FFFFFFF, 1),
+    (0x7FFFF801, 2047),
+    (0xFFFFFFFF80000000, -1),
+    (0xFFFFFFFF800007FF, -2048),
+    (0xFFFFFFFF80000000, -2048),
+    (0x100000000, -1),
+    (0x100000000, 0),
+    (0xDEADBEEF00000005, -6),
+    (0xDEADBEEF7FFFFFFF, 1),
+    (0x1234567880000000, 0),
+    (0xFFFFFFFF, 1),
+    (ONES, 2047),
+    (MIN, 5),
+    (5, 0),
+]:
+    test(f"addiw x5, x6, {n}", {6: a})
+test("addiw x5, x0, -2048")
+test("addiw x5, x0, 2047")
+test("addiw x0, x6, 3", {6: MIX})
+test("addiw x0, x0, -1")
+test("addiw x9, x9, 2047", {9: MIX})
 
 # ---------------------------------------------------------------- shifts
 
@@ -285,8 +308,10 @@ NOT = [
     "fence",
     "fence.i",
     "csrrs x5, frm, x0",
-    "addiw x5, x6, 1",
     "slliw x5, x6, 1",
+    "srliw x5, x6, 1",
+    "sraiw x5, x6, 1",
+    ".word 0x0013229b",  # `addiw`'s opcode with funct3 2
     "addw x5, x6, x7",
     "slti x5, x6, 1",
     "sltiu x5, x6, 1",
@@ -364,7 +389,7 @@ for text, function in [("fle.d x5, f12, f13", "le"), ("flt.d x5, f12, f13", "lt"
 # isa's operations, by the names of GNU as
 OPERATIONS = """add sub sll xor srl sra or and fsgnj.d fsgnjn.d fsgnjx.d fmin.d fmax.d fle.d flt.d feq.d fadd.d fsub.d fmul.d fdiv.d
 fsqrt.d fcvt.w.d fcvt.l.d fcvt.d.w fcvt.d.l fmv.x.d fmv.d.x fmadd.d fmsub.d fnmsub.d fnmadd.d addi xori ori andi jalr ld fld
-slli srli srai sd fsd beq bne blt bge bltu bgeu lui auipc jal""".split()
+addiw slli srli srai sd fsd beq bne blt bge bltu bgeu lui auipc jal""".split()
 
 
 def words_of(texts, folder):
@@ -447,6 +472,8 @@ def main():
     count = collections.Counter(t.text.split()[0] for t in tests)
     if set(count) != set(OPERATIONS):
         sys.exit("not the instructions of isa")
+    if not set(sys.argv[1:]) <= {"--check", "--count"}:
+        sys.exit(__doc__)
     if "--count" in sys.argv:
         print(" ".join(f"{k} {n}" for k, n in sorted(count.items())), "| total", sum(count.values()))
         return

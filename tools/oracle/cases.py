@@ -12,8 +12,13 @@ SEED = 20261115
 REGISTERS = [0, 1, 5, 8, 10, 18, 27, 31]
 FLOATS = [0, 7, 8, 9, 10, 11, 17, 18, 27, 28, 31]
 BASES = [2, 9, 10, 20, 21, 31]
-LIMIT = 0x7FFFF7FF  # the largest offset, stack size and value of li
+LIMIT = 0x7FFFFFFF  # the largest offset, stack size and value of li
+RUST_LIMIT = 0x7FFFF7FF  # the largest that the Rust is asked; above it the words are GNU as's (top.py)
+ALIGN_LIMIT = 0x7FFFF7FF  # the largest size of align_stack
 
+SINGLE = ["load_float", "save_float", "load_int"]
+PAIR = ["load_complex", "save_complex"]
+SIZES = ["sub_stack", "add_stack", "allocate_stack"]
 CELLS = ["load_mem", "save_mem", "load_stack", "save_stack", "load_param", "save_param"]
 INDEXES = [0, 1, 15, 16, 254, 255, 256, 257, 511, 512, 4095]
 SCRATCH = 11  # what the Rust takes for Reg::Temp
@@ -34,32 +39,33 @@ def around_powers(top):
 
 
 def li(rng):
-    edges = [*range(-2050, -2039), -1, 0, 1, *range(2040, 2051), LIMIT - 1, LIMIT, -(2**31), -(2**31) + 1, -LIMIT, -LIMIT - 1]
+    edges = [*range(-2050, -2039), -1, 0, 1, *range(2040, 2051), RUST_LIMIT - 1, RUST_LIMIT]
+    edges += [-(2**31), -(2**31) + 1, -RUST_LIMIT, -RUST_LIMIT - 1]
     yield from ([("li", [r, v])] for v in edges for r in REGISTERS)
-    powers = [s * n for n in around_powers(31) for s in (1, -1) if -(2**31) <= s * n <= LIMIT]
-    others = [rng.randint(-(2**31), LIMIT) for _ in range(150)] + [rng.randint(-10000, 10000) for _ in range(100)]
+    powers = [s * n for n in around_powers(31) for s in (1, -1) if -(2**31) <= s * n <= RUST_LIMIT]
+    others = [rng.randint(-(2**31), RUST_LIMIT) for _ in range(150)] + [rng.randint(-10000, 10000) for _ in range(100)]
     yield from ([("li", [rng.randrange(32), v])] for v in powers + others)
 
 
 def offsets(rng):
-    edges = [8, 16, 2032, 2039, 2040, 2041, 2047, 2048, 2049, 2056, 4088, 4096, 6143, 6144, LIMIT - 7, LIMIT]
-    return sorted({*edges, *(n for n in around_powers(30))}) + [rng.randint(2048, LIMIT) for _ in range(12)]
+    edges = [8, 16, 2032, 2039, 2040, 2041, 2047, 2048, 2049, 2056, 4088, 4096, 6143, 6144, RUST_LIMIT - 7, RUST_LIMIT]
+    return sorted({*edges, *(n for n in around_powers(30))}) + [rng.randint(2048, RUST_LIMIT) for _ in range(12)]
 
 
 def accesses(rng):
-    for name in ["load_float", "save_float", "load_int"]:
+    for name in SINGLE:
         for n in offsets(rng):
             yield from ([(name, [rng.choice(REGISTERS), rng.choice(BASES), n])] for _ in range(2))
             if n < 2048:
                 yield [(name, [rng.choice(REGISTERS), 5, n])]
-        for n in [0, 2047, 2048, LIMIT]:
+        for n in [0, 2047, 2048, RUST_LIMIT]:
             yield from ([(name, [r, b, n])] for r in REGISTERS for b in BASES)
     yield from ([("load_int", [r, b, n])] for r, b in [(5, 9), (5, 5), (9, 9), (0, 0)] for n in [0, 2047, 2048] if b != 5 or n < 2048)
 
 
 def pairs(rng):
     firsts = [r for r in FLOATS if r < 31] + [30]
-    for name in ["load_complex", "save_complex"]:
+    for name in PAIR:
         for n in offsets(rng):
             yield [(name, [rng.choice(firsts), rng.choice(BASES), n])]
             if n < 2040:
@@ -74,8 +80,9 @@ def pairs(rng):
 
 
 def stack(rng):
-    sizes = sorted({*range(2040, 2057), *around_powers(30), LIMIT - 1, LIMIT}) + [rng.randint(2048, LIMIT) for _ in range(20)]
-    for name in ["sub_stack", "add_stack", "allocate_stack"]:
+    sizes = sorted({*range(2040, 2057), *around_powers(30), RUST_LIMIT - 1, RUST_LIMIT})
+    sizes += [rng.randint(2048, RUST_LIMIT) for _ in range(20)]
+    for name in SIZES:
         yield from ([(name, [n])] for n in sizes)
 
 
@@ -141,7 +148,8 @@ def branches(rng):
 
 
 def align(rng):
-    sizes = sorted({*range(34), *around_powers(30), LIMIT - 16, LIMIT - 15, LIMIT - 1, LIMIT}) + [rng.randint(0, LIMIT) for _ in range(20)]
+    top = ALIGN_LIMIT
+    sizes = sorted({*range(34), *around_powers(30), top - 16, top - 15, top - 1, top}) + [rng.randint(0, top) for _ in range(20)]
     yield from ([("align_stack", [n])] for n in sizes)
 
 
@@ -187,10 +195,10 @@ def sign(rng):
 
 
 def cells(rng):
-    far = (LIMIT + 1) // 8 - 1
+    far = RUST_LIMIT // 8
     for name in CELLS:
         yield from ([(name, [r, i])] for r in (0, 10, 11, 31) for i in INDEXES)
-        yield [(name, [rng.choice(FLOATS), far])]
+        yield from ([(name, [r, far])] for r in (rng.choice(FLOATS), 0))
     for row in choices(rng, 3):
         yield [("ifelse", [*row, rng.choice(INDEXES)])]
     yield from ([("ifelse", [12, 13, 14, i])] for i in [*INDEXES, far])
@@ -316,9 +324,68 @@ def routines(rng):
     yield from (routine(rng) for _ in range(60))
 
 
+# ---- above RUST_LIMIT: the words are GNU as's (top.py)
+
+# Worked examples of document 02's point 6, by their numbers in its plan. Up to RUST_LIMIT the Rust has them: 1, 6 and 7 in `li`, the last
+# of 22 in `cells`. 9, 13, 14, 16, 20, 21 and 23 are refused (refusals.py), and 24 is a step of the machine (tools/machine_table).
+EXAMPLES = [
+    ("li", [10, 0x7FFFF800]),  # 2
+    ("li", [10, 0x7FFFFC00]),  # 3
+    ("li", [10, 0x7FFFFFFE]),  # 4
+    ("li", [10, 0x7FFFFFFF]),  # 5
+    ("li", [0, 0x7FFFFFFF]),  # 8
+    ("load_float", [10, 9, 0x7FFFF800]),  # 10
+    ("load_float", [10, 9, 0x7FFFFFFF]),  # 11
+    ("save_float", [10, 9, 0x7FFFFFF8]),  # 12
+    ("load_complex", [30, 9, 0x7FFFFFFF]),  # 15
+    ("sub_stack", [0x7FFFF800]),  # 17
+    ("sub_stack", [0x7FFFFFFF]),  # 17
+    ("add_stack", [0x7FFFF800]),  # 18
+    ("add_stack", [0x7FFFFFFF]),  # 18
+    ("allocate_stack", [0x7FFFF800]),  # 19
+    ("load_mem", [0, 0xFFFFFFF]),  # 22
+    ("load_mem", [0, 0xFFFFF00]),  # 22
+]
+TOP = [0x7FFFF800, 0x7FFFF801, 0x7FFFF808, 0x7FFFFBFF, 0x7FFFFC00, 0x7FFFFFF7, 0x7FFFFFF8, 0x7FFFFFFE, 0x7FFFFFFF]
+TOP_INDEXES = [0xFFFFF00, 0xFFFFF01, 0xFFFFF7F, 0xFFFFF80, 0xFFFFFFE, 0xFFFFFFF]
+ROOMS = {"li": 2, "load_float": 4, "save_float": 4, "load_int": 4, "load_complex": 5, "save_complex": 5}
+ROOMS |= {"sub_stack": 3, "add_stack": 3, "allocate_stack": 4, "ifelse": 11, "load_mem": 4, "save_param": 4}  # words of a call up there
+
+
+def top_call(rng, name):
+    """A call of this name with any registers, and a value, offset, size or index above RUST_LIMIT."""
+    n, i = rng.randint(RUST_LIMIT + 1, LIMIT), rng.randint(RUST_LIMIT // 8 + 1, LIMIT // 8)
+    base = rng.choice([b for b in range(32) if b != 5])
+    if name in SIZES:
+        return (name, [n])
+    if name in CELLS:
+        return (name, [rng.randrange(32), i])
+    if name == "ifelse":
+        return (name, [*(rng.randrange(32) for _ in range(3)), i])
+    return (name, [rng.randrange(32), n]) if name == "li" else (name, [rng.randrange(31 if name in PAIR else 32), base, n])
+
+
+def top(rng):
+    yield from ([call] for call in EXAMPLES)
+    yield from ([("li", [r, n])] for n in TOP for r in REGISTERS)
+    for name in SINGLE:
+        yield from ([(name, [rng.choice(REGISTERS), b, n])] for n in TOP for b in BASES)
+        yield from ([(name, [r, 9, LIMIT])] for r in REGISTERS)
+    yield from ([("load_int", [r, b, n])] for r, b in [(5, 9), (9, 9), (0, 0)] for n in (RUST_LIMIT + 1, LIMIT))
+    for name in PAIR:
+        yield from ([(name, [r, b, n])] for n in TOP for r, b in [(0, 9), (10, 21), (rng.randrange(31), rng.choice(BASES)), (30, 31)])
+    yield from ([(name, [n])] for name in SIZES for n in TOP)
+    yield from ([(name, [r, i])] for name in CELLS for i in TOP_INDEXES for r in (0, 11, rng.choice(FLOATS)))
+    yield from ([("ifelse", [*row, i])] for i in TOP_INDEXES for row in ([12, 13, 14], rng.sample(FLOATS, 3), [31, 31, 31]))
+    names = ["li", *SINGLE, *PAIR, *SIZES, *CELLS, "ifelse"]
+    yield from ([top_call(rng, name)] for name in names for _ in range(24 if name == "li" else 8))
+    yield from ([top_call(rng, name) for name in rng.choices(names, k=rng.randint(2, 6))] for _ in range(20))
+    yield from ([*pad(65536 - 4 * n), top_call(rng, name)] for name, n in ROOMS.items())
+
+
 # In the order of the list.
 FAMILIES = [words, align, jumps, branches, li, accesses, pairs, stack]
-FAMILIES += [orders, sign, cells, constants, conditions, saves, reloads, frames, routines]
+FAMILIES += [orders, sign, cells, constants, conditions, saves, reloads, frames, routines, top]
 
 
 def families():

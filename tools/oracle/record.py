@@ -6,7 +6,8 @@
 RUSTDIR has the Rust's files as they are (riscv64/mod.rs, riscv64/macros.rs, assembler.rs, utils.rs, config.rs, symbol.rs, code.rs). They
 are compiled unchanged with rustc (the list was made with 1.95.0) behind the driver in this folder, twice: with overflow checks and
 optimized. Cases come from cases.py, with a fixed seed; both programs must give the same answer to each. What document 01 refuses comes from
-refusals.py, with document 01's numbers. The Rust's `sign` is not asked for, since document 01's words differ: the driver has those.
+refusals.py, with document 01's numbers. The Rust's `sign` is not asked for, since document 01's words differ: the driver has those. Nor is
+the family `top`, document 02's point 6, whose words are GNU as's (top.py).
 
 A row of the list has a kind (two hexadecimal digits) and four numbers (eight each; negative ones in two's complement):
     00  a name of 16 bytes     the family of what follows, by its name in cases.FAMILIES, or `refusals`
@@ -29,11 +30,12 @@ import tempfile
 import build
 import cases
 import refusals
+import top
 from orders import names
 
 ROW = 39
 # How many of cases.FAMILIES the program knows; refusals are listed where it knows their calls.
-LISTED = 17
+LISTED = 18
 
 FAMILY, WORDS, ZEROS, LAST, VALUE, REFUSED = 0x00, 0x01, 0x02, 0x03, 0x08, 0x09
 # The first number of each block of calls. Orders of registers have 16 numbers a shape, so that a new one is the next of its block.
@@ -124,17 +126,22 @@ def call_rows(calls):
     return [row(NUMBERS[name], operands) for name, operands, *_ in calls]
 
 
+def rust_answers(programs, family):
+    lines = [line(calls) for calls in family]
+    checked, optimized = (build.ask(programs[mode], lines) for mode in ("checked", "optimized"))
+    for text, calls, a, b in zip(lines, family, checked, optimized):
+        if a is None or a != b or any(map(top.above, calls)):
+            sys.exit(f"no single answer to: {text}")
+    return checked
+
+
 def recorded(programs):
     """Rows and the count of each family."""
     rows, counts = [], []
     for name, family in list(cases.families())[:LISTED]:
-        asked = [line(calls) for calls in family]
-        checked, optimized = (build.ask(programs[mode], asked) for mode in ("checked", "optimized"))
-        for text, a, b in zip(asked, checked, optimized):
-            if a is None or a != b:
-                sys.exit(f"no single answer to: {text}")
+        answers = top.answers(family) if name == "top" else rust_answers(programs, family)
         rows.append(family_row(name))
-        for calls, answer in zip(family, checked):
+        for calls, answer in zip(family, answers):
             rows += call_rows(calls) + answer_rows(answer)
         counts.append((name, len(family)))
     return rows, counts

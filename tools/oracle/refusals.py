@@ -1,8 +1,10 @@
-"""Inputs that document 01 refuses: the calls (the last one is refused), the number and the place that document 01 gives, and why.
+"""Inputs that document 01 refuses: the calls (the last one is refused), the number and the place that document 01 gives, and why. The
+limits of offsets, sizes and indexes are those of document 02's point 6, and no value of `li` is refused.
 The Rust's answer to each is only looked at (record.py --differences): it is what docs/DIFFERENCES.md tells."""
-from cases import CELLS, FINISH, LIMIT  # puts tools/ on the path
+from cases import ALIGN_LIMIT, CELLS, FINISH, LIMIT, PAIR, RUST_LIMIT, SINGLE, SIZES  # puts tools/ on the path
 from orders import FIELDS, names
 
+TOP = RUST_LIMIT + 1  # the first that document 01 refused and document 02 takes
 BIG = LIMIT + 1
 CELL = BIG // 8  # the first cell whose offset is beyond the limit
 FULL = ("pad", [16384])
@@ -15,12 +17,15 @@ def one(name, *operands):
 def registers():
     """Number 1."""
     yield one("li", 32, 0), 1, "register"
-    for name in ["load_float", "save_float", "load_int"]:
+    yield one("li", 32, LIMIT), 1, "register"
+    for name in SINGLE:
         yield one(name, 32, 9, 0), 1, "register"
         yield one(name, 0, 32, 0), 1, "base"
         yield one(name, 32, 5, BIG), 1, "register before value and base"
-    for name in ["load_complex", "save_complex"]:
+    for name in PAIR:
         yield one(name, 31, 9, 0), 1, "a pair starting at 31"
+        yield one(name, 31, 9, LIMIT), 1, "a pair starting at 31"
+        yield one(name, 31, 9, BIG), 1, "register before value"
         yield one(name, 0, 32, 0), 1, "base"
         yield one(name, 31, 5, BIG), 1, "register before value and base"
     yield one("load_x_from_label", 32, 0), 1, "register"
@@ -39,20 +44,17 @@ def registers():
 
 def values():
     """Number 2."""
-    yield one("li", 10, BIG), 2, "beyond the values of li"
-    yield one("li", 10, 2**31 - 1), 2, "beyond the values of li"
-    for name in ["load_float", "save_float", "load_int", "load_complex", "save_complex"]:
+    for name in [*SINGLE, *PAIR]:
         yield one(name, 10, 9, BIG), 2, "offset"
         yield one(name, 10, 9, 2**32 - 1), 2, "offset"
         yield one(name, 10, 5, BIG), 2, "offset before base"
-    for name in ["sub_stack", "add_stack", "allocate_stack", "align_stack"]:
-        yield one(name, BIG), 2, "size"
-        yield one(name, 2**31), 2, "size"
-        yield one(name, 2**32 - 1), 2, "size"
+    for name in SIZES:
+        yield from ((one(name, n), 2, "size") for n in (BIG, 2**32 - 2048, 2**32 - 1))
+    yield from ((one("align_stack", n), 2, "size, with a limit of its own") for n in (ALIGN_LIMIT + 1, LIMIT, BIG, 2**32 - 1))
     for name in CELLS:
-        yield one(name, 0, CELL), 2, "8 x index"
+        yield from ((one(name, *row), 2, "8 x index") for row in ([0, CELL], [0, CELL + 1], [11, CELL]))
         yield one(name, 0, 2**29), 2, "8 x index beyond 32 bits"
-    yield one("ifelse", 0, 1, 2, CELL), 2, "8 x index"
+    yield from ((one("ifelse", *row), 2, "8 x index") for row in ([0, 1, 2, CELL], [11, 1, 2, CELL]))
     yield one("set_label", 2039), 2, "no such label"
     yield one("j", 2039, 0), 2, "no such label"
     yield one("beq", 2039), 2, "no such label"
@@ -92,10 +94,14 @@ def full():
     yield [FULL, ("append_word", [1])], 7, "no room"
     yield [("pad", [16383]), ("append_quad", [1, 1])], 7, "room for one word of two"
     yield [("pad", [16383]), ("li", [10, 2048])], 7, "room for one word of two"
+    yield [("pad", [16383]), ("li", [10, LIMIT])], 7, "room for one word of two"
     yield [("pad", [16383]), ("add_const", [0, 1, 1])], 7, "room for one word of two"
     yield [("pad", [16383]), ("load_const", [10, 0])], 7, "room for one word of two"
     yield [("pad", [16383]), ("load_complex", [10, 9, 0])], 7, "room for one word of two"
     yield [("pad", [16381]), ("load_float", [10, 9, 2048])], 7, "room for three words of four"
+    yield [("pad", [16381]), ("load_float", [10, 9, TOP])], 7, "room for three words of four"
+    yield [("pad", [16382]), ("add_stack", [LIMIT])], 7, "room for two words of three"
+    yield [("pad", [16374]), ("ifelse", [12, 13, 14, LIMIT // 8])], 7, "room for all words but one"
     yield [("pad", [16381]), ("branch_if", [10, 0, 0])], 7, "room for three words of four"
     yield [FULL, ("beq", [1])], 7, "no room"
     yield [FULL, ("prologue_fast", [0, 1, 0])], 7, "no room"
@@ -110,7 +116,8 @@ def full():
 def closed():
     """Number 8, before all others."""
     calls = [("append_word", [1]), ("append_quad", [1, 1]), ("set_label", [2039]), ("beq", [2039]), FINISH, ("add_const", [1008, 0, 0])]
-    calls += [("li", [32, 0]), ("load_float", [10, 9, 0]), ("load_complex", [31, 5, BIG]), ("sub_stack", [BIG]), ("allocate_stack", [0])]
+    calls += [("li", [32, 0]), ("li", [10, LIMIT]), ("load_float", [10, 9, 0]), ("load_complex", [31, 5, BIG])]
+    calls += [("sub_stack", [BIG]), ("allocate_stack", [0])]
     calls += [("fmov", [32, 0]), ("load_const", [10, 1008]), ("branch_if", [0, 1024, 0]), ("label", [0]), ("load_mem", [0, CELL])]
     calls += [("prologue_fast", [0, 9, 0]), ("epilogue_fast", [0, 1, 0, 256]), ("save_used_registers", [0]), ("load_used_registers", [0])]
     yield from (([FINISH, call], 8, "after an accepted finish") for call in calls)
@@ -139,10 +146,10 @@ def counts():
 
 def bases():
     """Number 10."""
-    for name in ["load_float", "save_float", "load_int"]:
-        yield one(name, 10, 5, 2048), 10, "t0 as base"
-    for name in ["load_complex", "save_complex"]:
-        yield one(name, 10, 5, 2040), 10, "t0 as base"
+    for name in SINGLE:
+        yield from ((one(name, 10, 5, n), 10, "t0 as base") for n in (2048, TOP, LIMIT))
+    for name in PAIR:
+        yield from ((one(name, 10, 5, n), 10, "t0 as base") for n in (2040, TOP, LIMIT))
 
 
 def refusals():
@@ -154,9 +161,18 @@ def refusals():
     yield from unset_places()
 
 
-# Other steps of the driver whose answers docs/DIFFERENCES.md tells: forms of `rvv!` beyond their fields, `hi` and `lo`, the Rust's own
-# `sign`, two names of one register, and a constant that is a NaN with a payload.
+# Other steps of the driver whose answers docs/DIFFERENCES.md tells: what document 02's point 6 has other words for, forms of `rvv!` beyond
+# their fields, `hi` and `lo`, the Rust's own `sign`, two names of one register, and a constant that is a NaN with a payload.
 NOTED = [
+    f"li 10 {TOP}",
+    f"li 10 {LIMIT}",
+    f"load_float 10 9 {TOP}",
+    f"load_complex 10 9 {TOP}",
+    f"sub_stack {TOP}",
+    f"sub_stack {LIMIT}",
+    f"add_stack {TOP}",
+    f"allocate_stack {TOP}",
+    f"load_mem 0 {TOP // 8}",
     "rvv_add 32 0 0",
     "rvv_addi 1 0 2048",
     "rvv_sd 1 0 2048",

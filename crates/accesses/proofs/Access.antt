@@ -63,7 +63,7 @@ module _ (Q : Floats) (s : State) (b n : ℕ) (hn : n ≤ offset-limit) where
       let js : List Instr = R ADD 5 5 b ∷ [] in
       let x : ℕ → ℕ = setx (s .x) 5 (n % 2 ^ 64) in
       through Q is js s x (s .f) _
-      (li-runs 5 (pos n) (omega arith) (le→leb n offset-limit hn) Q s)
+      (li-runs 5 (pos n) (omega arith) (omega arith) Q s)
       (leads Q js _ _ (omega arith) tt (rw (point-x (s .x) b n e) (behind-both Q is js s x (s .f) _ (s .f) (s .mem))))
 
   -- An access through t0 does what a direct one does: X on registers, and f and m.

@@ -7,7 +7,7 @@ use Rattle.accesses.proofs.Stack.{sub-stack-runs, add-stack-runs, alloc
 pub claim : Claim
 claim =
     record {
-      li = λ d z h. let p = li-accepted d z h in li-runs d z (p .0) (p .1);
+      li = λ d z t h. li-runs d z (li-accepted d h) t;
       load-float = load-float-runs;
       load-int = load-int-runs;
       save-float = save-float-runs;

@@ -33,8 +33,7 @@ use Rattle.assembler.specs.Plan.{no-words, pushed, plan-words}
 use Rattle.assembler.specs.declared.Fault.the-variants as Fault
 use Rattle.assembler.specs.declared.Plan.{Plan}
 use Rattle.accesses.specs.Plans.{answer-of, pushes-from, pushes, plan-of}
-use Rattle.accesses.specs.Code.{li-code}
-use Rattle.accesses.specs.Fault.{li-takes, offset-limit}
+use Rattle.accesses.specs.Code.{low-op, li-code}
 
 -- the encoder's refusals, by their number
 refusal-is : (r : Refusal) (k : ℕ) → number-of r ≡ k → k ≤ 2 → r ≡ cond (eqb k 1) Register Value
@@ -152,29 +151,26 @@ module _ (d : ℕ) where
   unfolding li-code
   li-near z h = rw (lt-ltb (mag z) 2048 h)
 
-  pub li-far : (z : ℤ) → 2048 ≤ mag z → U LUI d (pos (hi (twos 32 z))) ∷ I ADDI d d (lo (twos 32 z)) ∷ [] ≡ li-code d z
+  pub li-far : (z : ℤ) → 2048 ≤ mag z → U LUI d (pos (hi (twos 32 z))) ∷ I (low-op z) d d (lo (twos 32 z)) ∷ [] ≡ li-code d z
   unfolding li-code
   li-far z h = rw (le-ltb (mag z) 2048 h)
 
--- a number by its sign: its size, and its 32 bits
-pub size-of : (z : ℤ) (n : ℕ) → sign-of z ≡ NonNeg n → mag z ≡ n
-size-of (pos m) n e = cc
-size-of (negsuc m) n e = let z : _≡_ {A = ℕ} 0 1 = cc in absurd (omega arith)
+-- a number by its sign: itself, its size, and its words
+pub is-pos : (z : ℤ) (n : ℕ) → sign-of z ≡ NonNeg n → pos n ≡ z
+is-pos (pos m) n e = let q : m ≡ n = cc in rw q
+is-pos (negsuc m) n e = let z : _≡_ {A = ℕ} 0 1 = cc in absurd (omega arith)
 
 pub size-of-neg : (z : ℤ) (n : ℕ) → sign-of z ≡ Neg n → mag z ≡ n
 size-of-neg (negsuc m) n e = cc
 size-of-neg (pos m) n e = let z : _≡_ {A = ℕ} 0 1 = cc in absurd (omega arith)
 
-pub bits-of : (z : ℤ) (n : ℕ) → sign-of z ≡ NonNeg n → SFits w32 z → n ≡ twos 32 z
-bits-of (pos m) n e h = let q : m ≡ n = cc in sym (mod-eq-of-lt (omega (arith, h .sfits)) ∙ q)
-bits-of (negsuc m) n e h = let z : _≡_ {A = ℕ} 0 1 = cc in absurd (omega arith)
-
-pub bits-of-neg : (z : ℤ) (n : ℕ) → sign-of z ≡ Neg n → SFits w32 z → 4294967295 - n ≡ twos 32 z
-bits-of-neg (negsuc m) n e h =
+pub li-below : (d : ℕ) (z : ℤ) (n : ℕ) → sign-of z ≡ Neg n → SFits w32 z → 2048 ≤ n → U LUI d (pos (hi (4294967295 - n))) ∷ I ADDI d d (lo (4294967295 - n)) ∷ [] ≡ li-code d z
+li-below d (negsuc m) n e h l =
     let q : m ≡ n = cc in
     let r : m % 4294967296 ≡ m = mod-eq-of-lt (omega (arith, h .sfits)) in
-    rw (r, q)
-bits-of-neg (pos m) n e h = let z : _≡_ {A = ℕ} 0 1 = cc in absurd (omega arith)
+    let g : 4294967295 - n ≡ twos 32 (negsuc m) = rw (r, q) in
+    rw g (li-far d (negsuc m) (omega arith))
+li-below d (pos m) n e h l = let z : _≡_ {A = ℕ} 0 1 = cc in absurd (omega arith)
 
 -- instructions behind others
 pushes-behind : (ds es : List Encoded) (p : Plan) → pushes-from (pushes-from p ds) es ≡ pushes-from p (ds ++ es)
@@ -189,12 +185,3 @@ pushed-behind is js es a =
 
 pub pushed-last : (is : List Instr) (i : Instr) {e : Encoded} → e ≡ answer-of i → pushed (plan-of is) e ≡ plan-of (is ++ (i ∷ []))
 pushed-last is i {e} q = pushed-behind is (i ∷ []) (e ∷ []) (q, tt)
-
--- what li takes, by the sign
-pub takes-pos : (z : ℤ) (n : ℕ) → sign-of z ≡ NonNeg n → li-takes z ≡ leb n offset-limit
-takes-pos (pos m) n e = let q : m ≡ n = cc in rw q
-takes-pos (negsuc m) n e = let z : _≡_ {A = ℕ} 0 1 = cc in absurd (omega arith)
-
-pub takes-neg : (z : ℤ) → ((n : ℕ) × (sign-of z ≡ Neg n)) → SFits w32 z → li-takes z ≡ true
-takes-neg (negsuc m) e h = lt-ltb m 2147483648 (h .sfits)
-takes-neg (pos m) e h = let q = e .1 in let z : _≡_ {A = ℕ} 0 1 = cc in absurd (omega arith)

@@ -16,7 +16,7 @@ use Rattle.machine.specs.State.{State, getx, setx, next}
 use Rattle.base.proofs.Bools.{and-l, and-r}
 use Rattle.machine.proofs.Memory.{Apart, dist-ahead}
 use Rattle.machine.proofs.Placed.{Valids}
-use Rattle.accesses.specs.Code.{near, li-code, point-code, access-code, near-pair, load-float-code, save-float-code, load-int-code, load-complex-code, save-complex-code}
+use Rattle.accesses.specs.Code.{near, li-code, low-op, point-code, access-code, near-pair, load-float-code, save-float-code, load-int-code, load-complex-code, save-complex-code}
 use Rattle.accesses.specs.Fault.{offset-limit, one-fault, last-pair, pair-fault}
 use Rattle.accesses.specs.Inner.Plans.{one-code, pair-code}
 use Rattle.accesses.specs.declared.Cell.{Cell}
@@ -43,7 +43,7 @@ point-length : (b n : ℕ) → length (point-code b n) ≤ 3
 unfolding point-code li-code
 point-length b n = by (ltb n near)
   where
-    by : (t : Bool) → length (cond t (I ADDI 5 0 (pos n) ∷ []) (U LUI 5 (pos (hi (n % 2 ^ 32))) ∷ I ADDI 5 5 (lo (n % 2 ^ 32)) ∷ []) ++ (R ADD 5 5 b ∷ [])) ≤ 3
+    by : (t : Bool) → length (cond t (I ADDI 5 0 (pos n) ∷ []) (U LUI 5 (pos (hi (n % 2 ^ 32))) ∷ I (low-op (pos n)) 5 5 (lo (n % 2 ^ 32)) ∷ []) ++ (R ADD 5 5 b ∷ [])) ≤ 3
     by true = omega arith
     by false = omega arith
 

@@ -5,8 +5,9 @@ use mathlib.Core.List.{List, [], _∷_, _++_}
 use Prim.Native.Nat.{ℕ, zero, suc, _+_, _%_, _^_, _≤_, _<_}
 use native.Mathlib.Omega.{arith}
 use borrow.Author.Tests.{ltb-true}
-use lib.Dec.{T, ltb, leb, leb→le, le→leb, lt→ltb}
+use lib.Dec.{ltb, leb, leb→le}
 use lib.IntN.{ℤ, pos, negℤ}
+use lib.Signed.{mag}
 use Rattle.isa.specs.Immediate.{twos}
 use Rattle.isa.specs.Instr.{Instr, R, I, ADD, SUB, ADDI}
 use Rattle.isa.proofs.Validity.{Valid}
@@ -16,7 +17,7 @@ use Rattle.machine.specs.State.{State, setx}
 use Rattle.machine.specs.Effect.{write-x, minus, effect, apply}
 use Rattle.machine.proofs.Placed.{Valids}
 use Rattle.accesses.specs.Code.{near, li-code, sub-stack-code, add-stack-code, allocate-stack-code}
-use Rattle.accesses.specs.Fault.{offset-limit, li-takes, stack-fault}
+use Rattle.accesses.specs.Fault.{offset-limit, stack-fault}
 use Rattle.accesses.specs.Stands.{Stands, Goes, behind, Leaves, with-size}
 use Rattle.accesses.proofs.Then.{leads, valids-join, through, behind-both}
 use Rattle.base.proofs.Bools.{passed}
@@ -27,10 +28,6 @@ pub size-fits : (n : ℕ) → stack-fault n ≡ 0 → n ≤ offset-limit
 size-fits n e = leb→le n offset-limit ((passed (leb n offset-limit) 0 1 e) .0)
 
 -- -n
-takes-minus : (n : ℕ) → n ≤ offset-limit → T (li-takes (negℤ (pos n)))
-takes-minus zero h = tt
-takes-minus (suc n) h = lt→ltb n (2 ^ 31) (omega arith)
-
 sum-minus : (u n : ℕ) → n ≤ offset-limit → w64 (u + twos 64 (negℤ (pos n))) ≡ minus u n
 sum-minus u zero h = omega arith
 sum-minus u (suc n) h = omega arith
@@ -39,7 +36,7 @@ sum-minus u (suc n) h = omega arith
 abbrev pub sized : (n : ℕ) (i : Instr) (z : ℤ) (j : Instr) → List Instr
 sized n i z j = cond (ltb n near) (i ∷ []) (li-code 5 z ++ (j ∷ []))
 
-module _ (Q : Floats) (s : State) (n : ℕ) (z : ℤ) (t : T (li-takes z)) (i j : Instr) (v : ℕ) where
+module _ (Q : Floats) (s : State) (n : ℕ) (z : ℤ) (t : mag z < 2 ^ 31) (i j : Instr) (v : ℕ) where
   -- sp set to v: directly, or from t0 that holds z
   pub size-runs : (n < near → Valid i) → (n < near → effect Q i s ≡ write-x 2 v) → Valid j → effect Q j (behind (li-code 5 z) s (setx (s .x) 5 (twos 64 z)) (s .f) (s .mem)) ≡ write-x 2 v → Stands (sized n i z j) s → Goes Q (sized n i z j) s (behind (sized n i z j) s (setx (with-size n z s) 2 v) (s .f) (s .mem))
   unfolding apply
@@ -90,7 +87,7 @@ module _ (n : ℕ) (h : stack-fault n ≡ 0) where
   sub-stack-runs Q s =
       let l : n ≤ offset-limit = size-fits n h in
       let e : w64 (s .x 2 + twos 64 (negℤ (pos n))) ≡ minus (s .x 2) n = sum-minus (s .x 2) n l in
-      size-runs Q s n (negℤ (pos n)) (takes-minus n l) (I ADDI 2 2 (negℤ (pos n))) (R ADD 2 2 5) _ (less-valid n) (λ k. rw e) (omega arith) (rw e)
+      size-runs Q s n (negℤ (pos n)) (mag-neg n (2 ^ 31) (omega arith)) (I ADDI 2 2 (negℤ (pos n))) (R ADD 2 2 5) _ (less-valid n) (λ k. rw e) (omega arith) (rw e)
 
   -- sp and n
   pub add-stack-runs : Leaves (add-stack-code n) (λ s. setx (with-size n (pos n) s) 2 (w64 (s .x 2 + n))) (λ s. s .f) (λ s. s .mem)
@@ -98,7 +95,7 @@ module _ (n : ℕ) (h : stack-fault n ≡ 0) where
   add-stack-runs Q s =
       let l : n ≤ offset-limit = size-fits n h in
       let e : n % 2 ^ 64 ≡ n = omega arith in
-      size-runs Q s n (pos n) (le→leb n offset-limit l) (I ADDI 2 2 (pos n)) (R ADD 2 2 5) _ (λ k. omega arith) (λ k. rw e) (omega arith) (rw e)
+      size-runs Q s n (pos n) (omega arith) (I ADDI 2 2 (pos n)) (R ADD 2 2 5) _ (λ k. omega arith) (λ k. rw e) (omega arith) (rw e)
 
   -- sp less n, and s5 the same
   pub allocate-stack-runs : Leaves (allocate-stack-code n) (λ s. setx (setx (with-size n (pos n) s) 2 (minus (s .x 2) n)) 21 (minus (s .x 2) n)) (λ s. s .f) (λ s. s .mem)
@@ -111,6 +108,6 @@ module _ (n : ℕ) (h : stack-fault n ≡ 0) where
       let x : ℕ → ℕ = setx (with-size n (pos n) s) 2 (minus (s .x 2) n) in
       let k : w64 (minus (s .x 2) n + 0) ≡ minus (s .x 2) n = omega arith in
       through Q is (R ADD 21 2 0 ∷ []) s x (s .f) _
-      (size-runs Q s n (pos n) (le→leb n offset-limit l) (I ADDI 2 2 (negℤ (pos n))) (R SUB 2 2 5) _ (less-valid n) (λ k. rw e) (omega arith) (rw g))
+      (size-runs Q s n (pos n) (omega arith) (I ADDI 2 2 (negℤ (pos n))) (R SUB 2 2 5) _ (less-valid n) (λ k. rw e) (omega arith) (rw g))
       (leads Q (R ADD 21 2 0 ∷ []) _ _ (omega arith) tt
       (rw k (behind-both Q is (R ADD 21 2 0 ∷ []) s x (s .f) (setx x 21 (minus (s .x 2) n)) (s .f) (s .mem))))

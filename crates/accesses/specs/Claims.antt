@@ -2,10 +2,11 @@
 use mathlib.Core.Path.{_≡_}
 use mathlib.Core.Bool.{cond}
 use mathlib.Core.List.{List, [], _∷_}
-use Prim.Native.Nat.{ℕ, _+_}
+use Prim.Native.Nat.{ℕ, _+_, _^_, _<_}
 use lib.Dec.{eqb}
 use lib.IntN.{ℤ, pos, negsuc, negℤ, subℕ}
 use lib.ListN.{length}
+use lib.Signed.{mag}
 use Rattle.isa.specs.Immediate.{twos}
 use Rattle.isa.specs.Register.{sp, s5}
 use Rattle.isa.specs.Instr.{Instr}
@@ -24,8 +25,9 @@ use Rattle.accesses.specs.Stands.{Stands, Goes, behind, Leaves, cell-at,
 
 -- From every state at its words an accepted access leaves these registers, float registers and memory.
 pub record Claim : Type 0 where
-  -- the register holds the number, sign-extended to 64 bits
-  pub li : (d : ℕ) (z : ℤ) → li-fault d z ≡ 0 → Leaves (li-code d z) (λ s. setx (s .x) d (twos 64 z)) (λ s. s .f) (λ s. s .mem)
+  -- the register holds z, any number of 32 bits with a sign, sign-extended to 64 bits
+  pub li : (d : ℕ) (z : ℤ) → mag z < 2 ^ 31 → li-fault d ≡ 0
+      → Leaves (li-code d z) (λ s. setx (s .x) d (twos 64 z)) (λ s. s .f) (λ s. s .mem)
   -- the register holds the cell at base + n
   pub load-float : (d base n : ℕ) → one-fault d base n ≡ 0
       → Leaves (load-float-code d base n) (with-t0 near base n) (λ s. upd (s .f) d (load8 (s .mem) (cell-at s base n))) (λ s. s .mem)
@@ -56,7 +58,7 @@ pub record Claim : Type 0 where
       → Leaves (allocate-stack-code n) (λ s. setx (setx (with-size n (pos n) s) sp (minus (s .x sp) n)) s5 (minus (s .x sp) n)) (λ s. s .f)
       (λ s. s .mem)
 
--- ---- document 01's "Proved table", entries a to j
+-- ---- document 01's "Proved table", entries a to j; e as document 02, point 6, has it
 
 -- the words, or the number
 abbrev pub answer : (fault : ℕ) → List Instr → Answer (List ℕ)
@@ -69,11 +71,11 @@ counted (refused k place) = refused k place
 
 -- a0 and fa0 are 10, s1 is 9; entry h both ways, loaded and stored
 pub record TableClaim : Type 0 where
-  pub a : answer (li-fault 10 (pos 2047)) (li-code 10 (pos 2047)) ≡ accepted (0x7ff00513 ∷ [])
-  pub b : answer (li-fault 10 (negsuc 2047)) (li-code 10 (negsuc 2047)) ≡ accepted (0x80000513 ∷ [])
-  pub c : answer (li-fault 10 (pos 2048)) (li-code 10 (pos 2048)) ≡ accepted (0x00001537 ∷ 0x80050513 ∷ [])
-  pub d : answer (li-fault 10 (pos 0x7FFFF7FF)) (li-code 10 (pos 0x7FFFF7FF)) ≡ accepted (0x7ffff537 ∷ 0x7ff50513 ∷ [])
-  pub e : answer (li-fault 10 (pos 0x7FFFF800)) (li-code 10 (pos 0x7FFFF800)) ≡ refused 2 0
+  pub a : answer (li-fault 10) (li-code 10 (pos 2047)) ≡ accepted (0x7ff00513 ∷ [])
+  pub b : answer (li-fault 10) (li-code 10 (negsuc 2047)) ≡ accepted (0x80000513 ∷ [])
+  pub c : answer (li-fault 10) (li-code 10 (pos 2048)) ≡ accepted (0x00001537 ∷ 0x80050513 ∷ [])
+  pub d : answer (li-fault 10) (li-code 10 (pos 0x7FFFF7FF)) ≡ accepted (0x7ffff537 ∷ 0x7ff50513 ∷ [])
+  pub e : answer (li-fault 10) (li-code 10 (pos 0x7FFFF800)) ≡ accepted (0x80000537 ∷ 0x8005051b ∷ [])
   pub f : answer (one-fault 10 9 2040) (load-float-code 10 9 2040) ≡ accepted (0x7f84b507 ∷ [])
   pub g : answer (one-fault 10 9 2048) (load-float-code 10 9 2048) ≡ accepted (0x000012b7 ∷ 0x80028293 ∷ 0x009282b3 ∷ 0x0002b507 ∷ [])
   pub h : counted (answer (pair-fault 10 9 2032) (load-complex-code 10 9 2032)) ≡ accepted 2

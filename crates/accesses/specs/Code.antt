@@ -1,22 +1,31 @@
--- The instructions of li, of loads and stores, and of stack sizes (document 01, "mod.rs, accesses").
+-- The instructions of li, of loads and stores, and of stack sizes (document 01, "mod.rs, accesses"; document 02, point 6).
 use mathlib.Core.Bool.{cond}
 use mathlib.Core.List.{List, [], _∷_, _++_}
 use Prim.Native.Nat.{ℕ, _+_}
 use lib.Dec.{ltb}
-use lib.IntN.{ℤ, pos, negℤ}
+use lib.IntN.{ℤ, pos, negsuc, negℤ}
 use lib.Signed.{mag}
 use Rattle.isa.specs.Immediate.{twos, hi, lo}
 use Rattle.isa.specs.Register.{zero, sp, t0, s5}
-use Rattle.isa.specs.Instr.{Instr, R, I, S, U, ADD, SUB, ADDI, LD, FLD, FSD, LUI}
+use Rattle.isa.specs.Instr.{Instr, R, IOp, I, S, U, ADD, SUB, ADDI, ADDIW, LD, FLD, FSD, LUI}
 
 -- What a signed 12-bit field holds is below this. (`mag z` is n both for n and for -1 - n.)
 abbrev pub near : ℕ
 near = 2048
 
--- One `addi` for -2048..2047, else `lui`, `addi`.
+-- The first number that `lui` and `addi` don't load: `lui` gives a negative one.
+abbrev pub top : ℕ
+top = 0x7FFFF800
+
+-- What li's second word does: from there to 0x7FFFFFFF, the last number, `addiw`, which cuts the sum to 32 bits and extends its sign.
+abbrev pub low-op : ℤ → IOp
+low-op (pos n) = cond (ltb n top) ADDI ADDIW
+low-op (negsuc n) = ADDI
+
+-- One `addi` for -2048..2047, else `lui` and `addi`; at the top `lui` and `addiw`.
 unfoldable pub li-code : (d : ℕ) → ℤ → List Instr
 li-code d z =
-    cond (ltb (mag z) near) (I ADDI d zero z ∷ []) (U LUI d (pos (hi (twos 32 z))) ∷ I ADDI d d (lo (twos 32 z)) ∷ [])
+    cond (ltb (mag z) near) (I ADDI d zero z ∷ []) (U LUI d (pos (hi (twos 32 z))) ∷ I (low-op z) d d (lo (twos 32 z)) ∷ [])
 
 -- t0 is base + offset
 unfoldable pub point-code : (base offset : ℕ) → List Instr

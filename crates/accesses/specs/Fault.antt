@@ -1,8 +1,7 @@
--- What the accesses refuse (document 01, "Numbers of refusal"): the number, or 0.
+-- What the accesses refuse (document 01, "Numbers of refusal"; document 02, point 6): the number, or 0.
 use mathlib.Core.Bool.{Bool, not, _&&_, _||_, cond}
-use Prim.Native.Nat.{ℕ, _^_}
+use Prim.Native.Nat.{ℕ}
 use lib.Dec.{eqb, ltb, leb}
-use lib.IntN.{ℤ, pos, negsuc}
 use Rattle.isa.specs.Register.{t0}
 use Rattle.refusal.specs.Number.{number-of}
 use Rattle.refusal.specs.declared.Refusal.the-variants.{Register, Value, Base}
@@ -10,15 +9,11 @@ use Rattle.accesses.specs.Code.{near, near-pair}
 
 -- offsets and stack sizes go to this
 abbrev pub offset-limit : ℕ
-offset-limit = 0x7FFFF7FF
+offset-limit = 0x7FFFFFFF
 
--- what li takes: 32 bits with a sign, but for 0x7FFFF800..0x7FFFFFFF
-abbrev pub li-takes : ℤ → Bool
-li-takes (pos n) = leb n offset-limit
-li-takes (negsuc n) = ltb n (2 ^ 31)
-
-abbrev pub li-fault : (d : ℕ) → ℤ → ℕ
-li-fault d z = cond (ltb d 32) (cond (li-takes z) 0 (number-of Value)) (number-of Register)
+-- `li` takes every 32-bit signed value
+abbrev pub li-fault : (d : ℕ) → ℕ
+li-fault d = cond (ltb d 32) 0 (number-of Register)
 
 -- t0 can't be the base where t0 is computed
 abbrev pub access-fault : (limit : ℕ) → (registers : Bool) → (base offset : ℕ) → ℕ

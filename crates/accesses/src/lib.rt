@@ -5,16 +5,15 @@ ghost use mathlib.Core.List.{[], _∷_, map};
 ghost use Prim.Native.Nat.{_+_, _≤_, _<_, min};
 ghost use lib.Dec.{ltb};
 ghost use lib.IntN.{pos, negℤ};
-ghost use Rattle.isa.specs.Register.{t0};
-ghost use Rattle.isa.specs.Immediate.{hi, lo};
-ghost use Rattle.isa.specs.Instr.{I, U, ADDI, LUI};
+ghost use Rattle.isa.specs.Immediate.{lo};
+ghost use Rattle.isa.specs.Instr.{I};
 ghost use Rattle.assembler.specs.Item.{instr};
 ghost use Rattle.assembler.specs.State.{before, after};
 ghost use Rattle.assembler.specs.Put.{put};
 ghost use Rattle.assembler.specs.Plan.{fault-number, pushed};
-ghost use Rattle.accesses.specs.Code.{li-code, point-code, load-float-code, save-float-code, load-int-code};
+ghost use Rattle.accesses.specs.Code.{low-op, li-code, point-code, load-float-code, save-float-code, load-int-code};
 ghost use Rattle.accesses.specs.Code.{load-complex-code, save-complex-code, sub-stack-code, add-stack-code, allocate-stack-code};
-ghost use Rattle.accesses.specs.Fault.{li-fault, access-fault, one-fault, pair-fault, stack-fault};
+ghost use Rattle.accesses.specs.Fault.{offset-limit, li-fault, access-fault, one-fault, pair-fault, stack-fault};
 ghost use Rattle.accesses.specs.Plans.{answer-of, word-of, pushes, plan-of, access-instr};
 ghost use Rattle.accesses.specs.Inner.Plans.{is-word, settled-plan, one-code, pair-code};
 use assembler::Asm;
@@ -32,7 +31,10 @@ use encoder::T0;
 use encoder::ZERO;
 
 // Offsets and stack sizes go to this.
-const LIMIT: u32 = 0x7FFFF7FF;
+const LIMIT: u32 = 0x7FFFFFFF;
+
+// The first number that `lui` and `addi` don't load.
+const TOP: u32 = 0x7FFFF800;
 
 // The last register that starts a pair.
 const LAST_PAIR: u32 = 30;
@@ -119,14 +121,24 @@ pub fn five(a: Encoded, b: Encoded, c: Encoded, d: Encoded, e: Encoded) -> Plan
 
 // ---- li
 
-// The 32-bit number x in two words.
-fn wide(d: u32, x: u32) -> Plan
-    ensures { λ r. ⌜ r ≡ plan-of (U LUI d (pos (hi x)) ∷ I ADDI d d (lo x) ∷ []) ⌝ }
+// The second word of n in two words: the low part is added.
+pub fn low_word(d: u32, n: u32) -> Encoded
+    ensures { λ r. ⌜ r ≡ answer-of (I (low-op (pos n)) d d (lo n)) ⌝ }
 {
-    two(
-        encoder::lui(d, encoder::hi(x)),
-        encoder::addi(d, d, encoder::lo(x)),
-    )
+    if n < TOP {
+        return encoder::addi(d, d, encoder::lo(n));
+    }
+    encoder::addiw(d, d, encoder::lo(n))
+}
+
+// d = n
+fn li_unsigned(d: u32, n: u32) -> Plan
+    ensures { λ r. ⌜ r ≡ plan-of (li-code d (pos n)) ⌝ }
+{
+    if n < 2048 {
+        return one(encoder::addi(d, ZERO, n as i32));
+    }
+    two(encoder::lui(d, encoder::hi(n)), low_word(d, n))
 }
 
 pub fn li_plan(d: u32, z: i32) -> Plan
@@ -134,38 +146,27 @@ pub fn li_plan(d: u32, z: i32) -> Plan
 {
     let s = encoder::split(z);
     match s {
-        Sign::NonNeg(n) => {
-            if n < 2048 {
-                return one(encoder::addi(d, ZERO, z));
-            }
-            wide(d, n)
-        }
+        Sign::NonNeg(n) => li_unsigned(d, n),
         Sign::Neg(n) => {
             if n < 2048 {
                 return one(encoder::addi(d, ZERO, z));
             }
-            wide(d, 4294967295 - n)
+            let x = 4294967295 - n;
+            two(
+                encoder::lui(d, encoder::hi(x)),
+                encoder::addi(d, d, encoder::lo(x)),
+            )
         }
     }
 }
 
 // ---- accesses: direct where the offset is near, else through t0
 
-// t0 = n
-fn li_offset(n: u32) -> Plan
-    ensures { λ r. ⌜ r ≡ plan-of (li-code t0 (pos n)) ⌝ }
-{
-    if n < 2048 {
-        return one(encoder::addi(T0, ZERO, n as i32));
-    }
-    wide(T0, n)
-}
-
 // t0 = base + n
 fn point(base: u32, n: u32) -> Plan
     ensures { λ r. ⌜ r ≡ plan-of (point-code base n) ⌝ }
 {
-    assembler::push(li_offset(n), encoder::add(T0, T0, base))
+    assembler::push(li_unsigned(T0, n), encoder::add(T0, T0, base))
 }
 
 // The access `last` through t0 = base + n.
@@ -175,7 +176,7 @@ fn far(base: u32, n: u32, last: Encoded) -> Plan
 {
     four(
         encoder::lui(T0, encoder::hi(n)),
-        encoder::addi(T0, T0, encoder::lo(n)),
+        low_word(T0, n),
         encoder::add(T0, T0, base),
         last,
     )
@@ -210,7 +211,7 @@ fn one_plan(k: Cell, r: u32, base: u32, n: u32) -> Plan
 
 // Pairs are placed only where r is below 31, so the sum fits.
 fn pair_plan(k: Cell, r: u32, base: u32, n: u32) -> Plan
-    requires { ⌜ (r < 31) × (n ≤ 0x7FFFF7FF) ⌝ }
+    requires { ⌜ (r < 31) × (n ≤ offset-limit) ⌝ }
     ensures { λ p. ⌜ p ≡ plan-of (pair-code k r base n) ⌝ }
 {
     if n < 2040 {
@@ -227,14 +228,14 @@ fn pair_plan(k: Cell, r: u32, base: u32, n: u32) -> Plan
 
 // -n
 fn minus(n: u32) -> i32
-    requires { ⌜ n ≤ 0x7FFFFFFF ⌝ }
+    requires { ⌜ n ≤ offset-limit ⌝ }
     ensures { λ r. ⌜ r ≡ negℤ (pos n) ⌝ }
 {
     0 - (n as i32)
 }
 
 fn sub_stack_plan(n: u32) -> Plan
-    requires { ⌜ n ≤ 0x7FFFF7FF ⌝ }
+    requires { ⌜ n ≤ offset-limit ⌝ }
     ensures { λ r. ⌜ r ≡ plan-of (sub-stack-code n) ⌝ }
 {
     if n < 2048 {
@@ -244,23 +245,23 @@ fn sub_stack_plan(n: u32) -> Plan
 }
 
 fn add_stack_plan(n: u32) -> Plan
-    requires { ⌜ n ≤ 0x7FFFF7FF ⌝ }
+    requires { ⌜ n ≤ offset-limit ⌝ }
     ensures { λ r. ⌜ r ≡ plan-of (add-stack-code n) ⌝ }
 {
     if n < 2048 {
         return one(encoder::addi(SP, SP, n as i32));
     }
-    assembler::push(li_offset(n), encoder::add(SP, SP, T0))
+    assembler::push(li_unsigned(T0, n), encoder::add(SP, SP, T0))
 }
 
 fn allocate_stack_plan(n: u32) -> Plan
-    requires { ⌜ n ≤ 0x7FFFF7FF ⌝ }
+    requires { ⌜ n ≤ offset-limit ⌝ }
     ensures { λ r. ⌜ r ≡ plan-of (allocate-stack-code n) ⌝ }
 {
     if n < 2048 {
         return two(encoder::addi(SP, SP, minus(n)), encoder::mv(S5, SP));
     }
-    let p = assembler::push(li_offset(n), encoder::sub(SP, SP, T0));
+    let p = assembler::push(li_unsigned(T0, n), encoder::sub(SP, SP, T0));
     assembler::push(p, encoder::mv(S5, SP))
 }
 
@@ -296,21 +297,14 @@ fn at_most(limit: u32, n: u32) -> u32
     if n <= limit { n } else { limit }
 }
 
-// What document 01 refuses of `li`.
-fn li_refusal(d: u32, z: i32) -> Fault
-    ensures { λ r. ⌜ fault-number r ≡ li-fault d z ⌝ }
+// What is refused of `li`: its register.
+fn li_refusal(d: u32) -> Fault
+    ensures { λ r. ⌜ fault-number r ≡ li-fault d ⌝ }
 {
-    if d >= 32 {
-        return Fault::Register;
-    }
-    let s = encoder::split(z);
-    match s {
-        Sign::NonNeg(n) => if n <= LIMIT {
-            Fault::Nothing
-        } else {
-            Fault::Value
-        },
-        Sign::Neg(_) => Fault::Nothing,
+    if d < 32 {
+        Fault::Nothing
+    } else {
+        Fault::Register
     }
 }
 
@@ -372,9 +366,9 @@ pub fn li(
     jumps: &mut Jumps,
     asm: Asm,
 ) -> EmitResult
-    ensures { λ x. ⌜ after x labels jumps buf ≡ put 0 (li-fault d z) (map instr (li-code d z)) (before asm labels jumps buf) ⌝ }
+    ensures { λ x. ⌜ after x labels jumps buf ≡ put 0 (li-fault d) (map instr (li-code d z)) (before asm labels jumps buf) ⌝ }
 {
-    let f = li_refusal(d, z);
+    let f = li_refusal(d);
     settle(f, li_plan(d, z), buf, labels, jumps, asm)
 }
 

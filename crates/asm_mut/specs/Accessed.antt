@@ -17,7 +17,7 @@ abbrev straight : (fault : ℕ) → List Instr → State → Outcome
 straight fault is = put 0 fault (map instr is)
 
 abbrev pub accessed : Access → State → Outcome
-accessed (Li d z) = straight (li-fault d z) (li-code d z)
+accessed (Li d z) = straight (li-fault d) (li-code d z)
 accessed (LoadFloat d base n) = straight (one-fault d base n) (load-float-code d base n)
 accessed (SaveFloat s base n) = straight (one-fault s base n) (save-float-code s base n)
 accessed (LoadInt d base n) = straight (one-fault d base n) (load-int-code d base n)

@@ -156,32 +156,32 @@ module _ (b op : ℕ) where
       let r : row-of (27 + op) ≡ R4 (getD r4-ops op FMADD-D) 0 0 0 0 0 = row-in (λ k. R4 k 0 0 0 0 0) FMADD-D (take 27 rows) r4-ops (drop 31 rows) op h in
       omega (arith, encode-R4 (getD r4-ops op FMADD-D) d a c e 7, q ∙ ap encode r)
 
-  pub word-I : op < 7 → b ≡ encode (row-of (31 + op)) → (d a n : ℕ) (z : ℤ) → n ≡ twos 12 z → packed b d 0 a (n % 32) (n / 32) ≡ encode (I (getD i-ops op ADDI) d a z)
+  pub word-I : op < 8 → b ≡ encode (row-of (31 + op)) → (d a n : ℕ) (z : ℤ) → n ≡ twos 12 z → packed b d 0 a (n % 32) (n / 32) ≡ encode (I (getD i-ops op ADDI) d a z)
   word-I h q d a n z p =
-      let r : row-of (31 + op) ≡ I (getD i-ops op ADDI) 0 0 (pos 0) = row-in (λ k. I k 0 0 (pos 0)) ADDI (take 31 rows) i-ops (drop 38 rows) op h in
+      let r : row-of (31 + op) ≡ I (getD i-ops op ADDI) 0 0 (pos 0) = row-in (λ k. I k 0 0 (pos 0)) ADDI (take 31 rows) i-ops (drop 39 rows) op h in
       rw p (omega (arith, encode-I (getD i-ops op ADDI) d a z, q ∙ ap encode r))
 
-  pub word-Shift : op < 3 → b ≡ encode (row-of (38 + op)) → (d a n : ℕ) (z : ℤ) → n ≡ twos 6 z → packed b d 0 a (n % 32) (n / 32) ≡ encode (Shift (getD shift-ops op SLLI) d a z)
+  pub word-Shift : op < 3 → b ≡ encode (row-of (39 + op)) → (d a n : ℕ) (z : ℤ) → n ≡ twos 6 z → packed b d 0 a (n % 32) (n / 32) ≡ encode (Shift (getD shift-ops op SLLI) d a z)
   word-Shift h q d a n z p =
-      let r : row-of (38 + op) ≡ Shift (getD shift-ops op SLLI) 0 0 (pos 0) = row-in (λ k. Shift k 0 0 (pos 0)) SLLI (take 38 rows) shift-ops (drop 41 rows) op h in
+      let r : row-of (39 + op) ≡ Shift (getD shift-ops op SLLI) 0 0 (pos 0) = row-in (λ k. Shift k 0 0 (pos 0)) SLLI (take 39 rows) shift-ops (drop 42 rows) op h in
       rw p (omega (arith, encode-Shift (getD shift-ops op SLLI) d a z, q ∙ ap encode r))
 
-  pub word-S : op < 2 → b ≡ encode (row-of (41 + op)) → (a c n : ℕ) (z : ℤ) → n ≡ twos 12 z → packed b (n % 32) 0 a c (n / 32) ≡ encode (S (getD s-ops op SD) a c z)
+  pub word-S : op < 2 → b ≡ encode (row-of (42 + op)) → (a c n : ℕ) (z : ℤ) → n ≡ twos 12 z → packed b (n % 32) 0 a c (n / 32) ≡ encode (S (getD s-ops op SD) a c z)
   word-S h q a c n z p =
-      let r : row-of (41 + op) ≡ S (getD s-ops op SD) 0 0 (pos 0) = row-in (λ k. S k 0 0 (pos 0)) SD (take 41 rows) s-ops (drop 43 rows) op h in
+      let r : row-of (42 + op) ≡ S (getD s-ops op SD) 0 0 (pos 0) = row-in (λ k. S k 0 0 (pos 0)) SD (take 42 rows) s-ops (drop 44 rows) op h in
       rw p (omega (arith, encode-S (getD s-ops op SD) a c z, q ∙ ap encode r))
 
-  pub word-B : op < 6 → b ≡ encode (row-of (43 + op)) → (a c n : ℕ) (z : ℤ) → n ≡ twos 13 z → packed b (n / 2 % 16 * 2 + n / 2048 % 2) 0 a c (n / 4096 * 64 + n / 32 % 64) ≡ encode (B (getD b-ops op BEQ) a c z)
+  pub word-B : op < 6 → b ≡ encode (row-of (44 + op)) → (a c n : ℕ) (z : ℤ) → n ≡ twos 13 z → packed b (n / 2 % 16 * 2 + n / 2048 % 2) 0 a c (n / 4096 * 64 + n / 32 % 64) ≡ encode (B (getD b-ops op BEQ) a c z)
   word-B h q a c n z p =
-      let r : row-of (43 + op) ≡ B (getD b-ops op BEQ) 0 0 (pos 0) = row-in (λ k. B k 0 0 (pos 0)) BEQ (take 43 rows) b-ops (drop 49 rows) op h in
+      let r : row-of (44 + op) ≡ B (getD b-ops op BEQ) 0 0 (pos 0) = row-in (λ k. B k 0 0 (pos 0)) BEQ (take 44 rows) b-ops (drop 50 rows) op h in
       rw p (omega (arith, encode-B (getD b-ops op BEQ) a c z, q ∙ ap encode r))
 
-  pub word-U : op < 2 → b ≡ encode (row-of (49 + op)) → (d n : ℕ) (z : ℤ) → n ≡ twos 20 z → packed b d (n % 8) (n / 8 % 32) (n / 256 % 32) (n / 8192) ≡ encode (U (getD u-ops op LUI) d z)
+  pub word-U : op < 2 → b ≡ encode (row-of (50 + op)) → (d n : ℕ) (z : ℤ) → n ≡ twos 20 z → packed b d (n % 8) (n / 8 % 32) (n / 256 % 32) (n / 8192) ≡ encode (U (getD u-ops op LUI) d z)
   word-U h q d n z p =
-      let r : row-of (49 + op) ≡ U (getD u-ops op LUI) 0 (pos 0) = row-in (λ k. U k 0 (pos 0)) LUI (take 49 rows) u-ops (drop 51 rows) op h in
+      let r : row-of (50 + op) ≡ U (getD u-ops op LUI) 0 (pos 0) = row-in (λ k. U k 0 (pos 0)) LUI (take 50 rows) u-ops (drop 52 rows) op h in
       rw p (omega (arith, encode-U (getD u-ops op LUI) d z, q ∙ ap encode r))
 
-  pub word-J : op < 1 → b ≡ encode (row-of (51 + op)) → (d n : ℕ) (z : ℤ) → n ≡ twos 21 z → packed b d (n / 4096 % 8) (n / 32768 % 32) (n / 2 % 16 * 2 + n / 2048 % 2) (n / 1048576 * 64 + n / 32 % 64) ≡ encode (J (getD j-ops op JAL) d z)
+  pub word-J : op < 1 → b ≡ encode (row-of (52 + op)) → (d n : ℕ) (z : ℤ) → n ≡ twos 21 z → packed b d (n / 4096 % 8) (n / 32768 % 32) (n / 2 % 16 * 2 + n / 2048 % 2) (n / 1048576 * 64 + n / 32 % 64) ≡ encode (J (getD j-ops op JAL) d z)
   word-J h q d n z p =
-      let r : row-of (51 + op) ≡ J (getD j-ops op JAL) 0 (pos 0) = row-in (λ k. J k 0 (pos 0)) JAL (take 51 rows) j-ops (drop 52 rows) op h in
+      let r : row-of (52 + op) ≡ J (getD j-ops op JAL) 0 (pos 0) = row-in (λ k. J k 0 (pos 0)) JAL (take 52 rows) j-ops (drop 53 rows) op h in
       rw p (omega (arith, encode-J (getD j-ops op JAL) d z, q ∙ ap encode r))

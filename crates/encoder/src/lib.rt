@@ -1,5 +1,5 @@
 // macros.rs: the word of an instruction, or its refusal. `rvv!` becomes a function for each form, operands in its order;
-// dots in a name become underscores, and `fadd.d` with a rounding mode is `fadd_d_rm`.
+// dots in a name become underscores, and `fadd.d` with a rounding mode is `fadd_d_rm`. `addiw`, which `rvv!` lacks, is document 02's.
 ghost use mathlib.Core.Path.{_≡_};
 ghost use mathlib.Core.Bool.{true};
 ghost use Prim.Native.Nat.{_≤_, _<_};
@@ -11,7 +11,7 @@ ghost use Rattle.encoder.specs.Answer.{word-answer, encoded};
 ghost use Rattle.encoder.specs.Inner.Table.{row-of};
 ghost use Rattle.encoder.specs.Sign.{sign-of};
 ghost use Rattle.encoder.specs.Inner.Field.{packed, signed-field, even-field, unsigned-field};
-ghost use Rattle.isa.specs.Instr.{R, F, C, M, R4, I, Shift, S, B, U, J, ADD, SUB, SLL, XOR, SRL, SRA, OR, AND, FSGNJ-D, FSGNJN-D, FSGNJX-D, FMIN-D, FMAX-D, FLE-D, FLT-D, FEQ-D, FADD-D, FSUB-D, FMUL-D, FDIV-D, FSQRT-D, FCVT-W-D, FCVT-L-D, FCVT-D-W, FCVT-D-L, FMV-X-D, FMV-D-X, FMADD-D, FMSUB-D, FNMSUB-D, FNMADD-D, ADDI, XORI, ORI, ANDI, JALR, LD, FLD, SLLI, SRLI, SRAI, SD, FSD, BEQ, BNE, BLT, BGE, BLTU, BGEU, LUI, AUIPC, JAL, rounding as rounding-field, free, holds, f-rounding, c-rounding, register, registers-hold};
+ghost use Rattle.isa.specs.Instr.{R, F, C, M, R4, I, Shift, S, B, U, J, ADD, SUB, SLL, XOR, SRL, SRA, OR, AND, FSGNJ-D, FSGNJN-D, FSGNJX-D, FMIN-D, FMAX-D, FLE-D, FLT-D, FEQ-D, FADD-D, FSUB-D, FMUL-D, FDIV-D, FSQRT-D, FCVT-W-D, FCVT-L-D, FCVT-D-W, FCVT-D-L, FMV-X-D, FMV-D-X, FMADD-D, FMSUB-D, FNMSUB-D, FNMADD-D, ADDI, XORI, ORI, ANDI, JALR, LD, FLD, ADDIW, SLLI, SRLI, SRAI, SD, FSD, BEQ, BNE, BLT, BGE, BLTU, BGEU, LUI, AUIPC, JAL, rounding as rounding-field, free, holds, f-rounding, c-rounding, register, registers-hold};
 ghost use Rattle.isa.specs.Immediate.{hi as hi-part, lo as lo-part};
 ghost use Rattle.isa.specs.Encode.{encode};
 ghost use Rattle.isa.specs.Decode.{r-ops, f-ops, c-ops, m-ops, r4-ops, i-ops, shift-ops, s-ops, b-ops, u-ops, j-ops};
@@ -60,7 +60,7 @@ pub enum Encoded {
 }
 
 // The base words: each instruction with every operand field zero.
-const BASES: [u32; 52] = [
+const BASES: [u32; 53] = [
     0x00000033, // add
     0x40000033, // sub
     0x00001033, // sll
@@ -99,6 +99,7 @@ const BASES: [u32; 52] = [
     0x00000067, // jalr
     0x00003003, // ld
     0x00003007, // fld
+    0x0000001b, // addiw
     0x00001013, // slli
     0x00005013, // srli
     0x40005013, // srai
@@ -126,15 +127,15 @@ const R4_ROWS: usize = 27;
 
 const I_ROWS: usize = 31;
 
-const SHIFT_ROWS: usize = 38;
+const SHIFT_ROWS: usize = 39;
 
-const S_ROWS: usize = 41;
+const S_ROWS: usize = 42;
 
-const B_ROWS: usize = 43;
+const B_ROWS: usize = 44;
 
-const U_ROWS: usize = 49;
+const U_ROWS: usize = 50;
 
-const J_ROWS: usize = 51;
+const J_ROWS: usize = 52;
 
 const ADD: usize = 0;
 
@@ -212,6 +213,8 @@ const LD: usize = 5;
 
 const FLD: usize = 6;
 
+const ADDIW: usize = 7;
+
 const SLLI: usize = 0;
 
 const SRLI: usize = 1;
@@ -246,7 +249,7 @@ const DYN: u32 = 7;
 const RNE: u32 = 0;
 
 fn base(row: usize) -> u32
-    requires { ⌜ row < 52 ⌝ }
+    requires { ⌜ row < 53 ⌝ }
     ensures { λ r. ⌜ r ≡ encode (row-of row) ⌝ }
 {
     BASES[row]
@@ -434,7 +437,7 @@ fn r4type(op: usize, rd: u32, rs1: u32, rs2: u32, rs3: u32) -> Encoded
 }
 
 fn itype(op: usize, rd: u32, rs1: u32, imm: i32) -> Encoded
-    requires { ⌜ op < 7 ⌝ }
+    requires { ⌜ op < 8 ⌝ }
     ensures { λ r. ⌜ word-answer r ≡ encoded (I (getD i-ops op ADDI) rd rs1 imm) ⌝ }
 {
     if !registers(rd, rs1, 0, 0) {
@@ -596,6 +599,12 @@ pub fn addi(rd: u32, rs1: u32, imm: i32) -> Encoded
     ensures { λ r. ⌜ word-answer r ≡ encoded (I ADDI rd rs1 imm) ⌝ }
 {
     itype(ADDI, rd, rs1, imm)
+}
+
+pub fn addiw(rd: u32, rs1: u32, imm: i32) -> Encoded
+    ensures { λ r. ⌜ word-answer r ≡ encoded (I ADDIW rd rs1 imm) ⌝ }
+{
+    itype(ADDIW, rd, rs1, imm)
 }
 
 pub fn nop() -> Encoded

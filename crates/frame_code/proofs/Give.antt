@@ -5,7 +5,7 @@ use mathlib.Core.Bool.{Bool, true, false, not, _||_}
 use mathlib.Core.List.{List, [], _∷_, _++_}
 use Prim.Native.Nat.{ℕ, zero, suc, _+_, _-_, _*_, _%_, _^_, _≤_, _<_}
 use native.Mathlib.Omega.{arith}
-use lib.Dec.{T, eqb, le→leb}
+use lib.Dec.{T, eqb}
 use lib.IntN.{pos}
 use Rattle.isa.specs.Instr.{Instr, R, ADD}
 use Rattle.machine.specs.Word.{w64, dist, upd, load8, store8}
@@ -146,7 +146,7 @@ module _ (Q : Floats) (P : ℕ → Type 0) (base tab idx skip count : ℕ) (u : 
   )
     where
       q : Quiet Q (λ r. eqb r 6) (li-code 6 (pos (8 * skip))) u × ((execs Q (li-code 6 (pos (8 * skip))) u) .x 6 ≡ 8 * skip % 2 ^ 64)
-      q = li Q 6 (pos (8 * skip)) u (omega arith) (λ z. omega arith) (le→leb (8 * skip) 0x7FFFF7FF (omega arith))
+      q = li Q 6 (pos (8 * skip)) u (omega arith) (λ z. omega arith) (omega arith)
 
       w : State
       w = execs Q (li-code 6 (pos (8 * skip))) u

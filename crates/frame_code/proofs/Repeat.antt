@@ -6,7 +6,7 @@ use mathlib.Core.List.{List, [], _∷_, _++_, map}
 use Prim.Native.Nat.{ℕ, zero, suc, _+_, _-_, _*_, _^_, _≤_, _<_}
 use native.Mathlib.Omega.{arith}
 use borrow.Author.Tests.{lt-ltb, ne-eqb, eqb-true}
-use lib.Dec.{eqb, leb, le→leb}
+use lib.Dec.{eqb, leb}
 use lib.IntN.{pos, negsuc, subℕ}
 use lib.ListN.{length, length-append}
 use Rattle.isa.specs.Instr.{Instr, B, BNE}
@@ -149,7 +149,7 @@ module _ (Q : Floats) (P : ℕ → Type 0) (each : List Instr) (n : ℕ) (Inv : 
 
       by-loop : Stood at C P (s .mem) a here (code start ++ (label l ∷ inner)) → (w : State) × Came Q C P s (a + (here + 4 * length (resolved at here (code start ++ (label l ∷ inner))))) (c + (length first + length (li-code 7 (pos n)) + 8 * n)) w × Inv n w
       by-loop st =
-          let q = li Q 7 (pos n) v (omega arith) (λ z. omega arith) (le→leb n 0x7FFFF7FF (omega arith)) in
+          let q = li Q 7 (pos n) v (omega arith) (λ z. omega arith) (omega arith) in
           let w2 = execs Q (li-code 7 (pos n)) v in
           let k = length-append first (li-code 7 (pos n)) in
           let m2 = onward-seg start (a + here) c u (piece here start (label l ∷ inner) st) m (seg-join {is = first} g (seg-quiet (q .0))) in

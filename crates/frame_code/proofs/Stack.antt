@@ -6,7 +6,7 @@ use mathlib.Core.List.{List, [], _∷_, _++_}
 use Prim.Native.Nat.{ℕ, zero, suc, _+_, _-_, _^_, _≤_, _<_}
 use native.Mathlib.Omega.{arith}
 use borrow.Author.Tests.{ltb-true, eq-eqb, ne-eqb}
-use lib.Dec.{T, eqb, ltb, lt→ltb, le→leb}
+use lib.Dec.{T, eqb, ltb}
 use lib.IntN.{ℤ, pos, negℤ}
 use lib.Signed.{mag}
 use Rattle.isa.specs.Immediate.{twos, hi, lo}
@@ -21,8 +21,7 @@ use Rattle.machine.proofs.Effects.{setx-same, getx-same, twos-small}
 use Rattle.machine.proofs.Straight.{execs-append, fit-join, execs-x}
 use Rattle.machine.proofs.Stores.{Landing}
 use Rattle.accesses.specs.Code.{li-code, sub-stack-code}
-use Rattle.accesses.specs.Fault.{li-takes}
-use Rattle.accesses.proofs.Parts.{parts}
+use Rattle.accesses.proofs.Parts.{Plain, plain-op, parts}
 use Rattle.frame_code.proofs.Land.{Nowhere, landing-join}
 
 -- Instructions that write registers of W only.
@@ -51,7 +50,7 @@ module _ {Q : Floats} {W : ℕ → Bool} where
 
 module _ (Q : Floats) where
   -- li, to any register but x0
-  module _ (d : ℕ) (z : ℤ) (u : State) (h : d < 32) (n : d ≢ 0) (t : T (li-takes z)) where
+  module _ (d : ℕ) (z : ℤ) (u : State) (h : d < 32) (n : d ≢ 0) (t : Plain z) where
     near : ltb (mag z) 2048 ≡ true → Quiet Q (λ r. eqb r d) (I ADDI d 0 z ∷ []) u × ((execs Q (I ADDI d 0 z ∷ []) u) .x d ≡ twos 64 z)
     unfolding effect apply
     near e = (
@@ -83,7 +82,7 @@ module _ (Q : Floats) where
 
     pub li : Quiet Q (λ r. eqb r d) (li-code d z) u × ((execs Q (li-code d z) u) .x d ≡ twos 64 z)
     unfolding li-code
-    li = by (ltb (mag z) 2048) refl
+    li = rw (plain-op z t) (by (ltb (mag z) 2048) refl)
       where
         by : (b : Bool) → ltb (mag z) 2048 ≡ b → Quiet Q (λ r. eqb r d) (cond b (I ADDI d 0 z ∷ []) far-code) u × ((execs Q (cond b (I ADDI d 0 z ∷ []) far-code) u) .x d ≡ twos 64 z)
         by true e = near e
@@ -96,9 +95,9 @@ pub minus-n : (n : ℕ) → n < 2 ^ 64 → twos 64 (negℤ (pos n)) ≡ w64 (2 ^
 minus-n zero h = refl
 minus-n (suc n) h = omega arith
 
-minus-takes : (n : ℕ) → n < 2 ^ 31 → T (li-takes (negℤ (pos n)))
-minus-takes zero h = tt
-minus-takes (suc n) h = lt→ltb n (2 ^ 31) (omega arith)
+minus-plain : (n : ℕ) → n < 2 ^ 31 → Plain (negℤ (pos n))
+minus-plain zero h = omega arith
+minus-plain (suc n) h = omega arith
 
 minus-fits : (n : ℕ) → n < 2048 → mag (negℤ (pos n)) < 2048
 minus-fits zero h = omega arith
@@ -173,7 +172,7 @@ module _ (Q : Floats) (n : ℕ) (h : n ≤ 0x7FFFF7FF) (u : State) where
   )
 
   -- li t0, then the rest
-  module _ (z : ℤ) (i : Instr) (t : T (li-takes z)) (g : (v : State) → v .x 2 ≡ u .x 2 → v .x 5 ≡ twos 64 z → Quiet Q stack-regs (i ∷ []) v × ((execs Q (i ∷ []) v) .x 2 ≡ lowered)) where
+  module _ (z : ℤ) (i : Instr) (t : Plain z) (g : (v : State) → v .x 2 ≡ u .x 2 → v .x 5 ≡ twos 64 z → Quiet Q stack-regs (i ∷ []) v × ((execs Q (i ∷ []) v) .x 2 ≡ lowered)) where
     by-t0 : Quiet Q stack-regs (li-code 5 z ++ (i ∷ [])) u × ((execs Q (li-code 5 z ++ (i ∷ [])) u) .x 2 ≡ lowered)
     by-t0 =
         let l = li Q 5 z u (omega arith) (λ e. omega arith) t in
@@ -186,11 +185,11 @@ module _ (Q : Floats) (n : ℕ) (h : n ≤ 0x7FFFF7FF) (u : State) where
     where
       by : (b : Bool) → ltb n 2048 ≡ b → Quiet Q stack-regs (cond b (I ADDI 2 2 (negℤ (pos n)) ∷ []) (li-code 5 (negℤ (pos n)) ++ (R ADD 2 2 5 ∷ []))) u × ((execs Q (cond b (I ADDI 2 2 (negℤ (pos n)) ∷ []) (li-code 5 (negℤ (pos n)) ++ (R ADD 2 2 5 ∷ []))) u) .x 2 ≡ lowered)
       by true e = down (ltb-true n 2048 e)
-      by false e = by-t0 (negℤ (pos n)) (R ADD 2 2 5) (minus-takes n (omega arith)) added
+      by false e = by-t0 (negℤ (pos n)) (R ADD 2 2 5) (minus-plain n (omega arith)) added
 
   pub lower : Quiet Q stack-regs (cond (ltb n 2048) (I ADDI 2 2 (negℤ (pos n)) ∷ []) (li-code 5 (pos n) ++ (R SUB 2 2 5 ∷ []))) u × ((execs Q (cond (ltb n 2048) (I ADDI 2 2 (negℤ (pos n)) ∷ []) (li-code 5 (pos n) ++ (R SUB 2 2 5 ∷ []))) u) .x 2 ≡ lowered)
   lower = by (ltb n 2048) refl
     where
       by : (b : Bool) → ltb n 2048 ≡ b → Quiet Q stack-regs (cond b (I ADDI 2 2 (negℤ (pos n)) ∷ []) (li-code 5 (pos n) ++ (R SUB 2 2 5 ∷ []))) u × ((execs Q (cond b (I ADDI 2 2 (negℤ (pos n)) ∷ []) (li-code 5 (pos n) ++ (R SUB 2 2 5 ∷ []))) u) .x 2 ≡ lowered)
       by true e = down (ltb-true n 2048 e)
-      by false e = by-t0 (pos n) (R SUB 2 2 5) (le→leb n 0x7FFFF7FF h) taken-off
+      by false e = by-t0 (pos n) (R SUB 2 2 5) (omega arith) taken-off

@@ -19,7 +19,7 @@ use Rattle.assembler.specs.declared.Tail.the-variants.{One}
 use Rattle.assembler.specs.declared.JumpKind.{JumpKind}
 use Rattle.assembler.proofs.Tests.{no}
 use Rattle.assembler.proofs.Plans.{put-fault}
-use Rattle.accesses.specs.Fault.{stack-fault}
+use Rattle.accesses.specs.Fault.{offset-limit, stack-fault}
 use Rattle.accesses.specs.Plans.{plan-of}
 use Rattle.accesses.proofs.Collect.{AllValid}
 use Rattle.accesses.proofs.Placed.{plan-tail}
@@ -83,7 +83,7 @@ module _ (tag f want : ℕ) (is : List Item) (s : State) (o : Outcome) (e : f �
 
 -- a stack size that is taken
 pub size-put : (tag : ℕ) (is : ℕ → List Instr) (n m : ℕ) (s : State) → n ≡ m → n ≤ 32784 → put 0 (stack-fault n) (code (is n)) s ≡ put tag 0 (code (is m)) s
-size-put tag is n m s e h = rw (le-leb n 0x7FFFF7FF (omega arith), e) (untagged 0 tag 0 (code (is m)) s (jumps-code (is m)))
+size-put tag is n m s e h = rw (le-leb n offset-limit (omega arith), e) (untagged 0 tag 0 (code (is m)) s (jumps-code (is m)))
 
 -- ---- asked, then placed
 

@@ -50,7 +50,7 @@ of-order t = number (line-put 0 (said (bytes t)) fresh .answer)
 abbrev of-constant : ℕ → String → ℕ
 of-constant k t = number (constant-put k (said (bytes t)) fresh .answer)
 
-pub cells : (of-order "get,0,mem,4095\n" ∷ of-order "get,0,mem,4096\n" ∷ of-order "put,0,stack,268435199\n" ∷ of-order "put,0,stack,268435200\n" ∷ of-order "ifelse,0,1,2,100000000000000000000000000000\n" ∷ []) ≡ (0 ∷ 0 ∷ 0 ∷ 2 ∷ 2 ∷ [])
+pub cells : (of-order "get,0,mem,4095\n" ∷ of-order "get,0,mem,4096\n" ∷ of-order "put,0,stack,268435455\n" ∷ of-order "put,0,stack,268435456\n" ∷ of-order "ifelse,0,1,2,100000000000000000000000000000\n" ∷ []) ≡ (0 ∷ 0 ∷ 0 ∷ 2 ∷ 2 ∷ [])
 unfolding line-put says said read split first same read-values read-decimal read-from put settled verdict fault sound fits twice labels jumps words code access-code point-code li-code
 cells = refl
 

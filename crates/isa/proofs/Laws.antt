@@ -11,7 +11,7 @@ use lib.Dec.{T, eqb, leb, eqb→eq}
 use lib.IntN.{ℤ, pos, negsuc}
 use lib.Signed.{mag}
 use Rattle.isa.specs.Immediate.{twos, signed}
-use Rattle.isa.specs.Instr.{Instr, R, F, C, M, R4, I, Shift, S, B, U, J, ADD, SUB, SLL, XOR, SRL, SRA, OR, AND, FSGNJ-D, FSGNJN-D, FSGNJX-D, FMIN-D, FMAX-D, FLE-D, FLT-D, FEQ-D, FADD-D, FSUB-D, FMUL-D, FDIV-D, FSQRT-D, FCVT-W-D, FCVT-L-D, FCVT-D-W, FCVT-D-L, FMV-X-D, FMV-D-X, FMADD-D, FMSUB-D, FNMSUB-D, FNMADD-D, ADDI, XORI, ORI, ANDI, JALR, LD, FLD, SLLI, SRLI, SRAI, SD, FSD, BEQ, BNE, BLT, BGE, BLTU, BGEU, LUI, AUIPC, JAL, BOp, offset, unsigned, rounding, free, valid}
+use Rattle.isa.specs.Instr.{Instr, R, F, C, M, R4, I, Shift, S, B, U, J, ADD, SUB, SLL, XOR, SRL, SRA, OR, AND, FSGNJ-D, FSGNJN-D, FSGNJX-D, FMIN-D, FMAX-D, FLE-D, FLT-D, FEQ-D, FADD-D, FSUB-D, FMUL-D, FDIV-D, FSQRT-D, FCVT-W-D, FCVT-L-D, FCVT-D-W, FCVT-D-L, FMV-X-D, FMV-D-X, FMADD-D, FMSUB-D, FNMSUB-D, FNMADD-D, ADDI, XORI, ORI, ANDI, JALR, LD, FLD, ADDIW, SLLI, SRLI, SRAI, SD, FSD, BEQ, BNE, BLT, BGE, BLTU, BGEU, LUI, AUIPC, JAL, BOp, offset, unsigned, rounding, free, valid}
 use Rattle.isa.specs.Encode.{Fields, join, fields, encode}
 use Rattle.isa.specs.Decode.{cut, b-imm, j-imm, reading, checked, decode}
 use Rattle.isa.proofs.Validity.{Holds, Valid, valid-Valid, Valid-valid}
@@ -202,6 +202,7 @@ reading-fields (I ANDI d a z) h = rw (i-back z (h .1 .1 .0))
 reading-fields (I JALR d a z) h = rw (i-back z (h .1 .1 .0))
 reading-fields (I LD d a z) h = rw (i-back z (h .1 .1 .0))
 reading-fields (I FLD d a z) h = rw (i-back z (h .1 .1 .0))
+reading-fields (I ADDIW d a z) h = rw (i-back z (h .1 .1 .0))
 reading-fields (Shift SLLI d a z) h = rw (shift-key-back 0 (twos 6 z) (twos-small 6 z), shamt-back 0 z (h .1 .1 .0))
 reading-fields (Shift SRLI d a z) h = rw (shift-key-back 0 (twos 6 z) (twos-small 6 z), shamt-back 0 z (h .1 .1 .0))
 reading-fields (Shift SRAI d a z) h = rw (shift-key-back 16 (twos 6 z) (twos-small 6 z), shamt-back 16 z (h .1 .1 .0))
@@ -265,6 +266,7 @@ fit (I ANDI d a z) h = omega (arith, twos-small 12 z)
 fit (I JALR d a z) h = omega (arith, twos-small 12 z)
 fit (I LD d a z) h = omega (arith, twos-small 12 z)
 fit (I FLD d a z) h = omega (arith, twos-small 12 z)
+fit (I ADDIW d a z) h = omega (arith, twos-small 12 z)
 fit (Shift SLLI d a z) h = omega (arith, twos-small 6 z)
 fit (Shift SRLI d a z) h = omega (arith, twos-small 6 z)
 fit (Shift SRAI d a z) h = omega (arith, twos-small 6 z)

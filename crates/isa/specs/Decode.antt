@@ -6,7 +6,7 @@ use Prim.Native.Nat.{ℕ, _+_, _*_, _/_, _%_, _^_}
 use lib.Dec.{eqb}
 use lib.IntN.{pos}
 use Rattle.isa.specs.Immediate.{signed}
-use Rattle.isa.specs.Instr.{valid, Instr, R, F, C, M, R4, I, Shift, S, B, U, J, ROp, ADD, SUB, SLL, XOR, SRL, SRA, OR, AND, FSGNJ-D, FSGNJN-D, FSGNJX-D, FMIN-D, FMAX-D, FLE-D, FLT-D, FEQ-D, FOp, FADD-D, FSUB-D, FMUL-D, FDIV-D, COp, FSQRT-D, FCVT-W-D, FCVT-L-D, FCVT-D-W, FCVT-D-L, MOp, FMV-X-D, FMV-D-X, R4Op, FMADD-D, FMSUB-D, FNMSUB-D, FNMADD-D, IOp, ADDI, XORI, ORI, ANDI, JALR, LD, FLD, ShiftOp, SLLI, SRLI, SRAI, SOp, SD, FSD, BOp, BEQ, BNE, BLT, BGE, BLTU, BGEU, UOp, LUI, AUIPC, JOp, JAL}
+use Rattle.isa.specs.Instr.{valid, Instr, R, F, C, M, R4, I, Shift, S, B, U, J, ROp, ADD, SUB, SLL, XOR, SRL, SRA, OR, AND, FSGNJ-D, FSGNJN-D, FSGNJX-D, FMIN-D, FMAX-D, FLE-D, FLT-D, FEQ-D, FOp, FADD-D, FSUB-D, FMUL-D, FDIV-D, COp, FSQRT-D, FCVT-W-D, FCVT-L-D, FCVT-D-W, FCVT-D-L, MOp, FMV-X-D, FMV-D-X, R4Op, FMADD-D, FMSUB-D, FNMSUB-D, FNMADD-D, IOp, ADDI, XORI, ORI, ANDI, JALR, LD, FLD, ADDIW, ShiftOp, SLLI, SRLI, SRAI, SOp, SD, FSD, BOp, BEQ, BNE, BLT, BGE, BLTU, BGEU, UOp, LUI, AUIPC, JOp, JAL}
 use Rattle.isa.specs.Encode.{Fields, encode, r-key, f-key, c-key, m-key, r4-key, i-key, shift-key, s-key, b-key, u-key, j-key}
 
 abbrev pub r-ops : List ROp
@@ -26,7 +26,7 @@ abbrev pub r4-ops : List R4Op
 r4-ops = FMADD-D ∷ FMSUB-D ∷ FNMSUB-D ∷ FNMADD-D ∷ []
 
 abbrev pub i-ops : List IOp
-i-ops = ADDI ∷ XORI ∷ ORI ∷ ANDI ∷ JALR ∷ LD ∷ FLD ∷ []
+i-ops = ADDI ∷ XORI ∷ ORI ∷ ANDI ∷ JALR ∷ LD ∷ FLD ∷ ADDIW ∷ []
 
 abbrev pub shift-ops : List ShiftOp
 shift-ops = SLLI ∷ SRLI ∷ SRAI ∷ []

@@ -1,7 +1,7 @@
 -- Encodings, from the RISC-V Unprivileged ISA Manual: the instruction formats and the opcode tables of RV64I, F and D.
 use Prim.Native.Nat.{ℕ, _+_, _*_, _/_, _%_, _^_}
 use Rattle.isa.specs.Immediate.{twos}
-use Rattle.isa.specs.Instr.{Instr, R, F, C, M, R4, I, Shift, S, B, U, J, ROp, ADD, SUB, SLL, XOR, SRL, SRA, OR, AND, FSGNJ-D, FSGNJN-D, FSGNJX-D, FMIN-D, FMAX-D, FLE-D, FLT-D, FEQ-D, FOp, FADD-D, FSUB-D, FMUL-D, FDIV-D, COp, FSQRT-D, FCVT-W-D, FCVT-L-D, FCVT-D-W, FCVT-D-L, MOp, FMV-X-D, FMV-D-X, R4Op, FMADD-D, FMSUB-D, FNMSUB-D, FNMADD-D, IOp, ADDI, XORI, ORI, ANDI, JALR, LD, FLD, ShiftOp, SLLI, SRLI, SRAI, SOp, SD, FSD, BOp, BEQ, BNE, BLT, BGE, BLTU, BGEU, UOp, LUI, AUIPC, JOp, JAL}
+use Rattle.isa.specs.Instr.{Instr, R, F, C, M, R4, I, Shift, S, B, U, J, ROp, ADD, SUB, SLL, XOR, SRL, SRA, OR, AND, FSGNJ-D, FSGNJN-D, FSGNJX-D, FMIN-D, FMAX-D, FLE-D, FLT-D, FEQ-D, FOp, FADD-D, FSUB-D, FMUL-D, FDIV-D, COp, FSQRT-D, FCVT-W-D, FCVT-L-D, FCVT-D-W, FCVT-D-L, MOp, FMV-X-D, FMV-D-X, R4Op, FMADD-D, FMSUB-D, FNMSUB-D, FNMADD-D, IOp, ADDI, XORI, ORI, ANDI, JALR, LD, FLD, ADDIW, ShiftOp, SLLI, SRLI, SRAI, SOp, SD, FSD, BOp, BEQ, BNE, BLT, BGE, BLTU, BGEU, UOp, LUI, AUIPC, JOp, JAL}
 
 -- ---- the six fields of the R format, over which every other format is laid
 
@@ -78,6 +78,7 @@ i-key ANDI = (0b0010011, 0b111)
 i-key JALR = (0b1100111, 0b000)
 i-key LD = (0b0000011, 0b011)
 i-key FLD = (0b0000111, 0b011)
+i-key ADDIW = (0b0011011, 0b000)
 
 -- funct3, bits 31..26; the opcode is OP-IMM, 0b0010011
 abbrev pub shift-key : ShiftOp → ℕ × ℕ

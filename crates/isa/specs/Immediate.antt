@@ -13,7 +13,7 @@ twos w (negsuc n) = 2 ^ w - 1 - n % 2 ^ w
 abbrev pub signed : ℕ → ℕ → ℤ
 signed w n = cond (ltb n (2 ^ (w - 1))) (pos n) (negsuc (2 ^ w - 1 - n))
 
--- A 32-bit number x as the immediates of `lui` or `auipc` and of the `addi`, load or `jalr` behind it (mod.rs: `hi`, `lo`).
+-- A 32-bit number x as the immediates of `lui` or `auipc` and of the `addi`, `addiw`, load or `jalr` behind it (mod.rs: `hi`, `lo`).
 -- `lo` is the low 12 bits with their sign; `hi`, modulo 2^20, is what is left, one more where `lo` is negative.
 abbrev pub hi : ℕ → ℕ
 hi x = (x + 2048) / 4096 % 2 ^ 20

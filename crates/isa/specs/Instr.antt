@@ -1,4 +1,4 @@
--- The base instructions of RV64I, F and D that macros.rs can write, and which operands each takes.
+-- The base instructions of RV64I, F and D that macros.rs can write, and `addiw` (document 02, point 6); which operands each takes.
 use mathlib.Core.Bool.{Bool, true, false, _&&_, _||_}
 use mathlib.Core.List.{List, [], _∷_}
 use Prim.Native.Nat.{ℕ, _-_, _%_, _^_}
@@ -32,7 +32,7 @@ pub data R4Op : Type 0 where
 
 -- rd, rs1, immediate
 pub data IOp : Type 0 where
-  ADDI XORI ORI ANDI JALR LD FLD : IOp
+  ADDI XORI ORI ANDI JALR LD FLD ADDIW : IOp
 
 -- rd, rs1, shift count
 pub data ShiftOp : Type 0 where

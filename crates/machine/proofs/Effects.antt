@@ -9,7 +9,7 @@ use lib.Dec.{T, eqb, ltb, T-not, lit<}
 use lib.Bits.{and-lt, or-lt, xor-lt}
 use lib.IntN.{ℤ, pos, negsuc}
 use Rattle.isa.specs.Immediate.{twos}
-use Rattle.isa.specs.Instr.{Instr, R, F, C, M, R4, I, Shift, S, B, U, J, ADD, SUB, SLL, XOR, SRL, SRA, OR, AND, FSGNJ-D, FSGNJN-D, FSGNJX-D, FMIN-D, FMAX-D, FLE-D, FLT-D, FEQ-D, FADD-D, FSUB-D, FMUL-D, FDIV-D, FSQRT-D, FCVT-W-D, FCVT-L-D, FCVT-D-W, FCVT-D-L, FMV-X-D, FMV-D-X, FMADD-D, FMSUB-D, FNMSUB-D, FNMADD-D, ADDI, XORI, ORI, ANDI, JALR, LD, FLD, SLLI, SRLI, SRAI, SD, FSD, LUI, AUIPC, JAL}
+use Rattle.isa.specs.Instr.{Instr, R, F, C, M, R4, I, Shift, S, B, U, J, ADD, SUB, SLL, XOR, SRL, SRA, OR, AND, FSGNJ-D, FSGNJN-D, FSGNJX-D, FMIN-D, FMAX-D, FLE-D, FLT-D, FEQ-D, FADD-D, FSUB-D, FMUL-D, FDIV-D, FSQRT-D, FCVT-W-D, FCVT-L-D, FCVT-D-W, FCVT-D-L, FMV-X-D, FMV-D-X, FMADD-D, FMSUB-D, FNMSUB-D, FNMADD-D, ADDI, XORI, ORI, ANDI, JALR, LD, FLD, ADDIW, SLLI, SRLI, SRAI, SD, FSD, LUI, AUIPC, JAL}
 use Rattle.machine.specs.Word.{upd, store8, dist}
 use Rattle.machine.specs.Floats.{Floats}
 use Rattle.machine.specs.State.{State, getx, setx, next, Sound}
@@ -207,6 +207,7 @@ effect-fits Q (I ANDI d a z) s w = and-lt 64 (getx s a) (twos 64 z) (getx-small 
 effect-fits Q (I JALR d a z) s w = omega arith
 effect-fits Q (I LD d a z) s w = load8-small (s .mem) _ (w .mem)
 effect-fits Q (I FLD d a z) s w = load8-small (s .mem) _ (w .mem)
+effect-fits Q (I ADDIW d a z) s w = omega arith
 effect-fits Q (Shift SLLI d a z) s w = omega arith
 effect-fits Q (Shift SRLI d a z) s w = omega arith
 effect-fits Q (Shift SRAI d a z) s w = omega arith

@@ -2,7 +2,7 @@
 use mathlib.Core.Path.{_≡_, refl, ap, _∙_, fun-ext}
 use mathlib.Core.Option.{Option, some, none}
 use Prim.Native.Nat.{ℕ}
-use Rattle.isa.specs.Instr.{Instr, R, F, C, M, R4, I, Shift, S, B, U, J, ADDI, XORI, ORI, ANDI, JALR, LD, FLD, ADD, SUB, SLL, XOR, SRL, SRA, OR, AND, FSGNJ-D, FSGNJN-D, FSGNJX-D, FMIN-D, FMAX-D, FLE-D, FLT-D, FEQ-D, FADD-D, FSUB-D, FMUL-D, FDIV-D, FSQRT-D, FCVT-W-D, FCVT-L-D, FCVT-D-W, FCVT-D-L, FMV-X-D, FMV-D-X, FMADD-D, FMSUB-D, FNMSUB-D, FNMADD-D, SLLI, SRLI, SRAI, SD, FSD, LUI, AUIPC, JAL}
+use Rattle.isa.specs.Instr.{Instr, R, F, C, M, R4, I, Shift, S, B, U, J, ADDI, XORI, ORI, ANDI, JALR, LD, FLD, ADDIW, ADD, SUB, SLL, XOR, SRL, SRA, OR, AND, FSGNJ-D, FSGNJN-D, FSGNJX-D, FMIN-D, FMAX-D, FLE-D, FLT-D, FEQ-D, FADD-D, FSUB-D, FMUL-D, FDIV-D, FSQRT-D, FCVT-W-D, FCVT-L-D, FCVT-D-W, FCVT-D-L, FMV-X-D, FMV-D-X, FMADD-D, FMSUB-D, FNMSUB-D, FNMADD-D, SLLI, SRLI, SRAI, SD, FSD, LUI, AUIPC, JAL}
 use Rattle.machine.specs.Floats.{Floats}
 use Rattle.machine.specs.State.{State}
 use Rattle.machine.specs.Effect.{Effect, write-x, write-f, store, jump, address, access, effect}
@@ -64,6 +64,7 @@ module _ (Q : Floats) where
   both (I JALR d a z) s m h = (refl, tt)
   both (I LD d a z) s m h = (ap (write-x d) (load8-local (s .mem) m (address s a z) h), tt)
   both (I FLD d a z) s m h = (ap (write-f d) (load8-local (s .mem) m (address s a z) h), tt)
+  both (I ADDIW d a z) s m h = (refl, tt)
   both (Shift SLLI d a z) s m h = (refl, tt)
   both (Shift SRLI d a z) s m h = (refl, tt)
   both (Shift SRAI d a z) s m h = (refl, tt)

@@ -9,7 +9,7 @@ use Rattle.isa.specs.Immediate.{twos}
 use Rattle.isa.specs.Instr.{Instr, R, F, C, M, R4, I, Shift, S, B, U, J, ADD, SUB, SLL, XOR, SRL, SRA, OR, AND, FSGNJ-D}
 use Rattle.isa.specs.Instr.{FSGNJN-D, FSGNJX-D, FMIN-D, FMAX-D, FLE-D, FLT-D, FEQ-D, FADD-D, FSUB-D, FMUL-D, FDIV-D, FSQRT-D}
 use Rattle.isa.specs.Instr.{FCVT-W-D, FCVT-L-D, FCVT-D-W, FCVT-D-L, FMV-X-D, FMV-D-X, FMADD-D, FMSUB-D, FNMSUB-D, FNMADD-D}
-use Rattle.isa.specs.Instr.{ADDI, XORI, ORI, ANDI, JALR, LD, FLD, SLLI, SRLI, SRAI, SD, FSD, BOp, BEQ, BNE, BLT, BGE, BLTU}
+use Rattle.isa.specs.Instr.{ADDI, XORI, ORI, ANDI, JALR, LD, FLD, ADDIW, SLLI, SRLI, SRAI, SD, FSD, BOp, BEQ, BNE, BLT, BGE, BLTU}
 use Rattle.isa.specs.Instr.{BGEU, LUI, AUIPC, JAL}
 use Rattle.machine.specs.Word.{w64, sext, upd, load8, store8}
 use Rattle.machine.specs.Floats.{Floats}
@@ -90,6 +90,7 @@ access (I XORI d a z) s = none
 access (I ORI d a z) s = none
 access (I ANDI d a z) s = none
 access (I JALR d a z) s = none
+access (I ADDIW d a z) s = none
 access (R k d a b) s = none
 access (F k d a b m) s = none
 access (C k d a m) s = none
@@ -144,6 +145,8 @@ module _ (Q : Floats) where
   effect (I JALR d a z) s = jump d (w64 (getx s a + twos 64 z) / 2 * 2)
   effect (I LD d a z) s = write-x d (load8 (s .mem) (address s a z))
   effect (I FLD d a z) s = write-f d (load8 (s .mem) (address s a z))
+  -- the low 32 bits of the sum, sign-extended
+  effect (I ADDIW d a z) s = write-x d (sext 32 (getx s a + twos 64 z))
   effect (Shift SLLI d a z) s = write-x d (w64 (getx s a * 2 ^ twos 6 z))
   effect (Shift SRLI d a z) s = write-x d (w64 (getx s a / 2 ^ twos 6 z))
   effect (Shift SRAI d a z) s = write-x d (shift-signed (getx s a) (twos 6 z))

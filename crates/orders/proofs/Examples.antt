@@ -17,17 +17,17 @@ use Rattle.accesses.specs.Code.{li-code, point-code, access-code}
 use Rattle.orders.specs.Code.{unary-code, scratched-code, binary-code, code}
 use Rattle.orders.specs.Fault.{fault}
 
--- registers to 31, users' labels to 1,023, cells to 268,435,199, constants to 1,007
-pub accepted : map fault (Unary Fmov 31 31 ∷ Scratched Sign 31 31 31 ∷ Binary Xor 31 31 31 ∷ Fused MulAdd 31 31 31 31 ∷ Ifelse 31 31 31 268435199 ∷ LoadConst 31 1007 ∷ Load 31 Mem 268435199 ∷ Save 31 Param 268435199 ∷ BranchIf 31 1023 true ∷ SetLabel 1023 ∷ []) ≡ 0 ∷ 0 ∷ 0 ∷ 0 ∷ 0 ∷ 0 ∷ 0 ∷ 0 ∷ 0 ∷ 0 ∷ []
+-- registers to 31, users' labels to 1,023, cells to 268,435,455, constants to 1,007
+pub accepted : map fault (Unary Fmov 31 31 ∷ Scratched Sign 31 31 31 ∷ Binary Xor 31 31 31 ∷ Fused MulAdd 31 31 31 31 ∷ Ifelse 31 31 31 268435455 ∷ LoadConst 31 1007 ∷ Load 31 Mem 268435455 ∷ Save 31 Param 268435455 ∷ BranchIf 31 1023 true ∷ SetLabel 1023 ∷ []) ≡ 0 ∷ 0 ∷ 0 ∷ 0 ∷ 0 ∷ 0 ∷ 0 ∷ 0 ∷ 0 ∷ 0 ∷ []
 unfolding fault
 accepted = refl
 
-pub refused : map fault (Unary Fmov 0 32 ∷ Scratched Sign 0 0 32 ∷ Binary Xor 0 0 32 ∷ Fused MulAdd 0 0 0 32 ∷ Ifelse 0 0 0 268435200 ∷ LoadConst 0 1008 ∷ Load 0 Stack 268435200 ∷ Save 0 Mem 268435200 ∷ BranchIf 0 1024 true ∷ SetLabel 1024 ∷ []) ≡ 1 ∷ 1 ∷ 1 ∷ 1 ∷ 2 ∷ 9 ∷ 2 ∷ 2 ∷ 3 ∷ 3 ∷ []
+pub refused : map fault (Unary Fmov 0 32 ∷ Scratched Sign 0 0 32 ∷ Binary Xor 0 0 32 ∷ Fused MulAdd 0 0 0 32 ∷ Ifelse 0 0 0 268435456 ∷ LoadConst 0 1008 ∷ Load 0 Stack 268435456 ∷ Save 0 Mem 268435456 ∷ BranchIf 0 1024 true ∷ SetLabel 1024 ∷ []) ≡ 1 ∷ 1 ∷ 1 ∷ 1 ∷ 2 ∷ 9 ∷ 2 ∷ 2 ∷ 3 ∷ 3 ∷ []
 unfolding fault
 refused = refl
 
 -- a register comes first
-pub registers-first : map fault (Ifelse 32 0 0 268435200 ∷ LoadConst 32 1008 ∷ Load 32 Mem 268435200 ∷ Save 32 Mem 268435200 ∷ BranchIf 32 1024 true ∷ []) ≡ 1 ∷ 1 ∷ 1 ∷ 1 ∷ 1 ∷ []
+pub registers-first : map fault (Ifelse 32 0 0 268435456 ∷ LoadConst 32 1008 ∷ Load 32 Mem 268435456 ∷ Save 32 Mem 268435456 ∷ BranchIf 32 1024 true ∷ []) ≡ 1 ∷ 1 ∷ 1 ∷ 1 ∷ 1 ∷ []
 unfolding fault
 registers-first = refl
 

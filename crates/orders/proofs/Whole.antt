@@ -53,12 +53,12 @@ use Rattle.orders.proofs.Laws.{code-valid, code-length}
 -- ---- refusals
 
 -- eight times an index
-pub cell-limit : (i : ℕ) → leb i 0xFFFFEFF ≡ leb (8 * i) offset-limit
-cell-limit i = by (leb i 0xFFFFEFF) refl
+pub cell-limit : (i : ℕ) → leb i 0xFFFFFFF ≡ leb (8 * i) offset-limit
+cell-limit i = by (leb i 0xFFFFFFF) refl
   where
-    by : (b : Bool) → leb i 0xFFFFEFF ≡ b → b ≡ leb (8 * i) offset-limit
-    by true e = let l : i ≤ 0xFFFFEFF = leb-true i 0xFFFFEFF e in sym (le-leb (8 * i) offset-limit (omega arith))
-    by false e = let l : 0xFFFFEFF < i = leb-false i 0xFFFFEFF e in sym (lt-leb (8 * i) offset-limit (omega arith))
+    by : (b : Bool) → leb i 0xFFFFFFF ≡ b → b ≡ leb (8 * i) offset-limit
+    by true e = let l : i ≤ 0xFFFFFFF = leb-true i 0xFFFFFFF e in sym (le-leb (8 * i) offset-limit (omega arith))
+    by false e = let l : 0xFFFFFFF < i = leb-false i 0xFFFFFFF e in sym (lt-leb (8 * i) offset-limit (omega arith))
 
 -- by the view that the code has
 pub fault-right : (o : Order) (u : View) {t : Bool} {f : ℕ} → t ≡ registers-fit (uses o .registers) → t ≡ true → u ≡ padded (uses o) → f ≡ operand-fault (u .operand) → f ≡ fault o

@@ -11,7 +11,7 @@ use lib.IntN.{pos}
 use lib.ListN.{length, length-append, length-map, length-drop, take, drop}
 use lib.Seq.{length-take-le, drop-length, drop-drop}
 use Rattle.isa.specs.Immediate.{hi, lo}
-use Rattle.isa.specs.Instr.{Instr, R, I, U, ADD, ADDI, LUI, operands, registers-hold, valid}
+use Rattle.isa.specs.Instr.{Instr, R, I, U, ADD, LUI, operands, registers-hold, valid}
 use Rattle.isa.specs.Encode.{encode}
 use Rattle.machine.proofs.Placed.{Valids}
 use Rattle.encoder.specs.Answer.{word-answer, encoded}
@@ -21,7 +21,7 @@ use Rattle.refusal.specs.declared.Refusal.the-variants.{Register, Value}
 use Rattle.encoder.proofs.Answers.{good, bad-value, bad-register}
 use Rattle.assembler.specs.Bytes.{bytes, written, room}
 use Rattle.assembler.proofs.Writes.{written-is, written-none, written-then}
-use Rattle.accesses.specs.Code.{point-code, access-code}
+use Rattle.accesses.specs.Code.{low-op, point-code, access-code}
 use Rattle.accesses.specs.Plans.{answer-of, word-of, access-instr}
 use Rattle.accesses.specs.Inner.Plans.{one-code}
 use Rattle.accesses.specs.declared.Cell.{Cell}
@@ -132,7 +132,7 @@ module _ (k : Cell) (r base n : ℕ) where
   unfolding access-code point-code
   far-is l m =
       rw (le-ltb n 2048 l)
-      (sym (ap (λ (x : ℕ). U LUI 5 (pos (hi x)) ∷ I ADDI 5 5 (lo x) ∷ R ADD 5 5 base ∷ access-instr k r 5 (pos 0) ∷ []) (sym (mod-eq-of-lt m))
+      (sym (ap (λ (x : ℕ). U LUI 5 (pos (hi x)) ∷ I (low-op (pos n)) 5 5 (lo x) ∷ R ADD 5 5 base ∷ access-instr k r 5 (pos 0) ∷ []) (sym (mod-eq-of-lt m))
       ∙ ap (λ (is : List Instr). (is ++ (R ADD 5 5 base ∷ [])) ++ (access-instr k r 5 (pos 0) ∷ [])) (li-far 5 (pos n) l)))
 
 -- ---- an order's words are its instructions'

@@ -1,4 +1,4 @@
--- What the orders refuse (document 01, "Numbers of refusal"): the number, or 0.
+-- What the orders refuse (document 01, "Numbers of refusal"; document 02, point 6): the number, or 0.
 use mathlib.Core.Bool.{cond}
 use Prim.Native.Nat.{ℕ, _-_, _*_}
 use lib.Dec.{leb}

@@ -49,8 +49,8 @@ enum Rest {
 
 // ---- refusals
 
-// The last index of a cell: 8 times the next is above 0x7FFFF7FF.
-const LAST_CELL: u32 = 0xFFFFEFF;
+// The last index of a cell: 8 times the next is above 0x7FFFFFFF.
+const LAST_CELL: u32 = 0xFFFFFFF;
 
 const LAST_CONSTANT: u32 = 1007;
 
@@ -76,7 +76,7 @@ fn operand_fault(x: Operand) -> Fault
     }
 }
 
-// What document 01 refuses of an order's operands.
+// What is refused of an order's operands.
 pub fn fault(o: Order) -> Fault
     ensures { λ r. ⌜ fault-number r ≡ fault-of o ⌝ }
 {

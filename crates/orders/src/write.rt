@@ -257,7 +257,7 @@ fn put_far(last: Encoded, base: u32, n: u32, buf: &mut [u8], len: usize) -> usiz
         buf,
         len,
         encoder::lui(T0, encoder::hi(n)),
-        encoder::addi(T0, T0, encoder::lo(n)),
+        accesses::low_word(T0, n),
         encoder::add(T0, T0, base),
         last,
     )

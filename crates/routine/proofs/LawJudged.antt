@@ -20,6 +20,7 @@ use Rattle.form.specs.Text.{DeckLine}
 use Rattle.form.specs.Text as Text
 use Rattle.deck.specs.Judge.{Content, demand, operand-judged, judged, is-head, line-judged}
 use Rattle.deck.specs.Judge as Deck
+use Rattle.accesses.specs.Fault.{offset-limit}
 use Rattle.orders.specs.Fault.{operand-fault, fault}
 
 -- what an answer says of its content
@@ -35,8 +36,8 @@ demanded false r a f = tt
 
 -- ---- operands
 
-index-low : (i : ℕ) → ltb i 4096 ≡ true → leb (8 * i) 0x7FFFF7FF ≡ true
-index-low i e = le-leb (8 * i) 0x7FFFF7FF (omega (arith, ltb-true i 4096 e))
+index-low : (i : ℕ) → ltb i 4096 ≡ true → leb (8 * i) offset-limit ≡ true
+index-low i e = le-leb (8 * i) offset-limit (omega (arith, ltb-true i 4096 e))
 
 constant-low : (k : ℕ) → ltb k 1008 ≡ true → leb k 1007 ≡ true
 constant-low k e = le-leb k 1007 (omega (arith, ltb-true k 1008 e))

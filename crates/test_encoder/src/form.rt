@@ -1,4 +1,4 @@
-// The forms of `rvv!` by their number in the list, in the Rust's order.
+// The forms of `rvv!` by their number in the list, in the Rust's order; behind them `addiw`, which document 02 adds.
 use encoder::Encoded;
 use refusal::Refusal;
 
@@ -54,6 +54,7 @@ fn immediate(form: u32, a: u32, b: u32, c: u32) -> Encoded {
         0x12 => encoder::srai(a, b, z),
         0x13 => encoder::ld(a, b, z),
         0x14 => encoder::sd(a, b, z),
+        0x43 => encoder::addiw(a, b, z),
         _ => unknown(),
     }
 }
@@ -167,6 +168,7 @@ fn whole_number(form: u32, name: &[u8]) -> bool {
             form,
             name,
         ),
+        0x43 => named(b"addiw     ", 0x43, form, name),
         _ => false,
     }
 }
@@ -203,7 +205,7 @@ pub(crate) fn encoded(form: u32, name: &[u8], a: u32, b: u32, c: u32, d: u32) ->
     }
     match form {
         0x00..=0x09 => arithmetic(form, a, b, c),
-        0x0a..=0x14 => immediate(form, a, b, c),
+        0x0a..=0x14 | 0x43 => immediate(form, a, b, c),
         0x15..=0x1c => branch(form, a, b, c),
         0x1d..=0x23 => jump(form, a, b, c),
         0x24..=0x2e => float(form, a, b, c, d),

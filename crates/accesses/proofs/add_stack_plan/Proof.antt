@@ -22,7 +22,7 @@ unfolding add-stack-code
 returns-2 c =
     let n = c .before .before .before .before .args .n in
     c .push .ensures
-    ∙ ap (λ p. pushed p (c .before .add .result)) (c .before .before .li-offset .ensures)
+    ∙ ap (λ p. pushed p (c .before .add .result)) (c .before .before .li-unsigned .ensures)
     ∙ size-through n (I ADDI 2 2 (pos n)) (pos n) (R ADD 2 2 5) _ (c .before .before .before .if1 .left) (c .before .add .ensures)
 
 pub add-stack-plan-spec : {M : Type 1} → statement M

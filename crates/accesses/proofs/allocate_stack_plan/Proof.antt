@@ -22,7 +22,7 @@ returns-2 c =
     let n = b .before .before .before .args .n in
     c .push2 .ensures
     ∙ then-base n _ (c .before .before .push .ensures
-    ∙ ap (λ p. pushed p (b .sub .result)) (b .before .li-offset .ensures)
+    ∙ ap (λ p. pushed p (b .sub .result)) (b .before .li-unsigned .ensures)
     ∙ size-through n (I ADDI 2 2 (negℤ (pos n))) (pos n) (R SUB 2 2 5) _ (b .before .before .if1 .left) (b .sub .ensures)) (c .before .mv2 .ensures)
 
 pub allocate-stack-plan-spec : {M : Type 1} → statement M

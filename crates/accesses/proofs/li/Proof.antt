@@ -1,7 +1,6 @@
 use borrow.Author.Needs.{needs}
 use lib.IntN.{ℤ}
 use Rattle.encoder.proofs.Signs.{handed}
-use Rattle.accesses.specs.Fault.{li-fault}
 use Rattle.accesses.specs.Plans.{plan-of}
 use Rattle.accesses.proofs.Placed.{settled-as}
 use native.Mathlib.Omega.{arith}
@@ -17,10 +16,10 @@ returns c =
     let a = b .before .before .before .args in
     let h = b .before .before .before .fits .z in
     settled-as _ _ _ _ (c .before .before .settle .ensures) (li-code (a .d) (a .z)) _
-    (handed (λ (z : ℤ). li-fault (a .d) z) (a .z) h (b .before .li-refusal .ensures))
+    (b .before .li-refusal .ensures)
     (λ e. (
       handed (λ (z : ℤ). plan-of (li-code (a .d) z)) (a .z) h (b .li-plan .ensures),
-      li-valid (a .d) (a .z) (li-accepted (a .d) (a .z) e .0),
+      li-valid (a .d) (a .z) (li-accepted (a .d) e),
       omega (arith, li-length (a .d) (a .z)),
     ))
 

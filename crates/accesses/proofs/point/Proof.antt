@@ -9,8 +9,8 @@ use Rattle.accesses.proofs.Collect.{pushed-last}
 use Rattle.accesses.proofs.point.Statement.{statement}
 use Rattle.accesses.proofs.point.Tie as tie
 
-li-offset-requires : tie.Need-li-offset-requires
-li-offset-requires c κs = search needs
+li-unsigned-requires : tie.Need-li-unsigned-requires
+li-unsigned-requires c κs = search needs
 
 add-requires : tie.Need-add-requires
 add-requires c κs = search needs
@@ -23,8 +23,8 @@ unfolding point-code
 returns c =
     let a = c .before .before .before .args in
     c .push .ensures
-    ∙ ap (λ p. pushed p (c .before .add .result)) (c .before .before .li-offset .ensures)
+    ∙ ap (λ p. pushed p (c .before .add .result)) (c .before .before .li-unsigned .ensures)
     ∙ pushed-last (li-code 5 (pos (a .n))) (R ADD 5 5 (a .base)) (answered _ _ (c .before .add .ensures))
 
 pub point-spec : {M : Type 1} → statement M
-point-spec = tie.close (tie.spec li-offset-requires add-requires push-requires returns)
+point-spec = tie.close (tie.spec li-unsigned-requires add-requires push-requires returns)

@@ -7,11 +7,12 @@ use lib.IntN.{pos}
 use lib.ListN.{length}
 use Rattle.isa.specs.Register.{t0, t1}
 use Rattle.isa.specs.Immediate.{hi, lo}
-use Rattle.isa.specs.Instr.{Instr, R, M, I, U, ADD, FMV-X-D, FMV-D-X, ADDI, LUI}
+use Rattle.isa.specs.Instr.{Instr, R, M, I, U, ADD, FMV-X-D, FMV-D-X, LUI}
 use Rattle.encoder.specs.Answer.{word-answer, encoded}
 use Rattle.encoder.specs.declared.Encoded.{Encoded}
 use Rattle.assembler.specs.Bytes.{written}
 use Rattle.assembler.specs.State.{Lent}
+use Rattle.accesses.specs.Code.{low-op}
 use Rattle.orders.specs.Wrote.{word}
 
 -- the words written from a buffer and a length on, and those behind them
@@ -35,4 +36,4 @@ bits-code op d a b = M FMV-X-D t0 a ∷ M FMV-X-D t1 b ∷ op ∷ M FMV-D-X d t0
 
 -- the instruction `last` through t0, which is made of base and n
 abbrev pub far-code : (last : Instr) → (base n : ℕ) → List Instr
-far-code last base n = U LUI t0 (pos (hi n)) ∷ I ADDI t0 t0 (lo n) ∷ R ADD t0 t0 base ∷ last ∷ []
+far-code last base n = U LUI t0 (pos (hi n)) ∷ I (low-op (pos n)) t0 t0 (lo n) ∷ R ADD t0 t0 base ∷ last ∷ []
