@@ -80,7 +80,8 @@ int main(int argc, char **argv) {
     fclose(in);
     by_hand((const char *const[]){"label,0\n", "minus,10,10,11\n", "minus,10,10,32\n", "float,3\n", "branch,10,0,0\n"}, 5, NULL, 0);
     by_hand((const char *const[]){"fmov,10,11\n", "branch,10,7,1\n"}, 2, NULL, 0);
-    by_hand((const char *const[]){"load_const,10,1\n", "times,10,10,11\n", "get,12,mem,4096\n", "get,12,mem,268435456\n"}, 4,
+    by_hand((const char *const[]){"load_const,10,1\n", "times,10,10,11\n", "get,12,mem,4096\n", "get,13,mem,268435455\n",
+                                  "get,12,mem,268435456\n"}, 5,
             (const char *const[]){"float,3\n", "bits,3fb999999999999a\n", "float,9007199254740993\n", "fmov,0,0\n"}, 4);
     return 0;
 }

@@ -201,7 +201,7 @@ fn main() {
     by_hand(&["label,0\n", "minus,10,10,11\n", "minus,10,10,32\n", "float,3\n", "branch,10,0,0\n"], &[]);
     by_hand(&["fmov,10,11\n", "branch,10,7,1\n"], &[]);
     by_hand(
-        &["load_const,10,1\n", "times,10,10,11\n", "get,12,mem,4096\n", "get,12,mem,268435456\n"],
+        &["load_const,10,1\n", "times,10,10,11\n", "get,12,mem,4096\n", "get,13,mem,268435455\n", "get,12,mem,268435456\n"],
         &["float,3\n", "bits,3fb999999999999a\n", "float,9007199254740993\n", "fmov,0,0\n"],
     );
 }

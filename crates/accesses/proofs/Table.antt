@@ -1,4 +1,4 @@
--- Document 01's "Proved table", entries a to j: they compute.
+-- Document 01's "Proved table", entries a to j, e as document 02, point 6, has it: they compute.
 use mathlib.Core.Path.{refl}
 use Rattle.isa.specs.Encode.{encode, join, fields}
 use Rattle.accesses.specs.Code.{li-code, point-code, access-code, sub-stack-code}

@@ -21,7 +21,7 @@ use Rattle.machine.proofs.Effects.{setx-same, setx-other}
 use Rattle.base.proofs.Bools.{and-l, and-r}
 use Rattle.machine.proofs.Straight.{execs-append, fit-join}
 use Rattle.machine.proofs.Stores.{Same, Landing, landing-same}
-use Rattle.accesses.specs.Code.{sub-stack-code, allocate-stack-code}
+use Rattle.accesses.specs.Code.{top, sub-stack-code, allocate-stack-code}
 use Rattle.ast.specs.declared.Frame.{Frame}
 use Rattle.ast.specs.declared.Frame.the-variants.{Fast, Indirect}
 use Rattle.reading.specs.Size.{save-size}
@@ -88,7 +88,7 @@ in-two d r h = (by (eqb r 2) (eqb r 5) (eqb r d) h, λ e. other (eqb r 2) (eqb r
     other false true c e h = h
     other false false c e h = rw e at h
 
-module _ (Q : Floats) (P : ℕ → Type 0) (d p n : ℕ) (low : d < 32) (not-zero : d ≢ 0) (not-sp : d ≢ 2) (h : n ≤ 0x7FFFF7FF) where
+module _ (Q : Floats) (P : ℕ → Type 0) (d p n : ℕ) (low : d < 32) (not-zero : d ≢ 0) (not-sp : d ≢ 2) (h : n < top) where
   -- a copy of sp in d
   copied : (is : List Instr) (u : State) → u .x 2 ≡ w64 (p + n) → p < 2 ^ 64 → Quiet Q stack-regs is u × ((execs Q is u) .x 2 ≡ w64 (u .x 2 + (2 ^ 64 - n))) → Lowered Q P (is ++ (mv d 2 ∷ [])) d p u (exec Q (mv d 2) (execs Q is u))
   unfolding effect apply
@@ -106,7 +106,7 @@ module _ (Q : Floats) (P : ℕ → Type 0) (d p n : ℕ) (low : d < 32) (not-zer
   pub down-to : (u : State) → u .x 2 ≡ w64 (p + n) → p < 2 ^ 64 → (v : State) × Lowered Q P (sub-stack-code n ++ (mv d 2 ∷ [])) d p u v
   down-to u e l = (exec Q (mv d 2) (execs Q (sub-stack-code n) u), copied (sub-stack-code n) u e l (sub-stack Q n h u))
 
-module _ (Q : Floats) (P : ℕ → Type 0) (p n : ℕ) (h : n ≤ 0x7FFFF7FF) where
+module _ (Q : Floats) (P : ℕ → Type 0) (p n : ℕ) (h : n < top) where
   pub allocate-to : (u : State) → u .x 2 ≡ w64 (p + n) → p < 2 ^ 64 → (v : State) × Lowered Q P (allocate-stack-code n) 21 p u v
   unfolding allocate-stack-code
   allocate-to u e l = (_, copied Q P 21 p n (omega arith) (λ z. omega arith) (λ z. omega arith) h _ u e l (lower Q n h u))

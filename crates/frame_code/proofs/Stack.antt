@@ -20,7 +20,7 @@ use Rattle.machine.proofs.Exec.{execs, Fit}
 use Rattle.machine.proofs.Effects.{setx-same, getx-same, twos-small}
 use Rattle.machine.proofs.Straight.{execs-append, fit-join, execs-x}
 use Rattle.machine.proofs.Stores.{Landing}
-use Rattle.accesses.specs.Code.{li-code, sub-stack-code}
+use Rattle.accesses.specs.Code.{top, li-code, sub-stack-code}
 use Rattle.accesses.proofs.Parts.{Plain, plain-op, parts}
 use Rattle.frame_code.proofs.Land.{Nowhere, landing-join}
 
@@ -126,7 +126,7 @@ stack-in r = by (eqb r 2) (eqb r 5) (eqb r 21)
     by false true c h = h
     by false false c h = tt
 
-module _ (Q : Floats) (n : ℕ) (h : n ≤ 0x7FFFF7FF) (u : State) where
+module _ (Q : Floats) (n : ℕ) (h : n < top) (u : State) where
   abbrev lowered : ℕ
   lowered = w64 (u .x 2 + (2 ^ 64 - n))
 
