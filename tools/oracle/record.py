@@ -1,13 +1,14 @@
 #!/usr/bin/env python3
-"""Records the Rust's answers, and GNU as's where the Rust isn't asked: the list that the program `test_functions` reads, and what the program must print.
+"""Records the Rust's answers, and GNU as's where the Rust isn't asked: the list that the program `test_functions` reads, and what the
+program must print.
 
     record.py RUSTDIR [--out crates/test_functions] [--check] [--differences]
 
 RUSTDIR has the Rust's files as they are (riscv64/mod.rs, riscv64/macros.rs, assembler.rs, utils.rs, config.rs, symbol.rs, code.rs). They
 are compiled unchanged with rustc (the list was made with 1.95.0) behind the driver in this folder, twice: with overflow checks and
 optimized. Cases come from cases.py, with a fixed seed; both programs must give the same answer to each. What is refused comes from
-refusals.py, with the numbers of documents 01 and 02. The Rust's `sign` is not asked for, since document 01's words differ: the driver has those. Nor is
-the family `top`, document 02's point 6, whose words are GNU as's (top.py).
+refusals.py, with the numbers of documents 01 and 02. The Rust's `sign` is not asked for, since document 01's words differ: the driver has
+those. Nor is the family `top`, document 02's point 6, whose words are GNU as's (top.py).
 
 A row of the list has a kind (two hexadecimal digits) and four numbers (eight each; negative ones in two's complement):
     00  a name of 16 bytes     the family of what follows, by its name in cases.FAMILIES, or `refusals`

@@ -18,7 +18,7 @@ abbrev pub top : ℕ
 top = 0x7FFFF800
 
 -- What li's second word does: from there on `addiw`, which cuts the sum to 32 bits and extends its sign.
--- Nothing is placed for numbers above 0x7FFFFFFF: they are no 32-bit signed values.
+-- (Above 0x7FFFFFFF, the last 32-bit signed value, offsets and sizes are refused.)
 abbrev pub low-op : ℤ → IOp
 low-op (pos n) = cond (ltb n top) ADDI ADDIW
 low-op (negsuc n) = ADDI
