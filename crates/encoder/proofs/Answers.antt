@@ -128,60 +128,72 @@ module _ {K : Type 0} (f : K → Instr) (k : K) where
       → getD (before ++ (map f l ++ after)) (length before + n) (R ADD 0 0 0) ≡ f (getD l n k)
   row-in before l after n h = getD-append-add before (map f l ++ after) n (R ADD 0 0 0) ∙ mapped l after n h (R ADD 0 0 0)
 
+module _ (op : ℕ) where
+  pub row-R : op < 16 → row-of op ≡ R (getD r-ops op ADD) 0 0 0
+  row-R h = mapped (λ k. R k 0 0 0) ADD r-ops (drop 16 rows) op h (R ADD 0 0 0)
+
+  pub row-F : op < 4 → row-of (16 + op) ≡ F (getD f-ops op FADD-D) 0 0 0 0
+  row-F h = row-in (λ k. F k 0 0 0 0) FADD-D (take 16 rows) f-ops (drop 20 rows) op h
+
+  pub row-C : op < 5 → row-of (20 + op) ≡ C (getD c-ops op FSQRT-D) 0 0 0
+  row-C h = row-in (λ k. C k 0 0 0) FSQRT-D (take 20 rows) c-ops (drop 25 rows) op h
+
+  pub row-M : op < 2 → row-of (25 + op) ≡ M (getD m-ops op FMV-X-D) 0 0
+  row-M h = row-in (λ k. M k 0 0) FMV-X-D (take 25 rows) m-ops (drop 27 rows) op h
+
+  pub row-R4 : op < 4 → row-of (27 + op) ≡ R4 (getD r4-ops op FMADD-D) 0 0 0 0 0
+  row-R4 h = row-in (λ k. R4 k 0 0 0 0 0) FMADD-D (take 27 rows) r4-ops (drop 31 rows) op h
+
+  pub row-I : op < 8 → row-of (31 + op) ≡ I (getD i-ops op ADDI) 0 0 (pos 0)
+  row-I h = row-in (λ k. I k 0 0 (pos 0)) ADDI (take 31 rows) i-ops (drop 39 rows) op h
+
+  pub row-Shift : op < 3 → row-of (39 + op) ≡ Shift (getD shift-ops op SLLI) 0 0 (pos 0)
+  row-Shift h = row-in (λ k. Shift k 0 0 (pos 0)) SLLI (take 39 rows) shift-ops (drop 42 rows) op h
+
+  pub row-S : op < 2 → row-of (42 + op) ≡ S (getD s-ops op SD) 0 0 (pos 0)
+  row-S h = row-in (λ k. S k 0 0 (pos 0)) SD (take 42 rows) s-ops (drop 44 rows) op h
+
+  pub row-B : op < 6 → row-of (44 + op) ≡ B (getD b-ops op BEQ) 0 0 (pos 0)
+  row-B h = row-in (λ k. B k 0 0 (pos 0)) BEQ (take 44 rows) b-ops (drop 50 rows) op h
+
+  pub row-U : op < 2 → row-of (50 + op) ≡ U (getD u-ops op LUI) 0 (pos 0)
+  row-U h = row-in (λ k. U k 0 (pos 0)) LUI (take 50 rows) u-ops (drop 52 rows) op h
+
+  pub row-J : op < 1 → row-of (52 + op) ≡ J (getD j-ops op JAL) 0 (pos 0)
+  row-J h = row-in (λ k. J k 0 (pos 0)) JAL (take 52 rows) j-ops (drop 53 rows) op h
+
 -- ---- words: a base word and the operands in their fields
 
 module _ (b op : ℕ) where
   pub word-R : op < 16 → b ≡ encode (row-of op) → (d a c : ℕ) → packed b d 0 a c 0 ≡ encode (R (getD r-ops op ADD) d a c)
-  word-R h q d a c =
-      let r : row-of op ≡ R (getD r-ops op ADD) 0 0 0 = mapped (λ k. R k 0 0 0) ADD r-ops (drop 16 rows) op h (R ADD 0 0 0) in
-      omega (arith, encode-R (getD r-ops op ADD) d a c, q ∙ ap encode r)
+  word-R h q d a c = omega (arith, encode-R (getD r-ops op ADD) d a c, q ∙ ap encode (row-R op h))
 
   pub word-F : op < 4 → b ≡ encode (row-of (16 + op)) → (d a c m : ℕ) → packed b d m a c 0 ≡ encode (F (getD f-ops op FADD-D) d a c m)
-  word-F h q d a c m =
-      let r : row-of (16 + op) ≡ F (getD f-ops op FADD-D) 0 0 0 0 = row-in (λ k. F k 0 0 0 0) FADD-D (take 16 rows) f-ops (drop 20 rows) op h in
-      omega (arith, encode-F (getD f-ops op FADD-D) d a c m, q ∙ ap encode r)
+  word-F h q d a c m = omega (arith, encode-F (getD f-ops op FADD-D) d a c m, q ∙ ap encode (row-F op h))
 
   pub word-C : op < 5 → b ≡ encode (row-of (20 + op)) → (d a m : ℕ) → packed b d m a 0 0 ≡ encode (C (getD c-ops op FSQRT-D) d a m)
-  word-C h q d a m =
-      let r : row-of (20 + op) ≡ C (getD c-ops op FSQRT-D) 0 0 0 = row-in (λ k. C k 0 0 0) FSQRT-D (take 20 rows) c-ops (drop 25 rows) op h in
-      omega (arith, encode-C (getD c-ops op FSQRT-D) d a m, q ∙ ap encode r)
+  word-C h q d a m = omega (arith, encode-C (getD c-ops op FSQRT-D) d a m, q ∙ ap encode (row-C op h))
 
   pub word-M : op < 2 → b ≡ encode (row-of (25 + op)) → (d a : ℕ) → packed b d 0 a 0 0 ≡ encode (M (getD m-ops op FMV-X-D) d a)
-  word-M h q d a =
-      let r : row-of (25 + op) ≡ M (getD m-ops op FMV-X-D) 0 0 = row-in (λ k. M k 0 0) FMV-X-D (take 25 rows) m-ops (drop 27 rows) op h in
-      omega (arith, encode-M (getD m-ops op FMV-X-D) d a, q ∙ ap encode r)
+  word-M h q d a = omega (arith, encode-M (getD m-ops op FMV-X-D) d a, q ∙ ap encode (row-M op h))
 
   pub word-R4 : op < 4 → b ≡ encode (row-of (27 + op)) → (d a c e : ℕ) → packed b d 7 a c (e * 4) ≡ encode (R4 (getD r4-ops op FMADD-D) d a c e 7)
-  word-R4 h q d a c e =
-      let r : row-of (27 + op) ≡ R4 (getD r4-ops op FMADD-D) 0 0 0 0 0 = row-in (λ k. R4 k 0 0 0 0 0) FMADD-D (take 27 rows) r4-ops (drop 31 rows) op h in
-      omega (arith, encode-R4 (getD r4-ops op FMADD-D) d a c e 7, q ∙ ap encode r)
+  word-R4 h q d a c e = omega (arith, encode-R4 (getD r4-ops op FMADD-D) d a c e 7, q ∙ ap encode (row-R4 op h))
 
   pub word-I : op < 8 → b ≡ encode (row-of (31 + op)) → (d a n : ℕ) (z : ℤ) → n ≡ twos 12 z → packed b d 0 a (n % 32) (n / 32) ≡ encode (I (getD i-ops op ADDI) d a z)
-  word-I h q d a n z p =
-      let r : row-of (31 + op) ≡ I (getD i-ops op ADDI) 0 0 (pos 0) = row-in (λ k. I k 0 0 (pos 0)) ADDI (take 31 rows) i-ops (drop 39 rows) op h in
-      rw p (omega (arith, encode-I (getD i-ops op ADDI) d a z, q ∙ ap encode r))
+  word-I h q d a n z p = rw p (omega (arith, encode-I (getD i-ops op ADDI) d a z, q ∙ ap encode (row-I op h)))
 
   pub word-Shift : op < 3 → b ≡ encode (row-of (39 + op)) → (d a n : ℕ) (z : ℤ) → n ≡ twos 6 z → packed b d 0 a (n % 32) (n / 32) ≡ encode (Shift (getD shift-ops op SLLI) d a z)
-  word-Shift h q d a n z p =
-      let r : row-of (39 + op) ≡ Shift (getD shift-ops op SLLI) 0 0 (pos 0) = row-in (λ k. Shift k 0 0 (pos 0)) SLLI (take 39 rows) shift-ops (drop 42 rows) op h in
-      rw p (omega (arith, encode-Shift (getD shift-ops op SLLI) d a z, q ∙ ap encode r))
+  word-Shift h q d a n z p = rw p (omega (arith, encode-Shift (getD shift-ops op SLLI) d a z, q ∙ ap encode (row-Shift op h)))
 
   pub word-S : op < 2 → b ≡ encode (row-of (42 + op)) → (a c n : ℕ) (z : ℤ) → n ≡ twos 12 z → packed b (n % 32) 0 a c (n / 32) ≡ encode (S (getD s-ops op SD) a c z)
-  word-S h q a c n z p =
-      let r : row-of (42 + op) ≡ S (getD s-ops op SD) 0 0 (pos 0) = row-in (λ k. S k 0 0 (pos 0)) SD (take 42 rows) s-ops (drop 44 rows) op h in
-      rw p (omega (arith, encode-S (getD s-ops op SD) a c z, q ∙ ap encode r))
+  word-S h q a c n z p = rw p (omega (arith, encode-S (getD s-ops op SD) a c z, q ∙ ap encode (row-S op h)))
 
   pub word-B : op < 6 → b ≡ encode (row-of (44 + op)) → (a c n : ℕ) (z : ℤ) → n ≡ twos 13 z → packed b (n / 2 % 16 * 2 + n / 2048 % 2) 0 a c (n / 4096 * 64 + n / 32 % 64) ≡ encode (B (getD b-ops op BEQ) a c z)
-  word-B h q a c n z p =
-      let r : row-of (44 + op) ≡ B (getD b-ops op BEQ) 0 0 (pos 0) = row-in (λ k. B k 0 0 (pos 0)) BEQ (take 44 rows) b-ops (drop 50 rows) op h in
-      rw p (omega (arith, encode-B (getD b-ops op BEQ) a c z, q ∙ ap encode r))
+  word-B h q a c n z p = rw p (omega (arith, encode-B (getD b-ops op BEQ) a c z, q ∙ ap encode (row-B op h)))
 
   pub word-U : op < 2 → b ≡ encode (row-of (50 + op)) → (d n : ℕ) (z : ℤ) → n ≡ twos 20 z → packed b d (n % 8) (n / 8 % 32) (n / 256 % 32) (n / 8192) ≡ encode (U (getD u-ops op LUI) d z)
-  word-U h q d n z p =
-      let r : row-of (50 + op) ≡ U (getD u-ops op LUI) 0 (pos 0) = row-in (λ k. U k 0 (pos 0)) LUI (take 50 rows) u-ops (drop 52 rows) op h in
-      rw p (omega (arith, encode-U (getD u-ops op LUI) d z, q ∙ ap encode r))
+  word-U h q d n z p = rw p (omega (arith, encode-U (getD u-ops op LUI) d z, q ∙ ap encode (row-U op h)))
 
   pub word-J : op < 1 → b ≡ encode (row-of (52 + op)) → (d n : ℕ) (z : ℤ) → n ≡ twos 21 z → packed b d (n / 4096 % 8) (n / 32768 % 32) (n / 2 % 16 * 2 + n / 2048 % 2) (n / 1048576 * 64 + n / 32 % 64) ≡ encode (J (getD j-ops op JAL) d z)
-  word-J h q d n z p =
-      let r : row-of (52 + op) ≡ J (getD j-ops op JAL) 0 (pos 0) = row-in (λ k. J k 0 (pos 0)) JAL (take 52 rows) j-ops (drop 53 rows) op h in
-      rw p (omega (arith, encode-J (getD j-ops op JAL) d z, q ∙ ap encode r))
+  word-J h q d n z p = rw p (omega (arith, encode-J (getD j-ops op JAL) d z, q ∙ ap encode (row-J op h)))

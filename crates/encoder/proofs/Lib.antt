@@ -3,3 +3,4 @@ pub mod Signs
 pub mod ReadBack
 pub mod Fields
 pub mod Answers
+pub mod Values

@@ -2,7 +2,8 @@
 -- `toZ w (ofZ w z)`, which is z where z fits. Assumes nothing.
 use mathlib.Core.Path.{_≡_, refl, sym, ap, subst, _∙_}
 use mathlib.Core.Bool.{Bool, true, false, cond}
-use Prim.Native.Nat.{ℕ, suc, _-_, zero-le, suc-le-suc}
+use Prim.Native.Nat.{ℕ, zero, suc, _-_, _^_, _<_, zero-le, suc-le-suc}
+use native.Mathlib.Nat.{zero-add}
 use native.Mathlib.Omega.{arith}
 use borrow.Author.Tests.{le-ltb, le-leb}
 use lib.Dec.{T, ltb}
@@ -10,7 +11,7 @@ use lib.IntN.{ℤ, pos, negsuc, natAbs, _-ℤ_}
 use lib.Signed.{leZ, nonNeg}
 use mir.Syntax.{Width, w32}
 use mir.Val.{Fits, SFits, ofZ, toZ}
-use mir.ValLaws.{toZ-ofZ, half-full}
+use mir.ValLaws.{toZ-ofZ, toZ-pos, half-full}
 use Rattle.encoder.specs.Sign.{sign-of}
 use Rattle.encoder.specs.declared.Sign.the-variants.{NonNeg, Neg}
 
@@ -76,6 +77,18 @@ module _ (w : Width) (z : ℤ) (h : SFits w z) where
       subst (λ (y : ℤ). Neg (natAbs y) ≡ sign-of z) (sym (toZ-ofZ w (negsuc 0 -ℤ toZ w (ofZ w z)) (minus-fits-of e)))
       (back (λ (y : ℤ). Neg (natAbs (negsuc 0 -ℤ y)) ≡ sign-of z)
       (is-neg z (there (λ (y : ℤ). leZ (pos 0) y ≡ false) e)))
+
+-- -1 - k of a small k in a local
+minus-pos : (k : ℕ) → negsuc 0 -ℤ pos k ≡ negsuc k
+minus-pos zero = refl
+minus-pos (suc k) = ap (λ (n : ℕ). negsuc (suc n)) (zero-add k)
+
+module _ (k : ℕ) (h : k < 2 ^ 31) where
+  pub below-zero : negsuc 0 -ℤ toZ w32 k ≡ negsuc k
+  below-zero = ap (λ (z : ℤ). negsuc 0 -ℤ z) (toZ-pos w32 k h) ∙ minus-pos k
+
+  pub below-zero-fits : SFits w32 (negsuc 0 -ℤ toZ w32 k)
+  below-zero-fits = subst (SFits w32) (sym below-zero) (record { sfits = h })
 
 -- what a callee promises of a number that is handed on to it
 pub handed : {A : Type 0} (g : ℤ → A) (z : ℤ) → SFits w32 z → {r : A} → r ≡ g (toZ w32 (ofZ w32 z)) → r ≡ g z

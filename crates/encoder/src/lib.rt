@@ -17,6 +17,11 @@ ghost use Rattle.isa.specs.Encode.{encode};
 ghost use Rattle.isa.specs.Decode.{r-ops, f-ops, c-ops, m-ops, r4-ops, i-ops, shift-ops, s-ops, b-ops, u-ops, j-ops};
 use refusal::Refusal;
 
+mod value;
+
+pub use value::encode;
+pub use value::row;
+
 // Registers by their names in the calling convention.
 pub const ZERO: u32 = 0;
 
@@ -57,6 +62,32 @@ pub const FA0: u32 = 10;
 pub enum Encoded {
     Word(u32),
     Refused(Refusal, u32),
+}
+
+// A base instruction, by the shape of its operands: the operation's number there, and the operands in the order of the Manual's fields.
+pub enum Instr {
+    // rd, rs1, rs2
+    R(usize, u32, u32, u32),
+    // rd, rs1, rs2, rounding
+    F(usize, u32, u32, u32, u32),
+    // rd, rs1, rounding
+    C(usize, u32, u32, u32),
+    // rd, rs1
+    M(usize, u32, u32),
+    // rd, rs1, rs2, rs3, rounding
+    R4(usize, u32, u32, u32, u32, u32),
+    // rd, rs1, immediate
+    I(usize, u32, u32, i32),
+    // rd, rs1, shift count
+    Shift(usize, u32, u32, i32),
+    // rs1 (the base), rs2 (what is stored), immediate
+    S(usize, u32, u32, i32),
+    // rs1, rs2, offset
+    B(usize, u32, u32, i32),
+    // rd, upper immediate
+    U(usize, u32, i32),
+    // rd, offset
+    J(u32, i32),
 }
 
 // The base words: each instruction with every operand field zero.

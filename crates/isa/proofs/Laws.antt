@@ -56,7 +56,7 @@ module _ (G : Fields) (h : Fit G) where
   at : {X : ℕ → ℕ → ℕ → ℕ → ℕ → ℕ → Type 0} → ((o d t a b s : ℕ) → o < 128 → d < 32 → t < 8 → a < 32 → b < 32 → s < 128 → X o d t a b s) → X (G .opcode) (G .rd) (G .funct3) (G .rs1) (G .rs2) (G .funct7)
   at f = f (G .opcode) (G .rd) (G .funct3) (G .rs1) (G .rs2) (G .funct7) (h .opcode) (h .rd) (h .funct3) (h .rs1) (h .rs2) (h .funct7)
 
-  cut-join : cut (join G) ≡ G
+  pub cut-join : cut (join G) ≡ G
   unfolding cut join
   cut-join = λ i. record { opcode = at c1 i; rd = at c2 i; funct3 = at c3 i; rs1 = at c4 i; rs2 = at c5 i; funct7 = at c6 i }
 
@@ -82,7 +82,7 @@ unsigned-twos : (w : ℕ) (z : ℤ) → Holds (unsigned w z) → pos (twos w z) 
 unsigned-twos w (pos n) l = ap pos (mod-eq-of-lt l)
 unsigned-twos w (negsuc n) l = absurd l
 
-twos-small : (w : ℕ) (z : ℤ) → twos w z < 2 ^ w
+pub twos-small : (w : ℕ) (z : ℤ) → twos w z < 2 ^ w
 twos-small w (pos n) = mod-lt n (pow-pos w)
 twos-small w (negsuc n) = let h : 0 < 2 ^ w = pow-pos w in omega arith
 
@@ -100,7 +100,7 @@ up2 x y h = omega arith
 low2 : (x y : ℕ) → y < 2 → (x * 2 + y) % 2 ≡ y
 low2 x y h = omega arith
 
-up4 : (c : ℕ) → (c * 4 + 1) / 4 ≡ c
+pub up4 : (c : ℕ) → (c * 4 + 1) / 4 ≡ c
 up4 c = omega arith
 
 split : (n : ℕ) → n / 32 * 32 + n % 32 ≡ n
@@ -108,7 +108,7 @@ split n = omega arith
 
 -- a shift count n below 64 behind six fixed bits k
 module _ (k n : ℕ) (h : n < 64) where
-  shift-key-back : (k * 64 + n) / 32 / 2 ≡ k
+  pub shift-key-back : (k * 64 + n) / 32 / 2 ≡ k
   shift-key-back = omega arith
 
   shift-back : (k * 64 + n) / 32 % 2 * 32 + (k * 64 + n) % 32 ≡ n
@@ -133,7 +133,7 @@ j-split n h e =
     let f : n / 32768 / 32 ≡ n / 1048576 = omega arith in
     omega arith
 
-b-back : (k : BOp) (a b : ℕ) (z : ℤ) → Holds (offset 13 z) → signed 13 (b-imm (fields (B k a b z))) ≡ z
+pub b-back : (k : BOp) (a b : ℕ) (z : ℤ) → Holds (offset 13 z) → signed 13 (b-imm (fields (B k a b z))) ≡ z
 unfolding fields
 b-back k a b z h =
     let n : ℕ = twos 13 z in
@@ -141,7 +141,7 @@ b-back k a b z h =
     let q : n / 2048 % 2 < 2 = omega arith in
     rw (up, low, up2, low2, b-split n (twos-small 13 z) (h .1)) (signed-twos 13 refl z (h .0))
 
-j-back : (d : ℕ) (z : ℤ) → Holds (offset 21 z) → signed 21 (j-imm (fields (J JAL d z))) ≡ z
+pub j-back : (d : ℕ) (z : ℤ) → Holds (offset 21 z) → signed 21 (j-imm (fields (J JAL d z))) ≡ z
 unfolding fields
 j-back d z h =
     let n : ℕ = twos 21 z in
@@ -149,14 +149,14 @@ j-back d z h =
     let q : n / 2048 % 2 < 2 = omega arith in
     rw (up, low, up2, low2, j-split n (twos-small 21 z) (h .1)) (signed-twos 21 refl z (h .0))
 
-i-back : (z : ℤ) → mag z < 2048 → signed 12 (twos 12 z / 32 * 32 + twos 12 z % 32) ≡ z
+pub i-back : (z : ℤ) → mag z < 2048 → signed 12 (twos 12 z / 32 * 32 + twos 12 z % 32) ≡ z
 i-back z h = rw (split (twos 12 z)) (signed-twos 12 refl z h)
 
-u-back : (z : ℤ) → Holds (unsigned 20 z) → pos (twos 20 z / 8192 * 8192 + twos 20 z / 256 % 32 * 256 + twos 20 z / 8 % 32 * 8 + twos 20 z % 8) ≡ z
+pub u-back : (z : ℤ) → Holds (unsigned 20 z) → pos (twos 20 z / 8192 * 8192 + twos 20 z / 256 % 32 * 256 + twos 20 z / 8 % 32 * 8 + twos 20 z % 8) ≡ z
 u-back z h = rw (u-split (twos 20 z) (twos-small 20 z)) (unsigned-twos 20 z h)
 
 module _ (k : ℕ) (z : ℤ) (h : Holds (unsigned 6 z)) where
-  shamt-back : pos ((k * 64 + twos 6 z) / 32 % 2 * 32 + (k * 64 + twos 6 z) % 32) ≡ z
+  pub shamt-back : pos ((k * 64 + twos 6 z) / 32 % 2 * 32 + (k * 64 + twos 6 z) % 32) ≡ z
   shamt-back = rw (shift-back k (twos 6 z) (twos-small 6 z)) (unsigned-twos 6 z h)
 
 -- ---- the laws
@@ -226,7 +226,7 @@ rounding-small m h = by (leb m 4) refl h
     by false e t = omega (arith, eqb→eq m 7 t)
 
 -- every field is in its bits
-fit : (i : Instr) → Valid i → Fit (fields i)
+pub fit : (i : Instr) → Valid i → Fit (fields i)
 unfolding fields
 fit (R ADD d a b) h = omega arith
 fit (R SUB d a b) h = omega arith

@@ -22,3 +22,17 @@ rows =
 
 abbrev pub row-of : ℕ → Instr
 row-of n = getD rows n (R ADD 0 0 0)
+
+-- the operation with no operands
+abbrev pub bare : Instr → Instr
+bare (R k d a b) = R k 0 0 0
+bare (F k d a b m) = F k 0 0 0 0
+bare (C k d a m) = C k 0 0 0
+bare (M k d a) = M k 0 0
+bare (R4 k d a b c m) = R4 k 0 0 0 0 0
+bare (I k d a z) = I k 0 0 (pos 0)
+bare (Shift k d a z) = Shift k 0 0 (pos 0)
+bare (S k a b z) = S k 0 0 (pos 0)
+bare (B k a b z) = B k 0 0 (pos 0)
+bare (U k d z) = U k 0 (pos 0)
+bare (J k d z) = J k 0 (pos 0)

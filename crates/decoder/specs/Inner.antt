@@ -1,0 +1,2 @@
+-- how the operation is found
+pub mod Operation
