@@ -21,7 +21,7 @@ use Rattle.isa.proofs.Words.{encode-R, encode-F, encode-C, encode-M, encode-R4,
 use Rattle.refusal.specs.Answer.{accepted, refused}
 use Rattle.encoder.specs.Answer.{encoded, AcceptedValid}
 use Rattle.encoder.specs.Inner.Field.{packed}
-use Rattle.encoder.specs.Inner.Table.{rows, row-of}
+use Rattle.encoder.specs.Table.{rows, row-of}
 use Rattle.encoder.specs.declared.Field.{Field}
 use Rattle.encoder.specs.declared.Field.the-variants.{Bits, Outside}
 use Rattle.encoder.proofs.Fields.{Means}

@@ -5,7 +5,7 @@ use Prim.Native.Nat.{ℕ, zero, suc, _<_}
 use native.Mathlib.Omega.{arith}
 use lib.ListN.{length, getD}
 use Rattle.isa.specs.Encode.{encode, fields, join}
-use Rattle.encoder.specs.Inner.Table.{rows, row-of}
+use Rattle.encoder.specs.Table.{rows, row-of}
 
 abbrev pub bases : List ℕ
 bases =

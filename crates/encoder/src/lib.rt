@@ -8,7 +8,7 @@ ghost use lib.IntN.{pos, negsuc};
 ghost use lib.ListN.{getD};
 ghost use mathlib.Core.List.{[], _∷_};
 ghost use Rattle.encoder.specs.Answer.{word-answer, encoded};
-ghost use Rattle.encoder.specs.Inner.Table.{row-of};
+ghost use Rattle.encoder.specs.Table.{row-of};
 ghost use Rattle.encoder.specs.Sign.{sign-of};
 ghost use Rattle.encoder.specs.Inner.Field.{packed, signed-field, even-field, unsigned-field};
 ghost use Rattle.isa.specs.Instr.{R, F, C, M, R4, I, Shift, S, B, U, J, ADD, SUB, SLL, XOR, SRL, SRA, OR, AND, FSGNJ-D, FSGNJN-D, FSGNJX-D, FMIN-D, FMAX-D, FLE-D, FLT-D, FEQ-D, FADD-D, FSUB-D, FMUL-D, FDIV-D, FSQRT-D, FCVT-W-D, FCVT-L-D, FCVT-D-W, FCVT-D-L, FMV-X-D, FMV-D-X, FMADD-D, FMSUB-D, FNMSUB-D, FNMADD-D, ADDI, XORI, ORI, ANDI, JALR, LD, FLD, ADDIW, SLLI, SRLI, SRAI, SD, FSD, BEQ, BNE, BLT, BGE, BLTU, BGEU, LUI, AUIPC, JAL, rounding as rounding-field, free, holds, f-rounding, c-rounding, register, registers-hold};

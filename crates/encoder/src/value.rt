@@ -9,7 +9,7 @@ ghost use Rattle.isa.specs.Decode.{c-ops, f-ops, r4-ops};
 ghost use Rattle.refusal.specs.Answer.{refused};
 ghost use Rattle.encoder.specs.Answer.{word-answer, encoded};
 ghost use Rattle.encoder.specs.Instr.{instr-of};
-ghost use Rattle.encoder.specs.Inner.Table.{row-of, bare};
+ghost use Rattle.encoder.specs.Table.{row-of, bare};
 use crate::Encoded;
 use crate::Instr;
 use refusal::Refusal;

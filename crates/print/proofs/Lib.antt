@@ -4,3 +4,6 @@ pub mod Lines
 pub mod Fitting
 pub mod Short
 pub mod Sentences
+pub mod Named
+pub mod Operands
+pub mod Listings

@@ -61,14 +61,6 @@ words-short (a ∷ b ∷ []) h = refl
 words-short (a ∷ b ∷ c ∷ []) h = refl
 words-short (a ∷ b ∷ c ∷ d ∷ l) h = absurd (omega arith)
 
--- the lines from byte i on
-abbrev pub rest-of : List ℕ → ℕ → List ℕ
-rest-of s i = word-lines i (words-of (drop i s))
-
-pub no-word : (s : List ℕ) (i : ℕ) → length s < i + 4 → rest-of s i ≡ []
-unfolding word-lines
-no-word s i h = rw (words-short (drop i s) (simp length-drop (omega arith)))
-
 four : (s : List ℕ) (i : ℕ) → i + 4 ≤ length s → drop i s ≡ getD s i 0 ∷ getD s (i + 1) 0 ∷ getD s (i + 2) 0 ∷ getD s (i + 3) 0 ∷ drop (i + 4) s
 four s i h =
     let a : i + 1 ≡ suc i = omega arith in
@@ -78,10 +70,25 @@ four s i h =
     drop-cons s i 0 (omega arith)
     ∙ rw (drop-cons s (suc i) 0 (omega arith), drop-cons s (suc (suc i)) 0 (omega arith), drop-cons s (suc (suc (suc i))) 0 (omega arith), a, b, c, d)
 
-pub one-word : (s : List ℕ) (i : ℕ) → i + 4 ≤ length s
-    → rest-of s i ≡ word-line i (le-word (getD s i 0) (getD s (i + 1) 0) (getD s (i + 2) 0) (getD s (i + 3) 0)) ++ rest-of s (i + 4)
-unfolding word-lines words-of
-one-word s i h = ap (λ (l : List ℕ). word-lines i (words-of l)) (four s i h)
+-- the words from byte i on
+pub no-words : (s : List ℕ) (i : ℕ) → length s < i + 4 → words-of (drop i s) ≡ []
+no-words s i h = words-short (drop i s) (simp length-drop (omega arith))
+
+pub more-words : (s : List ℕ) (i : ℕ) → i + 4 ≤ length s → words-of (drop i s) ≡ word-in s i ∷ words-of (drop (i + 4) s)
+unfolding words-of
+more-words s i h = ap words-of (four s i h)
+
+-- the lines from byte i on
+abbrev pub rest-of : List ℕ → ℕ → List ℕ
+rest-of s i = word-lines i (words-of (drop i s))
+
+pub no-word : (s : List ℕ) (i : ℕ) → length s < i + 4 → rest-of s i ≡ []
+unfolding word-lines
+no-word s i h = ap (word-lines i) (no-words s i h)
+
+pub one-word : (s : List ℕ) (i : ℕ) → i + 4 ≤ length s → rest-of s i ≡ word-line i (word-in s i) ++ rest-of s (i + 4)
+unfolding word-lines
+one-word s i h = ap (word-lines i) (more-words s i h)
 
 -- ---- a turn of the loops over the words
 

@@ -8,8 +8,10 @@ ghost use Rattle.text.specs.Digits.{digit-byte, digits, decimal};
 ghost use Rattle.print.specs.Text.{Puts, hex, word-line, code-lines, refusal-line};
 ghost use Rattle.print.specs.Inner.Text.{word-in};
 
+mod listing;
 mod reason;
 
+pub use listing::listing_text;
 pub use reason::reason_line;
 pub use reason::refusal_text;
 
@@ -17,6 +19,12 @@ pub use reason::refusal_text;
 pub enum Text {
     Length(usize),
     TooLong,
+}
+
+// A listing's text, or where the first foreign word stands.
+pub enum Listed {
+    Text(Text),
+    Foreign(usize),
 }
 
 fn glyph(d: u64) -> u8
@@ -111,13 +119,13 @@ fn put_word_line(offset: u64, word: u64, out: &mut [u8], at: usize) -> usize
 
 // ---- all words of the code
 
-fn wide(b: u8) -> u64
+fn wide(b: u8) -> u32
     ensures { λ r. ⌜ (r ≡ b) × (r < 256) ⌝ }
 {
-    b as u64
+    b as u32
 }
 
-fn word_at(code: &[u8], i: usize) -> u64
+fn word_at(code: &[u8], i: usize) -> u32
     requires { ⌜ i + 4 ≤ length (now code) ⌝ }
     ensures { λ r. ⌜ r ≡ word-in (now (code .entry)) i ⌝ }
 {
@@ -153,7 +161,7 @@ fn put_words(code: &[u8], out: &mut [u8]) -> usize
     let mut i = 0;
     while code.len() - i >= 4 {
         let w = word_at(code, i);
-        at = put_word_line(i as u64, w, out, at);
+        at = put_word_line(i as u64, w as u64, out, at);
         i += 4;
     }
     at

@@ -56,6 +56,7 @@ put-words-spec =
     loop-holds
     (λ c. search needs)
     (λ c κs. search needs)
+    (λ c. search needs)
     put-word-line-requires
     (λ c. search needs)
     (λ c. search needs)

@@ -1,0 +1,327 @@
+// The listing (document 02, point 5): the text of a word's line, and of all words of the code.
+ghost use mathlib.Core.Path.{_≡_};
+ghost use mathlib.Core.List.{[], _∷_, map};
+ghost use lib.IntN.{pos};
+ghost use Prim.Native.Nat.{_+_, _*_, _-_, _≤_, _<_};
+ghost use lib.Dec.{eqb, leb, ltb};
+ghost use lib.ListN.{length, take, drop, getD};
+ghost use lib.Seq.{sets};
+ghost use Rattle.text.specs.Digits.{integer-bytes};
+ghost use Rattle.encoder.specs.Instr.{instr-of};
+ghost use Rattle.print.specs.Text.{words-of};
+ghost use Rattle.print.specs.Listing.{operands-text, shown, instr-line, data-line, listing-line, listing-lines, foreign};
+ghost use Rattle.print.specs.Listing.{foreign-from, listed-in, left-in};
+ghost use Rattle.print.specs.Inner.Listing.{name-at, lengths, Sound, value-text, values-text, spent, measured};
+use crate::Listed;
+use crate::Text;
+use decoder::Decoded;
+use encoder::Instr;
+use encoder::Sign;
+
+// The instructions' names in the order of the table of base words, eight bytes each.
+const NAMES: [u8; 424] = *b"add     sub     sll     xor     srl     sra     or      and     fsgnj.d fsgnjn.dfsgnjx.dfmin.d  \
+    fmax.d  fle.d   flt.d   feq.d   fadd.d  fsub.d  fmul.d  fdiv.d  fsqrt.d fcvt.w.dfcvt.l.dfcvt.d.w\
+    fcvt.d.lfmv.x.d fmv.d.x fmadd.d fmsub.d fnmsub.dfnmadd.daddi    xori    ori     andi    jalr    \
+    ld      fld     addiw   slli    srli    srai    sd      fsd     beq     bne     blt     bge     \
+    bltu    bgeu    lui     auipc   jal     ";
+
+const LENGTHS: [u8; 53] = [
+    3, 3, 3, 3, 3, 3, 2, 3, 7, 8, 8, 6, 6, 5, 5, 5, 6, 6, 6, 6,
+    7, 8, 8, 8, 8, 7, 7, 7, 7, 8, 8, 4, 4, 3, 4, 4, 2, 3, 5, 4,
+    4, 4, 2, 3, 3, 3, 3, 3, 4, 4, 3, 5, 3,
+];
+
+// What stands behind an instruction's name: n numbers, 2^32 more for one with a minus.
+struct Operands {
+    n: usize,
+    values: [u64; 5],
+}
+
+// What is left of the room for a text, and whether there was too little.
+struct Room {
+    left: usize,
+    short: bool,
+}
+
+enum Measured {
+    Foreign(usize),
+    Short,
+    Fits,
+}
+
+// ---- an instruction's line
+
+fn name_length(row: usize) -> usize
+    requires { ⌜ row < 53 ⌝ }
+    ensures { λ r. ⌜ r ≡ getD lengths row 0 ⌝ }
+{
+    LENGTHS[row] as usize
+}
+
+fn put_name(row: usize, out: &mut [u8], at: usize) -> usize
+    requires { ⌜ (row < 53) × (at + length (name-at row) ≤ length (now out)) ⌝ }
+    ensures { λ r. ⌜ (now (out .exit) ≡ sets (now (out .entry)) at (name-at row)) × (r ≡ at + length (name-at row)) ⌝ }
+{
+    let a = 8 * row;
+    let k = name_length(row);
+    let e = a + k;
+    crate::put_bytes(&NAMES[a..e], out, at);
+    at + k
+}
+
+fn value(z: i32) -> u64
+    ensures { λ r. ⌜ value-text r ≡ integer-bytes z ⌝ }
+{
+    let s = encoder::split(z);
+    match s {
+        Sign::NonNeg(n) => n as u64,
+        Sign::Neg(n) => 4294967297 + n as u64,
+    }
+}
+
+fn two(a: u32, z: i32) -> Operands
+    ensures { λ r. ⌜ Sound r × (values-text (take (r .n) (r .values)) ≡ operands-text (pos a ∷ z ∷ [])) ⌝ }
+{
+    let v = value(z);
+    Operands {
+        n: 2,
+        values: [a as u64, v, 0, 0, 0],
+    }
+}
+
+fn three(a: u32, b: u32, z: i32) -> Operands
+    ensures { λ r. ⌜ Sound r × (values-text (take (r .n) (r .values)) ≡ operands-text (pos a ∷ pos b ∷ z ∷ [])) ⌝ }
+{
+    let v = value(z);
+    Operands {
+        n: 3,
+        values: [a as u64, b as u64, v, 0, 0],
+    }
+}
+
+// Up to five numbers without a sign.
+fn numbers(n: usize, a: u32, b: u32, c: u32, d: u32, e: u32) -> Operands
+    requires { ⌜ n ≤ 5 ⌝ }
+    ensures { λ r. ⌜ Sound r × (values-text (take (r .n) (r .values)) ≡ operands-text (map pos (take n (a ∷ b ∷ c ∷ d ∷ e ∷ [])))) ⌝ }
+{
+    Operands {
+        n,
+        values: [a as u64, b as u64, c as u64, d as u64, e as u64],
+    }
+}
+
+// Its operands in the order of `rvv!`.
+fn operands_of(i: Instr) -> Operands
+    ensures { λ r. ⌜ Sound r × (values-text (take (r .n) (r .values)) ≡ operands-text (shown (instr-of i))) ⌝ }
+{
+    match i {
+        Instr::R(_, rd, rs1, rs2) => numbers(3, rd, rs1, rs2, 0, 0),
+        Instr::F(_, rd, rs1, rs2, rm) => numbers(4, rd, rs1, rs2, rm, 0),
+        Instr::C(_, rd, rs1, rm) => numbers(3, rd, rs1, rm, 0, 0),
+        Instr::M(_, rd, rs1) => numbers(2, rd, rs1, 0, 0, 0),
+        Instr::R4(_, rd, rs1, rs2, rs3, rm) => numbers(5, rd, rs1, rs2, rs3, rm),
+        Instr::I(_, rd, rs1, imm) => three(rd, rs1, imm),
+        Instr::Shift(_, rd, rs1, shamt) => three(rd, rs1, shamt),
+        Instr::S(_, rs1, rs2, imm) => three(rs2, rs1, imm),
+        Instr::B(_, rs1, rs2, offset) => three(rs1, rs2, offset),
+        Instr::U(_, rd, imm) => two(rd, imm),
+        Instr::J(rd, offset) => two(rd, offset),
+    }
+}
+
+// ---- how long a line is
+
+fn value_length(v: u64) -> usize
+    ensures { λ r. ⌜ (r ≡ length (value-text v)) × (r ≤ 21) ⌝ }
+{
+    if v < 4294967296 {
+        return crate::decimal_length(v);
+    }
+    crate::decimal_length(v - 4294967296) + 1
+}
+
+fn values_length(s: Operands) -> usize
+    requires { ⌜ Sound s ⌝ }
+    ensures { λ r. ⌜ (r ≡ length (values-text (take (s .n) (s .values)))) × (r ≤ 110) ⌝ }
+{
+    let values = s.values;
+    let n = s.n;
+    let mut k = 0;
+    let mut j = 0;
+    while j < n {
+        k += value_length(values[j]) + 1;
+        j += 1;
+    }
+    k
+}
+
+fn instr_length(offset: u64, i: Instr) -> usize
+    ensures { λ r. ⌜ (r ≡ length (instr-line offset (instr-of i))) × (r ≤ 140) ⌝ }
+{
+    crate::decimal_length(offset) + name_length(encoder::row(i)) + values_length(operands_of(i)) + 2
+}
+
+// 0 where the word is foreign.
+fn line_length(constants: usize, offset: usize, word: u32) -> usize
+    ensures { λ r. ⌜ (r ≡ length (listing-line constants offset word)) × (eqb r 0 ≡ foreign constants offset word) × (r ≤ 140) ⌝ }
+{
+    if offset >= constants {
+        return crate::decimal_length(offset as u64) + 15;
+    }
+    let d = decoder::decode(word);
+    match d {
+        Decoded::Is(i) => instr_length(offset as u64, i),
+        Decoded::Foreign => 0,
+    }
+}
+
+// ---- a line where there is room
+
+fn put_value(v: u64, out: &mut [u8], at: usize) -> usize
+    requires { ⌜ at + length (value-text v) ≤ length (now out) ⌝ }
+    ensures { λ r. ⌜ (now (out .exit) ≡ sets (now (out .entry)) at (value-text v)) × (r ≡ at + length (value-text v)) ⌝ }
+{
+    if v < 4294967296 {
+        return crate::put_decimal(v, out, at);
+    }
+    out[at] = 45;
+    crate::put_decimal(v - 4294967296, out, at + 1)
+}
+
+// A number, and the comma before it.
+fn put_next(v: u64, out: &mut [u8], at: usize) -> usize
+    requires { ⌜ at + 1 + length (value-text v) ≤ length (now out) ⌝ }
+    ensures { λ r. ⌜ (now (out .exit) ≡ sets (now (out .entry)) at (44 ∷ value-text v)) × (r ≡ at + 1 + length (value-text v)) ⌝ }
+{
+    out[at] = 44;
+    put_value(v, out, at + 1)
+}
+
+fn put_values(s: Operands, out: &mut [u8], at: usize) -> usize
+    requires { ⌜ Sound s × (at + length (values-text (take (s .n) (s .values))) ≤ length (now out)) ⌝ }
+    ensures { λ r. ⌜ (now (out .exit) ≡ sets (now (out .entry)) at (values-text (take (s .n) (s .values))))
+        × (r ≡ at + length (values-text (take (s .n) (s .values)))) ⌝ }
+{
+    let values = s.values;
+    let n = s.n;
+    let mut e = at;
+    let mut j = 0;
+    while j < n {
+        e = put_next(values[j], out, e);
+        j += 1;
+    }
+    e
+}
+
+fn put_instr(offset: u64, i: Instr, out: &mut [u8], at: usize) -> usize
+    requires { ⌜ at + length (instr-line offset (instr-of i)) ≤ length (now out) ⌝ }
+    ensures { λ r. ⌜ (now (out .exit) ≡ sets (now (out .entry)) at (instr-line offset (instr-of i)))
+        × (r ≡ at + length (instr-line offset (instr-of i))) ⌝ }
+{
+    let e = crate::put_decimal(offset, out, at);
+    out[e] = 44;
+    let f = put_name(encoder::row(i), out, e + 1);
+    let g = put_values(operands_of(i), out, f);
+    out[g] = 10;
+    g + 1
+}
+
+fn put_data(offset: u64, word: u32, out: &mut [u8], at: usize) -> usize
+    requires { ⌜ at + length (data-line offset word) ≤ length (now out) ⌝ }
+    ensures { λ r. ⌜ (now (out .exit) ≡ sets (now (out .entry)) at (data-line offset word)) × (r ≡ at + length (data-line offset word)) ⌝ }
+{
+    let e = crate::put_decimal(offset, out, at);
+    crate::put_bytes(b",data,", out, e);
+    crate::put_digits(word as u64, 16, 8, out, e + 6);
+    out[e + 14] = 10;
+    e + 15
+}
+
+fn put_line(constants: usize, offset: usize, word: u32, out: &mut [u8], at: usize) -> usize
+    requires { ⌜ at + length (listing-line constants offset word) ≤ length (now out) ⌝ }
+    ensures { λ r. ⌜ (now (out .exit) ≡ sets (now (out .entry)) at (listing-line constants offset word))
+        × (r ≡ at + length (listing-line constants offset word)) ⌝ }
+{
+    if offset >= constants {
+        return put_data(offset as u64, word, out, at);
+    }
+    let d = decoder::decode(word);
+    match d {
+        Decoded::Is(i) => put_instr(offset as u64, i, out, at),
+        Decoded::Foreign => at,
+    }
+}
+
+// ---- all lines
+
+fn spend(r: Room, k: usize) -> Room
+    ensures { λ s. ⌜ s ≡ spent r k ⌝ }
+{
+    if r.short {
+        return r;
+    }
+    if r.left < k {
+        return Room {
+            left: 0,
+            short: true,
+        };
+    }
+    Room {
+        left: r.left - k,
+        short: false,
+    }
+}
+
+// Where the first foreign word is; else whether the lines fit into room bytes.
+fn measure(code: &[u8], constants: usize, room: usize) -> Measured
+    ensures { λ r. ⌜ r ≡ measured (foreign-from constants 0 (words-of (now (code .entry))))
+        (leb (length (listing-lines constants 0 (words-of (now (code .entry))))) room) ⌝ }
+{
+    let mut r = Room {
+        left: room,
+        short: false,
+    };
+    let mut i = 0;
+    while code.len() - i >= 4 {
+        let k = line_length(constants, i, crate::word_at(code, i));
+        if k == 0 {
+            return Measured::Foreign(i);
+        }
+        r = spend(r, k);
+        i += 4;
+    }
+    if r.short { Measured::Short } else { Measured::Fits }
+}
+
+fn put_lines(code: &[u8], constants: usize, out: &mut [u8]) -> usize
+    requires { ⌜ length (listing-lines constants 0 (words-of (now code))) ≤ length (now out) ⌝ }
+    ensures { λ r. ⌜ (now (out .exit) ≡ sets (now (out .entry)) 0 (listing-lines constants 0 (words-of (now (code .entry)))))
+        × (r ≡ length (listing-lines constants 0 (words-of (now (code .entry))))) ⌝ }
+{
+    let mut at = 0;
+    let mut i = 0;
+    while code.len() - i >= 4 {
+        let w = crate::word_at(code, i);
+        at = put_line(constants, i, w, out, at);
+        i += 4;
+    }
+    at
+}
+
+// The listing of code whose constants start at `constants`, or where the first word before them stands that no accepted instruction has.
+pub fn listing_text(code: &[u8], constants: usize, out: &mut [u8]) -> Listed
+    ensures { λ r. ⌜ (r ≡ listed-in (foreign-from constants 0 (words-of (now (code .entry))))
+            (listing-lines constants 0 (words-of (now (code .entry)))) (now (out .entry)))
+        × (now (out .exit) ≡ left-in (foreign-from constants 0 (words-of (now (code .entry))))
+            (listing-lines constants 0 (words-of (now (code .entry)))) (now (out .entry))) ⌝ }
+{
+    let m = measure(code, constants, out.len());
+    match m {
+        Measured::Foreign(at) => Listed::Foreign(at),
+        Measured::Short => Listed::Text(Text::TooLong),
+        Measured::Fits => {
+            let n = put_lines(code, constants, out);
+            Listed::Text(Text::Length(n))
+        }
+    }
+}
