@@ -218,7 +218,7 @@ reading-fields (U LUI d z) h = rw (u-back z (h .1 .0))
 reading-fields (U AUIPC d z) h = rw (u-back z (h .1 .0))
 reading-fields (J JAL d z) h = rw (j-back d z (h .1 .0))
 
-rounding-small : (m : ℕ) → Holds (rounding free m) → m < 8
+pub rounding-small : (m : ℕ) → Holds (rounding free m) → m < 8
 rounding-small m h = by (leb m 4) refl h
   where
     by : (b : Bool) → leb m 4 ≡ b → T (b || eqb m 7) → m < 8

@@ -7,3 +7,4 @@ pub mod Sentences
 pub mod Named
 pub mod Operands
 pub mod Listings
+pub mod Brief

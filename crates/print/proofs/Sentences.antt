@@ -54,6 +54,10 @@ at-zero : (number : ℕ) → number ≡ 0 → refusal-text number ≡ []
 unfolding refusal-text
 at-zero number e = rw e
 
+at-thirteen : (number : ℕ) → number ≡ 13 → refusal-text number ≡ []
+unfolding refusal-text
+at-thirteen number e = rw e
+
 beyond : (number : ℕ) → length sentences ≤ number → refusal-text number ≡ []
 unfolding refusal-text
 beyond number h = ap bytes (List·getD-eq-default sentences "" h)
@@ -71,12 +75,13 @@ other-zero : (number k : ℕ) → Other number k → number < suc k → number �
 other-zero number zero o h = omega arith
 other-zero number (suc k) o h = other-zero number k (o .0) (let d = o .1 in omega (arith, d, h))
 
-pub no-sentence : (number k : ℕ) (out : List ℕ) → length sentences ≡ suc k → Other number k → Tells number out (Text.Length 0) out
-no-sentence number k out e o = none-told number out (go (ltb number (suc k)) refl)
+pub no-sentence : (number : ℕ) (out : List ℕ) → Other number 12 → (number ≡ 14 → ⊥) → Tells number out (Text.Length 0) out
+no-sentence number out o n = none-told number out (go (ltb number 13) refl (ltb number 15) refl)
   where
-    go : (t : Bool) → ltb number (suc k) ≡ t → refusal-text number ≡ []
-    go true f = at-zero number (other-zero number k o (ltb-true number (suc k) f))
-    go false f = let h = ltb-false number (suc k) f in beyond number (rw e h)
+    go : (t : Bool) → ltb number 13 ≡ t → (u : Bool) → ltb number 15 ≡ u → refusal-text number ≡ []
+    go true f u g = at-zero number (other-zero number 12 o (ltb-true number 13 f))
+    go false f true g = at-thirteen number (let h = ltb-false number 13 f in let k = ltb-true number 15 g in omega (arith, h, k, n))
+    go false f false g = beyond number (ltb-false number 15 g)
 
 -- ---- a sentence in 80 bytes
 

@@ -7,7 +7,7 @@ use Rattle.print.specs.Text.{words-of, word-lines, refusal-line}
 use Rattle.print.proofs.Counts.{decimal-short}
 use Rattle.print.proofs.Lines.{length-word-line, length-refusal-line}
 
-words-few : (s : List ℕ) → 4 * length (words-of s) ≤ length s
+pub words-few : (s : List ℕ) → 4 * length (words-of s) ≤ length s
 unfolding words-of
 words-few [] = omega arith
 words-few (a ∷ []) = omega arith

@@ -11,6 +11,8 @@ use Rattle.isa.specs.Decode.{decode}
 use Rattle.text.specs.Ascii.{bytes}
 use Rattle.text.specs.Digits.{decimal, integer-bytes}
 use Rattle.print.specs.Text.{hex, length-in, put-in}
+use Rattle.print.specs.declared.First.{First}
+use Rattle.print.specs.declared.First.the-variants.{At, Nowhere}
 use Rattle.print.specs.declared.Listed.{Listed}
 use Rattle.print.specs.declared.Listed.the-variants as Listed
 
@@ -161,6 +163,10 @@ unfoldable pub foreign-from : (constants offset : ℕ) → List ℕ → Option �
 foreign-from constants offset [] = none
 foreign-from constants offset (w ∷ ws) =
     let rest = foreign-from constants (offset + 4) ws in cond (foreign constants offset w) (some offset) rest
+
+abbrev pub first-answer : First → Option ℕ
+first-answer (At place) = some place
+first-answer Nowhere = none
 
 -- ---- in a buffer, from its first byte on: whole or not at all, and no byte where a word is foreign
 

@@ -1,4 +1,4 @@
--- A refusal in words: one plain sentence for each of document 01's "Numbers of refusal" (docs/DECK.md shows the table).
+-- A refusal in words: one plain sentence for each of document 01's "Numbers of refusal" and for 14 of document 02 (docs/DECK.md shows the table).
 use mathlib.Core.List.{List, [], _∷_, _++_}
 use Prim.Native.Nat.{ℕ}
 use Prim.Native.String.{String}
@@ -6,7 +6,7 @@ use lib.ListN.{getD}
 use Rattle.text.specs.Ascii.{bytes}
 use Rattle.text.specs.Digits.{decimal}
 
--- the word of each number, from 1 on, and when it is answered; 0 is no refusal
+-- the word of each number, from 1 on, and when it is answered; 0 is no refusal, and 13 none yet
 abbrev pub sentences : List String
 sentences =
     ""
@@ -22,6 +22,8 @@ sentences =
     ∷ "base: an access that computes its address in t0 has t0 as its base"
     ∷ "unsaved: line 1 must save the register, or the cell keeps a saved one"
     ∷ "line: the line is missing, has a wrong form or end, or cannot stand here"
+    ∷ ""
+    ∷ "foreign: a word of the code is no instruction, or the last word is cut short"
     ∷ []
 
 -- a number's sentence; no byte where there is no such number

@@ -11,6 +11,7 @@ ghost use Rattle.print.specs.Inner.Text.{word-in};
 mod listing;
 mod reason;
 
+pub use listing::first_foreign;
 pub use listing::listing_text;
 pub use reason::reason_line;
 pub use reason::refusal_text;
@@ -19,6 +20,12 @@ pub use reason::refusal_text;
 pub enum Text {
     Length(usize),
     TooLong,
+}
+
+// Where the first foreign word stands.
+pub enum First {
+    At(usize),
+    Nowhere,
 }
 
 // A listing's text, or where the first foreign word stands.
@@ -202,14 +209,14 @@ fn put_refusal_line(number: u64, line: u64, out: &mut [u8])
     out[f] = 10;
 }
 
-// A refusal's number and line.
-pub fn refusal_line(number: u8, line: u32, out: &mut [u8]) -> Text
+// A refusal's number and line, or place.
+pub fn refusal_line(number: u8, line: u64, out: &mut [u8]) -> Text
     ensures { λ r. ⌜ Puts (refusal-line number line) 0 (now (out .entry)) r (now (out .exit)) ⌝ }
 {
-    let k = decimal_length(number as u64) + decimal_length(line as u64) + 10;
+    let k = decimal_length(number as u64) + decimal_length(line) + 10;
     if out.len() < k {
         return Text::TooLong;
     }
-    put_refusal_line(number as u64, line as u64, out);
+    put_refusal_line(number as u64, line, out);
     Text::Length(k)
 }

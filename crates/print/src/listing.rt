@@ -10,8 +10,9 @@ ghost use Rattle.text.specs.Digits.{integer-bytes};
 ghost use Rattle.encoder.specs.Instr.{instr-of};
 ghost use Rattle.print.specs.Text.{words-of};
 ghost use Rattle.print.specs.Listing.{operands-text, shown, instr-line, data-line, listing-line, listing-lines, foreign};
-ghost use Rattle.print.specs.Listing.{foreign-from, listed-in, left-in};
+ghost use Rattle.print.specs.Listing.{foreign-from, first-answer, listed-in, left-in};
 ghost use Rattle.print.specs.Inner.Listing.{name-at, lengths, Sound, value-text, values-text, spent, measured};
+use crate::First;
 use crate::Listed;
 use crate::Text;
 use decoder::Decoded;
@@ -308,7 +309,19 @@ fn put_lines(code: &[u8], constants: usize, out: &mut [u8]) -> usize
     at
 }
 
-// The listing of code whose constants start at `constants`, or where the first word before them stands that no accepted instruction has.
+// Where the first word before the constants stands that no accepted instruction has.
+pub fn first_foreign(code: &[u8], constants: usize) -> First
+    ensures { λ r. ⌜ first-answer r ≡ foreign-from constants 0 (words-of (now (code .entry))) ⌝ }
+{
+    let m = measure(code, constants, 0);
+    match m {
+        Measured::Foreign(at) => First::At(at),
+        Measured::Short => First::Nowhere,
+        Measured::Fits => First::Nowhere,
+    }
+}
+
+// The listing of code whose constants start at `constants`, or where the first foreign word stands.
 pub fn listing_text(code: &[u8], constants: usize, out: &mut [u8]) -> Listed
     ensures { λ r. ⌜ (r ≡ listed-in (foreign-from constants 0 (words-of (now (code .entry))))
             (listing-lines constants 0 (words-of (now (code .entry)))) (now (out .entry)))

@@ -32,6 +32,8 @@ const UNSAVED: [u8; 69] = *b"unsaved: line 1 must save the register, or the cell
 
 const LINE: [u8; 72] = *b"line: the line is missing, has a wrong form or end, or cannot stand here";
 
+const FOREIGN: [u8; 76] = *b"foreign: a word of the code is no instruction, or the last word is cut short";
+
 // s from the first byte on.
 fn put_text(s: &[u8], out: &mut [u8]) -> Text
     ensures { λ r. ⌜ Puts (now (s .entry)) 0 (now (out .entry)) r (now (out .exit)) ⌝ }
@@ -61,6 +63,7 @@ pub fn refusal_text(number: u32, out: &mut [u8]) -> Text
         10 => put_text(&BASE, out),
         11 => put_text(&UNSAVED, out),
         12 => put_text(&LINE, out),
+        14 => put_text(&FOREIGN, out),
         _ => Text::Length(0),
     }
 }

@@ -5,15 +5,17 @@ use borrow.Author.Needs.{needs}
 use Rattle.print.proofs.reason.refusal_text.Statement.{statement}
 use Rattle.print.proofs.reason.refusal_text.Tie as tie
 
-rest : tie.Need-returns-13
+rest : tie.Need-returns-14
 rest c =
     let a = c .before .before .args in
-    no-sentence (a .number) 12 (now (a .out)) refl (c .match .rest)
+    no-sentence (a .number) (now (a .out)) (c .match .rest .0) (c .match .rest .1)
 
 pub refusal-text-spec : {M : Type 1} → statement M
 refusal-text-spec =
     tie.close
     (tie.spec
+    (λ c. search needs)
+    (λ c κs. search needs)
     (λ c. search needs)
     (λ c κs. search needs)
     (λ c. search needs)
@@ -62,4 +64,6 @@ refusal-text-spec =
     (λ c. let m = c .before .before .before .before .before in told _ 11 _ (now (m .before .before .args .out)) _ _ (m .match .keys11) refl (c .before .before .put-text11 .ensures))
     (λ c. search needs)
     (λ c. let m = c .before .before .before .before .before in told _ 12 _ (now (m .before .before .args .out)) _ _ (m .match .keys12) refl (c .before .before .put-text12 .ensures))
+    (λ c. search needs)
+    (λ c. let m = c .before .before .before .before .before in told _ 14 _ (now (m .before .before .args .out)) _ _ (m .match .keys13) refl (c .before .before .put-text13 .ensures))
     rest)
