@@ -39,13 +39,15 @@ enum {
     DECK_COUNT = 9,
     DECK_BASE = 10,
     DECK_UNSAVED = 11,
-    DECK_LINE = 12
+    DECK_LINE = 12,
+    DECK_FOREIGN = 14
 };
 
 enum {
     DECK_FILE = 65536,  /* the longest file that is not refused for its length */
     DECK_ROOM = 65536,  /* so many bytes of a buffer count; those behind never change */
     DECK_TEXT = 245760, /* no text of deck_text is longer */
+    DECK_LISTING = 475136, /* no listing of 65,536 bytes of code is longer */
     REFUSAL_TEXT = 80,  /* no sentence is longer */
     DECK_LABELS = 2039,
     DECK_JUMPS = 20480
@@ -76,6 +78,35 @@ uint32_t deck_emit_in(const uint8_t *file, size_t file_length, uint8_t *buf, siz
 /* What deckwords prints of a file, into out: a line for each word, or the refusal. Answers the text's
    length; 0 where out is too short, which is then as it was. */
 size_t deck_text(const uint8_t *file, size_t file_length, uint8_t *out, size_t out_length);
+
+/* What code_listing tells. */
+enum {
+    CODE_LISTED_PLACE, /* of the refusal: the foreign word's offset; 0 where there is none */
+    CODE_LISTED_TEXT,  /* how long the text is; 0 where out is too short, which is then as it was */
+    CODE_LISTED
+};
+
+/* The listing of code whose constants start at offset, into out: a line for each word, before the constants
+   its byte offset, name and operands, all decimal, parted by commas; from there on `offset,data,` and 8
+   hexadecimal digits. Or one line, `refused,number,place`, and no line of code, with the first of these
+   that holds: DECK_VALUE, place 0 (offset past the end or at no multiple of 4); DECK_FOREIGN (the first word
+   before the constants that no instruction here has, or else a last word cut short, in the constants too).
+   Any words may stand behind offset. Answers the number. */
+uint32_t code_listing(const uint8_t *code, size_t code_length, size_t offset, uint8_t *out, size_t out_length,
+                      uint64_t told[CODE_LISTED]);
+
+/* What deck_listing tells. */
+enum {
+    DECK_LISTED_LINE,   /* of the refusal; 0 where there is none */
+    DECK_LISTED_LENGTH, /* of the code, constants included, in bytes; 0 where the file is refused */
+    DECK_LISTED_TEXT,   /* how long the text is; 0 where out is too short, which is then as it was */
+    DECK_LISTED
+};
+
+/* What decklist prints of a file, into out: the listing of its routine's code, as its maintainer sees it, or
+   the refusal, as deck_text has it. An accepted file's words are never foreign. Answers the number. */
+uint32_t deck_listing(const uint8_t *file, size_t file_length, uint8_t *out, size_t out_length,
+                      uint64_t told[DECK_LISTED]);
 
 /* A refusal's number in words, into out: one plain sentence of ASCII, as docs/DECK.md's table has it,
    with no zero byte behind it. Answers the sentence's length; 0 where out is too short or there is no

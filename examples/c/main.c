@@ -1,4 +1,4 @@
-/* Prints a deck file's words and what is told of them, then lays a few orders by hand.
+/* Prints a deck file's words, what is told of them and the file's listing, then lists a code and lays a few orders by hand.
 
    tools/handheld builds and tries this. By hand, from the root of the repository:
 
@@ -14,6 +14,8 @@
 static uint8_t file[DECK_FILE + 1]; /* one byte more, so that a file too long is seen to be */
 static uint8_t code[DECK_ROOM];
 static uint8_t text[DECK_TEXT];
+static uint8_t listing[DECK_LISTING];
+static uint8_t again[DECK_LISTING];
 static uint64_t labels[DECK_LABELS];
 static uint32_t jumps[DECK_JUMPS];
 
@@ -22,6 +24,19 @@ static void reason(uint32_t number) {
     uint8_t sentence[REFUSAL_TEXT];
     size_t length = refusal_text(number, sentence, sizeof sentence);
     if (length) printf("%.*s\n", (int)length, (const char *)sentence);
+}
+
+/* The file's listing; that of its code, which `code` holds, is the same. */
+static void list_deck(size_t length, size_t code_length, size_t offset) {
+    uint64_t told[3], coded[2];
+    uint32_t number = deck_listing(file, length, listing, sizeof listing, told);
+    fwrite(listing, 1, told[2], stdout);
+    printf("number %" PRIu32 ", line %" PRIu64 ", length %" PRIu64 ", listing %" PRIu64 "\n", number, told[0], told[1], told[2]);
+    reason(number);
+    if (number) return;
+    number = code_listing(code, code_length, offset, again, sizeof again, coded);
+    int same = number == 0 && coded[1] == told[2] && memcmp(again, listing, coded[1]) == 0;
+    puts(same ? "the code has the same listing" : "the code has another listing");
 }
 
 static void deck(size_t length) {
@@ -33,6 +48,18 @@ static void deck(size_t length) {
            number, told[DECK_TOLD_LINE], told[DECK_TOLD_LENGTH], told[DECK_TOLD_CONSTANTS],
            told[DECK_TOLD_OFFSET], told[DECK_TOLD_JUMPS], told[DECK_TOLD_FRAME]);
     reason(number);
+    list_deck(length, told[DECK_TOLD_LENGTH], told[DECK_TOLD_OFFSET]);
+}
+
+/* The listing of an instruction and a word that is none, with constants from the offset on, in so many bytes. */
+static void list_code(size_t offset, size_t room) {
+    static const uint8_t two[8] = {0x13};
+    uint8_t out[64];
+    uint64_t told[2];
+    uint32_t number = code_listing(two, sizeof two, offset, out, room, told);
+    printf("%" PRIu32 " listing: offset %zu, room %zu, place %" PRIu64 ", length %" PRIu64 "\n", number, offset, room, told[0], told[1]);
+    reason(number);
+    fwrite(out, 1, told[1], stdout);
 }
 
 static void words(const uint8_t *at, size_t length) {
@@ -78,6 +105,10 @@ int main(int argc, char **argv) {
     }
     deck(fread(file, 1, sizeof file, in));
     fclose(in);
+    list_code(4, 64);
+    list_code(4, 28);
+    list_code(8, 64);
+    list_code(12, 64);
     by_hand((const char *const[]){"label,0\n", "minus,10,10,11\n", "minus,10,10,32\n", "float,3\n", "branch,10,0,0\n"}, 5, NULL, 0);
     by_hand((const char *const[]){"fmov,10,11\n", "branch,10,7,1\n"}, 2, NULL, 0);
     by_hand((const char *const[]){"load_const,10,1\n", "times,10,10,11\n", "get,12,mem,4096\n", "get,13,mem,268435455\n",

@@ -1,4 +1,4 @@
-//! Prints a deck file's words and what is told of them, then lays a few orders by hand.
+//! Prints a deck file's words, what is told of them and the file's listing, then lists a code and lays a few orders by hand.
 //!
 //! tools/handheld builds and tries this. By hand, from the root of the repository:
 //!
@@ -13,6 +13,7 @@ use std::io::Write;
 mod handheld {
     pub const ROOM: usize = 65536;
     pub const TEXT: usize = 245760;
+    pub const LISTING: usize = 475136;
     pub const SENTENCE: usize = 80;
     pub const LABELS: usize = 2039;
     pub const JUMPS: usize = 20480;
@@ -22,6 +23,8 @@ mod handheld {
         extern "C" {
             pub fn deck_emit(file: *const u8, n: usize, buf: *mut u8, m: usize, told: &mut [u32; 7]) -> u32;
             pub fn deck_text(file: *const u8, n: usize, out: *mut u8, m: usize) -> usize;
+            pub fn deck_listing(file: *const u8, n: usize, out: *mut u8, m: usize, told: &mut [u64; 3]) -> u32;
+            pub fn code_listing(code: *const u8, n: usize, offset: usize, out: *mut u8, m: usize, told: &mut [u64; 2]) -> u32;
             pub fn refusal_text(number: u32, out: *mut u8, m: usize) -> usize;
             pub fn order_emit(
                 line: *const u8,
@@ -66,6 +69,22 @@ mod handheld {
         let n = unsafe { c::deck_text(file.as_ptr(), file.len(), out.as_mut_ptr(), out.len()) };
         out.truncate(n);
         out
+    }
+
+    /// The number, all that is told, and the text.
+    pub fn deck_listing(file: &[u8]) -> (u32, [u64; 3], Vec<u8>) {
+        let (mut told, mut out) = ([0; 3], vec![0; LISTING]);
+        let number = unsafe { c::deck_listing(file.as_ptr(), file.len(), out.as_mut_ptr(), out.len(), &mut told) };
+        out.truncate(told[2] as usize);
+        (number, told, out)
+    }
+
+    /// The listing of code whose constants start at `offset`, in a text of at most `room` bytes.
+    pub fn code_listing(code: &[u8], offset: usize, room: usize) -> (u32, [u64; 2], Vec<u8>) {
+        let (mut told, mut out) = ([0; 2], vec![0; room]);
+        let number = unsafe { c::code_listing(code.as_ptr(), code.len(), offset, out.as_mut_ptr(), out.len(), &mut told) };
+        out.truncate(told[1] as usize);
+        (number, told, out)
     }
 
     /// A refusal in words; nothing for 0.
@@ -149,6 +168,19 @@ fn reason(number: u32) {
     }
 }
 
+/// The file's listing; that of its code is the same.
+fn list_deck(file: &[u8], code: &[u8], offset: usize) {
+    let (number, [line, length, size], text) = handheld::deck_listing(file);
+    std::io::stdout().write_all(&text).unwrap();
+    println!("number {number}, line {line}, length {length}, listing {size}");
+    reason(number);
+    if number == 0 {
+        let (coded, _, again) = handheld::code_listing(code, offset, handheld::LISTING);
+        let which = if coded == 0 && again == text { "the same" } else { "another" };
+        println!("the code has {which} listing");
+    }
+}
+
 fn deck(file: &[u8]) {
     let mut code = vec![0; handheld::ROOM];
     let (number, [_, line, length, offset, constants, jumps, frame]) = handheld::deck_emit(file, &mut code);
@@ -157,6 +189,15 @@ fn deck(file: &[u8]) {
         "number {number}, line {line}, length {length}, constants {constants} at {offset}, jumps {jumps}, frame {frame}"
     );
     reason(number);
+    list_deck(file, &code[..length as usize], offset as usize);
+}
+
+/// The listing of an instruction and a word that is none, with constants from the offset on, in so many bytes.
+fn list_code(offset: usize, room: usize) {
+    let (number, [place, length], text) = handheld::code_listing(&[0x13, 0, 0, 0, 0, 0, 0, 0], offset, room);
+    println!("{number} listing: offset {offset}, room {room}, place {place}, length {length}");
+    reason(number);
+    std::io::stdout().write_all(&text).unwrap();
 }
 
 /// Lays a line's order, with a tag for its jumps.
@@ -198,6 +239,9 @@ fn main() {
         std::process::exit(2);
     };
     deck(&std::fs::read(path).unwrap());
+    for (offset, room) in [(4, 64), (4, 28), (8, 64), (12, 64)] {
+        list_code(offset, room);
+    }
     by_hand(&["label,0\n", "minus,10,10,11\n", "minus,10,10,32\n", "float,3\n", "branch,10,0,0\n"], &[]);
     by_hand(&["fmov,10,11\n", "branch,10,7,1\n"], &[]);
     by_hand(

@@ -1,9 +1,9 @@
 -- DEMAND 3 of a file: from what the routine promises to what a call does.
 use mathlib.Core.Path.{_≡_, refl, sym, ap, subst, _∙_}
-use mathlib.Core.List.{List}
-use Prim.Native.Nat.{ℕ, _+_, _*_, _≤_, _<_}
+use mathlib.Core.List.{List, [], _∷_}
+use Prim.Native.Nat.{ℕ, _+_, _*_, _%_, _≤_, _<_}
 use native.Mathlib.Omega.{arith}
-use lib.ListN.{length, getD, take, List·getD-append}
+use lib.ListN.{length, getD, take, length-take, List·getD-append}
 use lib.Seq.{take-at}
 use Rattle.base.proofs.Bools.{true-T}
 use Rattle.isa.specs.Instr.{valid}
@@ -17,7 +17,8 @@ use Rattle.refusal.specs.Answer.{Answer, accepted, refused}
 use Rattle.assembler.specs.Bytes.{bytes}
 use Rattle.assembler.proofs.Writes.{length-bytes}
 use Rattle.reading.specs.Program.{Program}
-use Rattle.call.specs.Layout.{code-items, data-items, items, place, code-length, constants-offset, routine-words}
+use Rattle.assembler.specs.Item.{Item, instr, raw, jump, label}
+use Rattle.call.specs.Layout.{span, code-items, data-items, items, place, code-length, constants-offset, routine-words}
 use Rattle.call.proofs.Good.{Good}
 use Rattle.reading.specs.Terms.{start, Terms}
 use Rattle.call.specs.Returned.{Returned}
@@ -28,7 +29,7 @@ use Rattle.call.proofs.Forth.{ends}
 use Rattle.call.proofs.Call.{call}
 use Rattle.routine.specs.Routine.{Summary, summary-of, summary-answer, buffer-after, program-of, Promise}
 use Rattle.correctness.specs.Claim.{CallSetup, Claim, ForwardClaim, WordsClaim}
-use Rattle.correctness.specs.Follows.{ProgramClaim, SameClaim}
+use Rattle.correctness.specs.Follows.{ProgramClaim, SameClaim, ExtentClaim}
 use Rattle.correctness.proofs.Accepts.{same}
 use Rattle.correctness.proofs.Whole.{accepted-good}
 use Rattle.correctness.proofs.Same.{program-same}
@@ -106,6 +107,32 @@ forward-correct Q file buf t after p s h f =
 before-end : (p : Program) → constants-offset p ≤ code-length p
 unfolding items
 before-end p = omega (arith, span-append (code-items p) (data-items p))
+
+-- items take whole words
+whole-words : (is : List Item) → span is % 4 ≡ 0
+unfolding span
+whole-words [] = refl
+whole-words (instr i ∷ is) = omega (arith, whole-words is)
+whole-words (raw w ∷ is) = omega (arith, whole-words is)
+whole-words (jump k l r ∷ is) = omega (arith, whole-words is)
+whole-words (label l ∷ is) = whole-words is
+
+pub extent : ExtentClaim
+extent file buf t after h =
+    let x = program file buf t after h in
+    let p : Program = x .0 in
+    let g : Good p = accepted-good (length buf) file p (x .1) in
+    let e = told file buf t after h p (x .1) in
+    let n = ap length (code-left file buf t after h p (x .1)) ∙ code-fits p in
+    let m = length-take (t .length) after in
+    let o : t .offset ≡ constants-offset p = ap (λ (u : Summary). u .offset) e in
+    let l : t .length ≡ code-length p = ap (λ (u : Summary). u .length) e in (
+      omega (arith, o, l, before-end p),
+      omega (arith, n, m, l),
+      omega (arith, l, g .room),
+      rw o (whole-words (code-items p)),
+      rw l (whole-words (items p)),
+    )
 
 pub words-valid : WordsClaim
 words-valid file buf t after h k b =

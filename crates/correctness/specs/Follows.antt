@@ -1,8 +1,9 @@
--- What follows: an accepted file is one program, and its code depends on neither the size nor the contents of the buffer.
+-- What follows: an accepted file is one program, its code lies in the buffer in whole words, and depends on neither the size nor the contents
+-- of the buffer.
 -- Statements; proved in `proofs`.
 use mathlib.Core.Path.{_≡_}
 use mathlib.Core.List.{List}
-use Prim.Native.Nat.{ℕ}
+use Prim.Native.Nat.{ℕ, _%_, _≤_}
 use lib.ListN.{length, take}
 use Rattle.refusal.specs.Answer.{accepted}
 use Rattle.reading.specs.Program.{Program}
@@ -30,3 +31,14 @@ SameClaim =
     → Promise file buf (accepted t) after
     → Promise file buf′ (accepted t′) after′
     → (t ≡ t′) × (take (t .length) after ≡ take (t′ .length) after′)
+
+-- The code is within the buffer and 65,536 bytes, constants start within it or at its end, and both have whole words.
+abbrev pub ExtentClaim : Type 0
+ExtentClaim =
+    (file buf : List ℕ) (t : Summary) (after : List ℕ)
+    → Promise file buf (accepted t) after
+    → (t .offset ≤ t .length)
+    × (t .length ≤ length after)
+    × (t .length ≤ 65536)
+    × (t .offset % 4 ≡ 0)
+    × (t .length % 4 ≡ 0)

@@ -7,10 +7,12 @@ use lib.ListN.{length}
 use Rattle.refusal.specs.Answer.{Answer, accepted, refused}
 use Rattle.ast.specs.declared.Frame.{Frame}
 use Rattle.ast.specs.declared.Frame.the-variants.{Fast, Indirect}
+use Rattle.print.specs.Text.{length-in, put-in}
 use Rattle.print.specs.declared.Text.{Text}
 use Rattle.print.specs.declared.Text.the-variants as Text
 use Rattle.routine.specs.Routine.{Summary, program-of, summary-answer, buffer-after}
 use Rattle.assembler.specs.State.{Lent}
+use Rattle.listing.specs.Listing.{text-of, deck-listing}
 use Rattle.routine.specs.Run.{RunOutcome, run}
 
 -- document 01's number; 0 where the answer is no refusal
@@ -57,3 +59,24 @@ DeckIn file answer told labels jumps buf =
 abbrev pub text-number : Text → ℕ
 text-number (Text.Length n) = n
 text-number Text.TooLong = 0
+
+-- ---- listings
+
+-- What `code_listing` answers and leaves of a listing: its number; its place and the text's length; the text.
+abbrev pub CodeTold : (a : Answer (List ℕ)) → (answer : ℕ) → (told out after : List ℕ) → Type 0
+CodeTold a answer told out after =
+    (answer ≡ number a)
+    × (told ≡ place a ∷ text-number (length-in (text-of a) 0 out) ∷ [])
+    × (after ≡ put-in (text-of a) 0 out)
+
+-- the refusal's line, the code's length, the text's length; 0 what the answer hasn't
+abbrev pub listing-numbers : Answer Summary → (text : ℕ) → List ℕ
+listing-numbers (accepted t) text = 0 ∷ t .length ∷ text ∷ []
+listing-numbers (refused n line) text = line ∷ 0 ∷ text ∷ []
+
+-- What `deck_listing` answers and leaves.
+abbrev pub DeckListed : (file : List ℕ) → (answer : ℕ) → (told out after : List ℕ) → Type 0
+DeckListed file answer told out after =
+    (answer ≡ number (program-of 65536 file))
+    × (told ≡ listing-numbers (summary-answer (program-of 65536 file)) (text-number (length-in (deck-listing file) 0 out)))
+    × (after ≡ put-in (deck-listing file) 0 out)

@@ -12,7 +12,9 @@ ghost use Rattle.routine.specs.Answer.{routine-answer};
 ghost use Rattle.print.specs.Text.{length-in, put-in};
 ghost use Rattle.answer.specs.Answer.{deck-text};
 ghost use Rattle.print.specs.Reason.{refusal-text};
-ghost use Rattle.handheld.specs.Numbers.{number, frame-number, deck-numbers, Deck, DeckIn, text-number};
+ghost use Rattle.listing.specs.Listing.{code-answer, listed};
+ghost use Rattle.handheld.specs.Numbers.{number, place, frame-number, deck-numbers, Deck, DeckIn, text-number};
+ghost use Rattle.handheld.specs.Numbers.{CodeTold, listing-numbers, DeckListed};
 ghost use Rattle.handheld.specs.Single.{constant-of, no-such, line-put, constant-put};
 ghost use Rattle.handheld.specs.Single.{asm-of, numbers-of, record-after, order-outcome, finish-outcome, finish-told};
 ghost use Rattle.handheld.specs.Single.{single-before, single-after, finish-after};
@@ -26,6 +28,7 @@ use ast::Frame;
 use ast::Order;
 use deck::Judged;
 use form::Form;
+use listing::CodeAnswer;
 use print::Text;
 use refusal::Refusal;
 use routine::RoutineAnswer;
@@ -116,6 +119,70 @@ pub extern "C" fn refusal_text(number: u32, out: &mut [u8]) -> usize
         Text::Length(n) => n,
         Text::TooLong => 0,
     }
+}
+
+// ---- a listing
+
+fn text_number(t: Text) -> u64
+    ensures { λ r. ⌜ r ≡ text-number t ⌝ }
+{
+    match t {
+        Text::Length(n) => n as u64,
+        Text::TooLong => 0,
+    }
+}
+
+fn code_number(a: CodeAnswer) -> u32
+    ensures { λ r. ⌜ ((text : List ℕ) → r ≡ number (code-answer a text)) ⌝ }
+{
+    match a {
+        CodeAnswer::Listed => 0,
+        CodeAnswer::Offset => 2,
+        CodeAnswer::Foreign(_) => 14,
+    }
+}
+
+fn code_place(a: CodeAnswer) -> u64
+    ensures { λ r. ⌜ ((text : List ℕ) → r ≡ place (code-answer a text)) ⌝ }
+{
+    match a {
+        CodeAnswer::Listed => 0,
+        CodeAnswer::Offset => 0,
+        CodeAnswer::Foreign(place) => place as u64,
+    }
+}
+
+// The listing of code whose constants start at `offset`: 0, or the number of the refusal.
+#[no_mangle]
+pub extern "C" fn code_listing(code: &[u8], offset: usize, out: &mut [u8], told: &mut [u64; 2]) -> u32
+    ensures { λ r. ⌜ CodeTold (listed (now (code .entry)) offset) r (now (told .exit)) (now (out .entry)) (now (out .exit)) ⌝ }
+{
+    let l = listing::code_listing(code, offset, out);
+    let a = l.answer;
+    *told = [code_place(a), text_number(l.text)];
+    code_number(a)
+}
+
+// The refusal's line, the code's length, the text's length.
+fn listing_numbers(a: RoutineAnswer, text: Text) -> [u64; 3]
+    ensures { λ r. ⌜ r ≡ listing-numbers (routine-answer a) (text-number text) ⌝ }
+{
+    let k = text_number(text);
+    match a {
+        RoutineAnswer::Accepted(length, _, _, _, _) => [0, length as u64, k],
+        RoutineAnswer::Refused(_, line) => [line as u64, 0, k],
+    }
+}
+
+// The listing of a deck file's routine, as its maintainer sees it: 0, or the number of the refusal.
+#[no_mangle]
+pub extern "C" fn deck_listing(file: &[u8], out: &mut [u8], told: &mut [u64; 3]) -> u32
+    ensures { λ r. ⌜ DeckListed (now (file .entry)) r (now (told .exit)) (now (out .entry)) (now (out .exit)) ⌝ }
+{
+    let l = listing::deck_listing(file, out);
+    let a = l.answer;
+    *told = listing_numbers(a, l.text);
+    answer_number(a)
 }
 
 // ---- single orders

@@ -188,12 +188,12 @@ told-foreign place fits first e = rw e
 -- ---- what was measured
 
 module _ (place : ℕ) where
-  was-foreign : (first : Option ℕ) (fits : Bool) → measured first fits ≡ Foreign place → first ≡ some place
+  pub was-foreign : (first : Option ℕ) (fits : Bool) → measured first fits ≡ Foreign place → first ≡ some place
   was-foreign (some p) fits e = let q : p ≡ place = cc in ap some q
   was-foreign none true e = let z : _≡_ {A = ℕ} 0 1 = cc in absurd (omega arith)
   was-foreign none false e = let z : _≡_ {A = ℕ} 0 1 = cc in absurd (omega arith)
 
-was-short : (first : Option ℕ) (fits : Bool) → measured first fits ≡ Short → (first ≡ none) × (fits ≡ false)
+pub was-short : (first : Option ℕ) (fits : Bool) → measured first fits ≡ Short → (first ≡ none) × (fits ≡ false)
 was-short (some p) fits e = let z : _≡_ {A = ℕ} 0 1 = cc in absurd (omega arith)
 was-short none true e = let z : _≡_ {A = ℕ} 0 1 = cc in absurd (omega arith)
 was-short none false e = (refl, refl)

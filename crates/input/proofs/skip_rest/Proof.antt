@@ -1,6 +1,6 @@
 use borrow.Author.Needs.{needs}
-use Rattle.deckwords.proofs.skip_rest.Statement.{statement}
-use Rattle.deckwords.proofs.skip_rest.Tie as tie
+use Rattle.input.proofs.skip_rest.Statement.{statement}
+use Rattle.input.proofs.skip_rest.Tie as tie
 
 abbrev Inv-loop : tie.InvT-loop
 Inv-loop turns₀ turns = Unit {0}

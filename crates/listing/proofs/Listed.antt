@@ -1,0 +1,92 @@
+-- The listing of code, case by case. Assumes nothing.
+use mathlib.Core.Path.{_≡_, refl, sym, ap, _∙_}
+use mathlib.Core.Bool.{Bool, true, false, _&&_, cond}
+use mathlib.Core.List.{List, [], _∷_}
+use mathlib.Core.Option.{Option, some, none, Option·getD}
+use Prim.Native.Nat.{ℕ, suc, _+_, _*_, _/_, _%_, _^_, _<_, _≤_}
+use native.Mathlib.Omega.{arith}
+use borrow.Author.Tests.{eq-eqb, ne-eqb}
+use lib.Dec.{eqb, leb}
+use lib.ListN.{length}
+use Rattle.refusal.specs.Answer.{Answer, accepted, refused}
+use Rattle.print.specs.Text.{words-of, Puts, length-in, put-in, refusal-line}
+use Rattle.print.specs.Listing.{foreign, foreign-from, listing-lines, listed-in, left-in}
+use Rattle.print.specs.declared.Text.{Text}
+use Rattle.print.specs.declared.Listed.{Listed}
+use Rattle.print.specs.declared.Listed.the-variants as Listed
+use Rattle.print.proofs.Short.{words-few, refusal-short}
+use Rattle.print.proofs.Brief.{listing-short}
+use Rattle.listing.specs.Listing.{unless-foreign, cut-short, listed, text-of, Lists}
+use Rattle.listing.specs.declared.CodeAnswer.the-variants as CodeAnswer
+use Rattle.listing.specs.declared.CodeListing.{CodeListing}
+
+-- ---- which case
+
+module _ (code : List ℕ) (constants : ℕ) where
+  abbrev pub fine : Bool
+  fine = leb constants (length code) && eqb (constants % 4) 0
+
+  abbrev pub first : Option ℕ
+  first = foreign-from constants 0 (words-of code)
+
+  abbrev pub lines : List ℕ
+  lines = listing-lines constants 0 (words-of code)
+
+  pub not-fine : fine ≡ false → listed code constants ≡ refused 2 0
+  unfolding listed
+  not-fine e = rw e
+
+  pub cut : fine ≡ true → (length code % 4 ≡ 0 → ⊥) → listed code constants ≡ refused 14 (Option·getD first (length code / 4 * 4))
+  unfolding listed
+  cut e n = rw (e, ne-eqb (length code % 4) 0 n) (by first)
+    where
+      by : (o : Option ℕ) → unless-foreign o (refused 14 (length code / 4 * 4)) ≡ refused 14 (Option·getD o (length code / 4 * 4))
+      by (some place) = refl
+      by none = refl
+
+  pub whole : fine ≡ true → length code % 4 ≡ 0 → listed code constants ≡ unless-foreign first (accepted lines)
+  unfolding listed
+  whole e n = rw (e, eq-eqb (length code % 4) 0 n)
+
+  -- what `listing_text` told, and left
+  module _ (e : fine ≡ true) (n : length code % 4 ≡ 0) (l : Listed) (buf after : List ℕ) (told : l ≡ listed-in first lines buf) (left : after ≡ left-in first lines buf) where
+    pub was-listed : (t : Text) → l ≡ Listed.Text t → Lists (listed code constants) buf (record { answer = CodeAnswer.Listed; text = t }) after
+    was-listed t f = rw (whole e n) (by first (sym told ∙ f) left)
+      where
+        by : (o : Option ℕ) → listed-in o lines buf ≡ Listed.Text t → after ≡ left-in o lines buf → Lists (unless-foreign o (accepted lines)) buf (record { answer = CodeAnswer.Listed; text = t }) after
+        by none p q = (refl, (let r : t ≡ length-in lines 0 buf = cc in r, q))
+        by (some place) p q = let z : _≡_ {A = ℕ} 0 1 = cc in absurd (omega arith)
+
+    pub was-foreign : (place : ℕ) → l ≡ Listed.Foreign place → (listed code constants ≡ refused 14 place) × (after ≡ buf)
+    was-foreign place f = rw (whole e n) (by first (sym told ∙ f) left)
+      where
+        by : (o : Option ℕ) → listed-in o lines buf ≡ Listed.Foreign place → after ≡ left-in o lines buf → (unless-foreign o (accepted lines) ≡ refused 14 place) × (after ≡ buf)
+        by none p q = let z : _≡_ {A = ℕ} 0 1 = cc in absurd (omega arith)
+        by (some k) p q = let r : k ≡ place = cc in (ap (refused 14) r, q)
+
+-- ---- how long it is
+
+-- a foreign word stands before the end
+first-within : (constants o : ℕ) (ws : List ℕ) (place : ℕ) → foreign-from constants o ws ≡ some place → place ≤ o + 4 * length ws
+unfolding foreign-from
+first-within constants o [] place e = let z : _≡_ {A = ℕ} 0 1 = cc in absurd (omega arith)
+first-within constants o (w ∷ ws) place e = by (foreign constants o w) e
+  where
+    by : (t : Bool) → cond t (some o) (foreign-from constants (o + 4) ws) ≡ some place → place ≤ o + 4 * suc (length ws)
+    by true f = let p : o ≡ place = cc in omega arith
+    by false f = omega (arith, first-within constants (o + 4) ws place f)
+
+module _ (code : List ℕ) (constants : ℕ) (small : length code ≤ 65536) where
+  pub brief : length (text-of (listed code constants)) ≤ 475136
+  unfolding listed
+  brief = by (fine code constants) (first code constants) refl (eqb (length code % 4) 0)
+    where
+      by : (t : Bool) (o : Option ℕ) → first code constants ≡ o → (u : Bool)
+          → length (text-of (cond t (unless-foreign o (unless-foreign (cond u none (some (length code / 4 * 4))) (accepted (lines code constants)))) (refused 2 0))) ≤ 475136
+      by false o e u = omega (arith, refusal-short 2 0 (omega arith) (omega arith))
+      by true (some place) e u =
+          let h = first-within constants 0 (words-of code) place e in
+          let f = words-few code in
+          omega (arith, refusal-short 14 place (omega arith) (omega arith))
+      by true none e false = omega (arith, refusal-short 14 (length code / 4 * 4) (omega arith) (omega arith))
+      by true none e true = listing-short constants code small

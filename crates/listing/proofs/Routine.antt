@@ -1,0 +1,100 @@
+-- The listing of a routine's code, from what the routine promises. Assumes nothing.
+use mathlib.Core.Path.{_≡_, refl, sym, ap, _∙_}
+use mathlib.Core.Bool.{Bool, true, false}
+use mathlib.Core.List.{List}
+use mathlib.Core.Option.{Option, some, none}
+use Prim.Native.Nat.{ℕ, zero, suc, _+_, _*_, _%_, _<_, _≤_}
+use native.Mathlib.Omega.{arith}
+use borrow.Author.Tests.{eq-eqb, le-leb, leb-true, leb-false, ltb-true, ltb-false}
+use lib.Dec.{leb, ltb}
+use lib.ListN.{length, getD, take}
+use lib.Seq.{getD-take, length-take-le}
+use Rattle.base.proofs.Bools.{join}
+use Rattle.isa.specs.Instr.{Instr}
+use Rattle.isa.specs.Decode.{decode}
+use Rattle.isa.proofs.Encodings.{encodings}
+use Rattle.machine.specs.Word.{w64, load4}
+use Rattle.refusal.specs.Answer.{Answer, accepted, refused}
+use Rattle.reading.specs.Program.{Program}
+use Rattle.call.specs.Layout.{constants-offset}
+use Rattle.routine.specs.Routine.{Summary, Promise, program-of, summary-answer}
+use Rattle.correctness.proofs.Correct.{program, told, code-left, extent, words-valid}
+use Rattle.print.specs.Text.{Puts, refusal-line}
+use Rattle.print.specs.Listing.{foreign}
+use Rattle.print.specs.Inner.Text.{word-in}
+use Rattle.print.specs.declared.Text.{Text}
+use Rattle.print.proofs.Listings.{first-from, no-first, first-behind, data-own, instr-own}
+use Rattle.listing.specs.Listing.{unless-foreign, program-listing, deck-listing}
+use Rattle.listing.specs.Never.{NeverRefused}
+use Rattle.listing.specs.Inner.Listing.{summary-listing}
+use Rattle.listing.proofs.Listed.{fine, lines, whole}
+
+-- ---- no word before the constants is foreign
+
+-- a word of the code, as a machine would load it
+loaded : (s : List ℕ) (n k : ℕ) → n ≤ 65536 → 4 * k + 4 ≤ n → word-in (take n s) (4 * k) ≡ load4 (λ x. getD s x 0) (4 * k)
+unfolding load4
+loaded s n k h g =
+    let a : w64 (4 * k + 0) ≡ 4 * k = omega arith in
+    let b : w64 (4 * k + 1) ≡ 4 * k + 1 = omega arith in
+    let c : w64 (4 * k + 2) ≡ 4 * k + 2 = omega arith in
+    let d : w64 (4 * k + 3) ≡ 4 * k + 3 = omega arith in
+    rw (a, b, c, d, getD-take n s (4 * k) 0 (omega arith), getD-take n s (4 * k + 1) 0 (omega arith), getD-take n s (4 * k + 2) 0 (omega arith), getD-take n s (4 * k + 3) 0 (omega arith))
+
+module _ (constants : ℕ) (s : List ℕ) (own : (k : ℕ) → 4 * k < constants → 4 * k + 4 ≤ length s → (i : Instr) × (decode (word-in s (4 * k)) ≡ some i)) where
+  not-foreign : (k : ℕ) → 4 * k + 4 ≤ length s → foreign constants (4 * k) (word-in s (4 * k)) ≡ false
+  not-foreign k l = by (ltb (4 * k) constants) refl
+    where
+      by : (t : Bool) → ltb (4 * k) constants ≡ t → foreign constants (4 * k) (word-in s (4 * k)) ≡ false
+      by true e = let h = ltb-true (4 * k) constants e in let x = own k h l in instr-own constants (4 * k) (word-in s (4 * k)) (x .0) h (x .1)
+      by false e = data-own constants (4 * k) (word-in s (4 * k)) (ltb-false (4 * k) constants e)
+
+  none-from : (n k : ℕ) → length s ≤ 4 * k + 4 * n → first-from constants s (4 * k) ≡ none
+  none-from zero k h = no-first constants s (4 * k) (omega arith)
+  none-from (suc n) k h = by (leb (4 * k + 4) (length s)) refl
+    where
+      by : (t : Bool) → leb (4 * k + 4) (length s) ≡ t → first-from constants s (4 * k) ≡ none
+      by true e =
+          let l = leb-true (4 * k + 4) (length s) e in
+          let q : 4 * k + 4 ≡ 4 * suc k = omega arith in
+          first-behind constants s (4 * k) _ l refl (not-foreign k l) ∙ ap (first-from constants s) q ∙ none-from n (suc k) (omega arith)
+      by false e = no-first constants s (4 * k) (leb-false (4 * k + 4) (length s) e)
+
+pub never-refused : NeverRefused
+never-refused file buf t after h =
+    let x : (t .offset ≤ t .length) × (t .length ≤ length after) × (t .length ≤ 65536) × (t .offset % 4 ≡ 0) × (t .length % 4 ≡ 0) = extent file buf t after h in
+    let s : List ℕ = take (t .length) after in
+    let l : length s ≡ t .length = length-take-le (t .length) after (x .1) in
+    let own : (k : ℕ) → 4 * k < t .offset → 4 * k + 4 ≤ length s → (i : Instr) × (decode (word-in s (4 * k)) ≡ some i) =
+    λ k b g.
+        let v = words-valid file buf t after h k b in
+        (v .0, ap decode (loaded after (t .length) k (x .2) (omega arith) ∙ v .2) ∙ encodings .decode-encode (v .0) (v .1)) in
+    let f : fine s (t .offset) ≡ true = join (leb (t .offset) (length s)) _ (le-leb (t .offset) (length s) (omega arith)) (eq-eqb (t .offset % 4) 0 (x .3)) in
+    let n : length s % 4 ≡ 0 = rw l (x .4) in
+    whole s (t .offset) f n ∙ ap (λ (o : Option ℕ). unless-foreign o (accepted (lines s (t .offset)))) (none-from (t .offset) s own (length s) 0 (omega arith))
+
+-- ---- a file's listing
+
+module _ (file buf after : List ℕ) (full : length buf ≡ 65536) where
+  program-listed : (t : Answer Summary) → Promise file buf t after → summary-listing t after ≡ program-listing (program-of (length buf) file)
+  program-listed (accepted t) h =
+      let x = program file buf t after h in
+      let p : Program = x .0 in
+      let o : t .offset ≡ constants-offset p = ap (λ (u : Summary). u .offset) (told file buf t after h p (x .1)) in
+      rw (x .1, code-left file buf t after h p (x .1), o)
+  program-listed (refused n line) h = by (program-of (length buf) file) (h .0)
+    where
+      by : (a : Answer Program) → refused n line ≡ summary-answer a → refusal-line n line ≡ program-listing a
+      by (accepted p) e = let z : _≡_ {A = ℕ} 0 1 = cc in absurd (omega arith)
+      by (refused m k) e = let q : n ≡ m = cc in let r : line ≡ k = cc in rw (q, r)
+
+  pub deck-listed : (t : Answer Summary) → Promise file buf t after → summary-listing t after ≡ deck-listing file
+  unfolding deck-listing
+  deck-listed t h = program-listed t h ∙ ap (λ (n : ℕ). program-listing (program-of n file)) full
+
+  pub deck-told : (t : Answer Summary) (r : Text) (out left : List ℕ) → length after ≡ length buf → Promise file buf t after
+      → Puts (summary-listing t after) 0 out r left × (length after ≤ 65536 → length (summary-listing t after) ≤ 475136)
+      → Puts (deck-listing file) 0 out r left × (t ≡ summary-answer (program-of 65536 file)) × (length (deck-listing file) ≤ 475136)
+  deck-told t r out left n h q =
+      let e = deck-listed t h in
+      (rw (← e) (q .0), h .0 ∙ ap (λ (k : ℕ). summary-answer (program-of k file)) full, rw (← e) (q .1 (omega arith)))

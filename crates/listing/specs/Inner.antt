@@ -1,0 +1,2 @@
+-- the listing of an answer
+pub mod Listing
