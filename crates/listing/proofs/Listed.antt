@@ -70,11 +70,11 @@ module _ (code : List ℕ) (constants : ℕ) where
 first-within : (constants o : ℕ) (ws : List ℕ) (place : ℕ) → foreign-from constants o ws ≡ some place → place ≤ o + 4 * length ws
 unfolding foreign-from
 first-within constants o [] place e = let z : _≡_ {A = ℕ} 0 1 = cc in absurd (omega arith)
-first-within constants o (w ∷ ws) place e = by (foreign constants o w) e
+first-within constants o (w ∷ ws) place e = by (foreign constants o w) (first-within constants (o + 4) ws place) e
   where
-    by : (t : Bool) → cond t (some o) (foreign-from constants (o + 4) ws) ≡ some place → place ≤ o + 4 * suc (length ws)
-    by true f = let p : o ≡ place = cc in omega arith
-    by false f = omega (arith, first-within constants (o + 4) ws place f)
+    by : (t : Bool) → (foreign-from constants (o + 4) ws ≡ some place → place ≤ o + 4 + 4 * length ws) → cond t (some o) (foreign-from constants (o + 4) ws) ≡ some place → place ≤ o + 4 * suc (length ws)
+    by true r f = let p : o ≡ place = cc in omega arith
+    by false r f = omega (arith, r f)
 
 module _ (code : List ℕ) (constants : ℕ) (small : length code ≤ 65536) where
   pub brief : length (text-of (listed code constants)) ≤ 475136
@@ -90,3 +90,17 @@ module _ (code : List ℕ) (constants : ℕ) (small : length code ≤ 65536) whe
           omega (arith, refusal-short 14 place (omega arith) (omega arith))
       by true none e false = omega (arith, refusal-short 14 (length code / 4 * 4) (omega arith) (omega arith))
       by true none e true = listing-short constants code small
+
+-- ---- the promise
+
+-- with the bound
+abbrev pub Tells : (code : List ℕ) → (constants : ℕ) → (buf : List ℕ) → CodeListing → (after : List ℕ) → Type 0
+Tells code constants buf r after =
+    Lists (listed code constants) buf r after × (length code ≤ 65536 → length (text-of (listed code constants)) ≤ 475136)
+
+module _ (code : List ℕ) (constants : ℕ) (buf after : List ℕ) (r : CodeListing) where
+  pub told : Lists (listed code constants) buf r after → Tells code constants buf r after
+  told l = (l, λ h. brief code constants h)
+
+  pub told-as : (a : Answer (List ℕ)) → listed code constants ≡ a → Lists a buf r after → Tells code constants buf r after
+  told-as a e l = told (rw e l)

@@ -1,6 +1,7 @@
 -- What a maintainer may rely on: the listing of a routine's code is never refused. A statement; it is proved in `proofs`.
 use mathlib.Core.Path.{_≡_}
 use mathlib.Core.List.{List}
+use Prim.Native.Nat.{ℕ}
 use lib.ListN.{take}
 use Rattle.refusal.specs.Answer.{accepted}
 use Rattle.print.specs.Text.{words-of}

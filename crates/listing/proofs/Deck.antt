@@ -3,28 +3,36 @@ use mathlib.Core.Path.{_≡_, refl, sym, ap, _∙_}
 use mathlib.Core.Bool.{Bool, true, false}
 use mathlib.Core.List.{List}
 use mathlib.Core.Option.{Option, some, none}
-use Prim.Native.Nat.{ℕ, zero, suc, _+_, _*_, _%_, _<_, _≤_}
+use Prim.Native.Nat.{ℕ, zero, suc, _+_, _*_, _%_, _^_, _<_, _≤_}
 use native.Mathlib.Omega.{arith}
 use borrow.Author.Tests.{eq-eqb, le-leb, leb-true, leb-false, ltb-true, ltb-false}
 use lib.Dec.{leb, ltb}
-use lib.ListN.{length, getD, take}
-use lib.Seq.{getD-take, length-take-le}
+use lib.ListN.{length, getD, take, length-take}
+use lib.Seq.{getD-take, length-take-le, take-all}
 use Rattle.base.proofs.Bools.{join}
 use Rattle.isa.specs.Instr.{Instr}
 use Rattle.isa.specs.Decode.{decode}
 use Rattle.isa.proofs.Encodings.{encodings}
 use Rattle.machine.specs.Word.{w64, load4}
 use Rattle.refusal.specs.Answer.{Answer, accepted, refused}
+use Rattle.refusal.specs.declared.Refusal.{Refusal}
+use Rattle.refusal.specs.Number.{number-of}
+use Rattle.ast.specs.declared.Frame.{Frame}
 use Rattle.reading.specs.Program.{Program}
-use Rattle.call.specs.Layout.{constants-offset}
+use Rattle.assembler.specs.Bytes.{bytes}
+use Rattle.call.specs.Layout.{constants-offset, routine-words}
 use Rattle.routine.specs.Routine.{Summary, Promise, program-of, summary-answer}
+use Rattle.routine.specs.Answer.{routine-answer}
+use Rattle.routine.specs.declared.RoutineAnswer.{RoutineAnswer}
+use Rattle.routine.specs.declared.RoutineAnswer.the-variants.{Accepted, Refused}
 use Rattle.correctness.proofs.Correct.{program, told, code-left, extent, words-valid}
 use Rattle.print.specs.Text.{Puts, refusal-line}
 use Rattle.print.specs.Listing.{foreign}
 use Rattle.print.specs.Inner.Text.{word-in}
 use Rattle.print.specs.declared.Text.{Text}
+use Rattle.print.proofs.Short.{refusal-short}
 use Rattle.print.proofs.Listings.{first-from, no-first, first-behind, data-own, instr-own}
-use Rattle.listing.specs.Listing.{unless-foreign, program-listing, deck-listing}
+use Rattle.listing.specs.Listing.{unless-foreign, listed, text-of, program-listing, deck-listing}
 use Rattle.listing.specs.Never.{NeverRefused}
 use Rattle.listing.specs.Inner.Listing.{summary-listing}
 use Rattle.listing.proofs.Listed.{fine, lines, whole}
@@ -51,14 +59,14 @@ module _ (constants : ℕ) (s : List ℕ) (own : (k : ℕ) → 4 * k < constants
 
   none-from : (n k : ℕ) → length s ≤ 4 * k + 4 * n → first-from constants s (4 * k) ≡ none
   none-from zero k h = no-first constants s (4 * k) (omega arith)
-  none-from (suc n) k h = by (leb (4 * k + 4) (length s)) refl
+  none-from (suc n) k h = by (leb (4 * k + 4) (length s)) refl (none-from n (suc k) (omega arith))
     where
-      by : (t : Bool) → leb (4 * k + 4) (length s) ≡ t → first-from constants s (4 * k) ≡ none
-      by true e =
+      by : (t : Bool) → leb (4 * k + 4) (length s) ≡ t → first-from constants s (4 * suc k) ≡ none → first-from constants s (4 * k) ≡ none
+      by true e r =
           let l = leb-true (4 * k + 4) (length s) e in
           let q : 4 * k + 4 ≡ 4 * suc k = omega arith in
-          first-behind constants s (4 * k) _ l refl (not-foreign k l) ∙ ap (first-from constants s) q ∙ none-from n (suc k) (omega arith)
-      by false e = no-first constants s (4 * k) (leb-false (4 * k + 4) (length s) e)
+          first-behind constants s (4 * k) _ l refl (not-foreign k l) ∙ ap (first-from constants s) q ∙ r
+      by false e r = no-first constants s (4 * k) (leb-false (4 * k + 4) (length s) e)
 
 pub never-refused : NeverRefused
 never-refused file buf t after h =
@@ -81,7 +89,9 @@ module _ (file buf after : List ℕ) (full : length buf ≡ 65536) where
       let x = program file buf t after h in
       let p : Program = x .0 in
       let o : t .offset ≡ constants-offset p = ap (λ (u : Summary). u .offset) (told file buf t after h p (x .1)) in
-      rw (x .1, code-left file buf t after h p (x .1), o)
+      ap (λ (c : List ℕ). text-of (listed c (t .offset))) (code-left file buf t after h p (x .1))
+      ∙ ap (λ (k : ℕ). text-of (listed (bytes (routine-words p)) k)) o
+      ∙ ap program-listing (sym (x .1))
   program-listed (refused n line) h = by (program-of (length buf) file) (h .0)
     where
       by : (a : Answer Program) → refused n line ≡ summary-answer a → refusal-line n line ≡ program-listing a
@@ -98,3 +108,23 @@ module _ (file buf after : List ℕ) (full : length buf ≡ 65536) where
   deck-told t r out left n h q =
       let e = deck-listed t h in
       (rw (← e) (q .0), h .0 ∙ ap (λ (k : ℕ). summary-answer (program-of k file)) full, rw (← e) (q .1 (omega arith)))
+
+-- ---- the routine's answer
+
+-- the promise, and the bound
+abbrev pub Says : (text : List ℕ) → (code out : List ℕ) → Text → (after : List ℕ) → Type 0
+Says text code out r after = Puts text 0 out r after × (length code ≤ 65536 → length text ≤ 475136)
+
+module _ (a : RoutineAnswer) (code out after : List ℕ) (r : Text) where
+  pub part-said : (l o k j : ℕ) (f : Frame) → a ≡ Accepted l o k j f → Says (text-of (listed (take l code) o)) (take l code) out r after → Says (summary-listing (routine-answer a) code) code out r after
+  part-said l o k j f e p =
+      let n = length-take l code in
+      rw e (p .0, λ h. p .1 (omega arith))
+
+  pub all-said : (l o k j : ℕ) (f : Frame) → a ≡ Accepted l o k j f → length code ≤ l → Says (text-of (listed code o)) code out r after → Says (summary-listing (routine-answer a) code) code out r after
+  all-said l o k j f e h p = part-said l o k j f e (rw (take-all l code h) p)
+
+  pub refusal-said : (why : Refusal) (line n : ℕ) → a ≡ Refused why line → n ≡ number-of why → n < 256 → line < 2 ^ 32 → Puts (refusal-line n line) 0 out r after → Says (summary-listing (routine-answer a) code) code out r after
+  refusal-said why line n e h x y p =
+      let s = refusal-short n line x y in
+      rw (e, ← h) (p, λ z. omega arith)

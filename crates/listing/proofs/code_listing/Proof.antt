@@ -1,0 +1,74 @@
+use borrow.Author.Needs.{needs}
+use borrow.Author.Tests.{not-true, not-false}
+use mathlib.Core.Path.{_≡_, sym, ap, _∙_}
+use mathlib.Core.Bool.{true}
+use native.Mathlib.Omega.{arith}
+use Prim.Native.Nat.{ℕ}
+use denote.Ref.{now}
+use Rattle.refusal.specs.Answer.{refused}
+use Rattle.listing.specs.declared.CodeAnswer.the-variants as CodeAnswer
+use Rattle.listing.proofs.Listed.{fine, not-fine, cut, was-listed, was-foreign, told, told-as}
+use Rattle.listing.proofs.code_listing.Statement.{statement}
+use Rattle.listing.proofs.code_listing.Tie as tie
+
+-- the place before the test of the offset
+abbrev start : tie.After-is-offset → tie.Start
+start c = c .before .before .before
+
+in-order : (c : tie.Else1) → fine (now (start (c .before) .args .code)) (start (c .before) .args .constants) ≡ true
+in-order c = sym (c .before .is-offset .ensures) ∙ not-false _ (c .if1 .left)
+
+returns : tie.Need-returns
+returns c =
+    let o = c .before .before .before .before .before in
+    let a = start o .args in
+    let b = c .before .before .bad-offset in
+    told-as (now (a .code)) (a .constants) (now (a .out)) _ (b .result) _ (not-fine (now (a .code)) (a .constants) (sym (o .is-offset .ensures) ∙ not-true _ (c .before .before .before .before .if1 .taken))) (b .ensures)
+
+returns-2 : tie.Need-returns-2
+returns-2 c =
+    let k = c .before .before .before .before in
+    let e = k .before .before in
+    let a = start (e .before) .args in
+    let f = c .before .before .foreign in
+    told-as (now (a .code)) (a .constants) (now (a .out)) _ (f .result) _ (cut (now (a .code)) (a .constants) (in-order e) (k .before .if2 .taken) ∙ ap (λ (n : ℕ). refused 14 n) (sym (k .cut-place .ensures))) (f .ensures)
+
+returns-3 : tie.Need-returns-3
+returns-3 c =
+    let l = c .before .before .before .before .before in
+    let e = l .before .before .before in
+    let a = start (e .before) .args in
+    let p = l .listing-text in
+    told (now (a .code)) (a .constants) (now (a .out)) _ (record { answer = CodeAnswer.Listed; text = c .before .l .given .0 .0 }) (was-listed (now (a .code)) (a .constants) (in-order e) (l .before .before .if2 .left) (p .result) (now (a .out)) _ (p .ensures .0) (p .ensures .1) _ (c .before .l .given .1))
+
+returns-4 : tie.Need-returns-4
+returns-4 c =
+    let f = c .before .before .foreign2 in
+    let g = c .before .before .before .before .before in
+    let l = g .before .before .before .before in
+    let e = l .before .before .before in
+    let a = start (e .before) .args in
+    let p = l .listing-text in
+    let w = was-foreign (now (a .code)) (a .constants) (in-order e) (l .before .before .if2 .left) (p .result) (now (a .out)) _ (p .ensures .0) (p .ensures .1) _ (g .l2 .given .1) in
+    told-as (now (a .code)) (a .constants) (now (a .out)) _ (f .result) _ (w .0) (rw (w .1) at (f .ensures))
+
+pub code-listing-spec : {M : Type 1} → statement M
+code-listing-spec =
+    tie.close
+    (tie.spec
+    (λ c κs. search needs)
+    (λ c κs. search needs)
+    (λ c. search needs)
+    returns
+    (λ c κs. search needs)
+    (λ c κs. search needs)
+    (λ c. search needs)
+    returns-2
+    (λ c κs. search needs)
+    (λ c. search needs)
+    (λ c. search needs)
+    (λ c κs. search needs)
+    (λ c. search needs)
+    returns-3
+    (λ c. search needs)
+    returns-4)
