@@ -29,7 +29,11 @@ pub fn answer_text(answer: RoutineAnswer, code: &[u8], out: &mut [u8]) -> Text
             }
             print::words_text(&code[..n], out)
         }
-        RoutineAnswer::Refused(why, line) => print::refusal_line(refusal::number(why), line as u64, out),
+        RoutineAnswer::Refused(why, line) => print::refusal_line(
+            refusal::number(why),
+            line as u64,
+            out,
+        ),
     }
 }
 

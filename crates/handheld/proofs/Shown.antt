@@ -23,6 +23,10 @@ use Rattle.finish.specs.declared.FinishResult.{FinishResult}
 use Rattle.reading.specs.Program.{Program}
 use Rattle.routine.specs.Routine.{Summary, Promise, program-of, summary-answer}
 use Rattle.routine.specs.Run.{RunOutcome}
+use Rattle.print.specs.Text.{Puts}
+use Rattle.print.specs.declared.Text.{Text}
+use Rattle.listing.specs.Listing.{text-of, code-answer, Lists, deck-listing}
+use Rattle.listing.specs.declared.CodeListing.{CodeListing}
 use Rattle.handheld.specs.Numbers.{number, deck-numbers, RunTold}
 use Rattle.handheld.specs.Numbers as Numbers
 use Rattle.handheld.specs.Single.{says, order-put, line-put, as-constant, constant-put, numbers-of, record-after, single, order-result, finish-result, finish-told}
@@ -91,3 +95,20 @@ module _ (r : List ℕ) (ls js b : List ℕ) where
 
     pub finish-goes : (l : List ℕ) → f .answer ≡ Accepted → l ≡ numbers-of (f .asm) → (single 0 l ls js b ≡ finish-result r x) × ((0 ∷ f .tag ∷ []) ≡ finish-told x)
     finish-goes l h g = rw (← e, h, g) (refl, refl)
+
+-- ---- listings
+
+module _ (a : Answer (List ℕ)) (out after : List ℕ) (l : CodeListing) (h : Lists a out l after) where
+  pub code-told : (n p k : ℕ) → ((text : List ℕ) → n ≡ number (code-answer (l .answer) text)) → ((text : List ℕ) → p ≡ Numbers.place (code-answer (l .answer) text)) → k ≡ Numbers.text-number (l .text)
+      → Numbers.CodeTold a n (p ∷ k ∷ []) out after
+  code-told n p k e f g =
+      let t : List ℕ = text-of a in (
+        e t ∙ ap number (h .0),
+        rw (f t ∙ ap Numbers.place (h .0), g ∙ ap Numbers.text-number (h .1 .0)),
+        h .1 .1,
+      )
+
+pub listing-told : (file out after : List ℕ) (t : Answer Summary) (x : Text) (n : ℕ) (l : List ℕ) → Puts (deck-listing file) 0 out x after → t ≡ summary-answer (program-of 65536 file)
+    → n ≡ number t → l ≡ Numbers.listing-numbers t (Numbers.text-number x) → Numbers.DeckListed file n l out after
+listing-told file out after t x n l p e g h =
+    (rw (g, e) (number-told (program-of 65536 file)), rw (h, e, p .0), p .1)

@@ -154,12 +154,18 @@ fn code_place(a: CodeAnswer) -> u64
 
 // The listing of code whose constants start at `offset`: 0, or the number of the refusal.
 #[no_mangle]
-pub extern "C" fn code_listing(code: &[u8], offset: usize, out: &mut [u8], told: &mut [u64; 2]) -> u32
+pub extern "C" fn code_listing(
+    code: &[u8],
+    offset: usize,
+    out: &mut [u8],
+    told: &mut [u64; 2],
+) -> u32
     ensures { λ r. ⌜ CodeTold (listed (now (code .entry)) offset) r (now (told .exit)) (now (out .entry)) (now (out .exit)) ⌝ }
 {
     let l = listing::code_listing(code, offset, out);
     let a = l.answer;
-    *told = [code_place(a), text_number(l.text)];
+    let t = l.text;
+    *told = [code_place(a), text_number(t)];
     code_number(a)
 }
 
@@ -181,7 +187,8 @@ pub extern "C" fn deck_listing(file: &[u8], out: &mut [u8], told: &mut [u64; 3])
 {
     let l = listing::deck_listing(file, out);
     let a = l.answer;
-    *told = listing_numbers(a, l.text);
+    let t = l.text;
+    *told = listing_numbers(a, t);
     answer_number(a)
 }
 

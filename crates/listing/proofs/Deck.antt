@@ -75,8 +75,8 @@ never-refused file buf t after h =
     let l : length s ≡ t .length = length-take-le (t .length) after (x .1) in
     let own : (k : ℕ) → 4 * k < t .offset → 4 * k + 4 ≤ length s → (i : Instr) × (decode (word-in s (4 * k)) ≡ some i) =
     λ k b g.
-        let v = words-valid file buf t after h k b in
-        (v .0, ap decode (loaded after (t .length) k (x .2) (omega arith) ∙ v .2) ∙ encodings .decode-encode (v .0) (v .1)) in
+    let v = words-valid file buf t after h k b in
+    (v .0, ap decode (loaded after (t .length) k (x .2) (omega arith) ∙ v .2) ∙ encodings .decode-encode (v .0) (v .1)) in
     let f : fine s (t .offset) ≡ true = join (leb (t .offset) (length s)) _ (le-leb (t .offset) (length s) (omega arith)) (eq-eqb (t .offset % 4) 0 (x .3)) in
     let n : length s % 4 ≡ 0 = rw l (x .4) in
     whole s (t .offset) f n ∙ ap (λ (o : Option ℕ). unless-foreign o (accepted (lines s (t .offset)))) (none-from (t .offset) s own (length s) 0 (omega arith))

@@ -129,7 +129,11 @@ fn answer_text(answer: RoutineAnswer, code: &[u8], out: &mut [u8]) -> Text
             }
             text_of(&code[..n], constants as usize, out)
         }
-        RoutineAnswer::Refused(why, line) => print::refusal_line(refusal::number(why), line as u64, out),
+        RoutineAnswer::Refused(why, line) => print::refusal_line(
+            refusal::number(why),
+            line as u64,
+            out,
+        ),
     }
 }
 

@@ -20,16 +20,67 @@ use encoder::Instr;
 use encoder::Sign;
 
 // The instructions' names in the order of the table of base words, eight bytes each.
-const NAMES: [u8; 424] = *b"add     sub     sll     xor     srl     sra     or      and     fsgnj.d fsgnjn.dfsgnjx.dfmin.d  \
+const NAMES: [u8; 424] =
+    *b"add     sub     sll     xor     srl     sra     or      and     fsgnj.d fsgnjn.dfsgnjx.dfmin.d  \
     fmax.d  fle.d   flt.d   feq.d   fadd.d  fsub.d  fmul.d  fdiv.d  fsqrt.d fcvt.w.dfcvt.l.dfcvt.d.w\
     fcvt.d.lfmv.x.d fmv.d.x fmadd.d fmsub.d fnmsub.dfnmadd.daddi    xori    ori     andi    jalr    \
     ld      fld     addiw   slli    srli    srai    sd      fsd     beq     bne     blt     bge     \
     bltu    bgeu    lui     auipc   jal     ";
 
 const LENGTHS: [u8; 53] = [
-    3, 3, 3, 3, 3, 3, 2, 3, 7, 8, 8, 6, 6, 5, 5, 5, 6, 6, 6, 6,
-    7, 8, 8, 8, 8, 7, 7, 7, 7, 8, 8, 4, 4, 3, 4, 4, 2, 3, 5, 4,
-    4, 4, 2, 3, 3, 3, 3, 3, 4, 4, 3, 5, 3,
+    3,
+    3,
+    3,
+    3,
+    3,
+    3,
+    2,
+    3,
+    7,
+    8,
+    8,
+    6,
+    6,
+    5,
+    5,
+    5,
+    6,
+    6,
+    6,
+    6,
+    7,
+    8,
+    8,
+    8,
+    8,
+    7,
+    7,
+    7,
+    7,
+    8,
+    8,
+    4,
+    4,
+    3,
+    4,
+    4,
+    2,
+    3,
+    5,
+    4,
+    4,
+    4,
+    2,
+    3,
+    3,
+    3,
+    3,
+    3,
+    4,
+    4,
+    3,
+    5,
+    3,
 ];
 
 // What stands behind an instruction's name: n numbers, 2^32 more for one with a minus.
@@ -291,7 +342,11 @@ fn measure(code: &[u8], constants: usize, room: usize) -> Measured
         r = spend(r, k);
         i += 4;
     }
-    if r.short { Measured::Short } else { Measured::Fits }
+    if r.short {
+        Measured::Short
+    } else {
+        Measured::Fits
+    }
 }
 
 fn put_lines(code: &[u8], constants: usize, out: &mut [u8]) -> usize
@@ -324,9 +379,9 @@ pub fn first_foreign(code: &[u8], constants: usize) -> First
 // The listing of code whose constants start at `constants`, or where the first foreign word stands.
 pub fn listing_text(code: &[u8], constants: usize, out: &mut [u8]) -> Listed
     ensures { λ r. ⌜ (r ≡ listed-in (foreign-from constants 0 (words-of (now (code .entry))))
-            (listing-lines constants 0 (words-of (now (code .entry)))) (now (out .entry)))
+        (listing-lines constants 0 (words-of (now (code .entry)))) (now (out .entry)))
         × (now (out .exit) ≡ left-in (foreign-from constants 0 (words-of (now (code .entry))))
-            (listing-lines constants 0 (words-of (now (code .entry)))) (now (out .entry))) ⌝ }
+        (listing-lines constants 0 (words-of (now (code .entry)))) (now (out .entry))) ⌝ }
 {
     let m = measure(code, constants, out.len());
     match m {

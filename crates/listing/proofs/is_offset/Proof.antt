@@ -11,4 +11,4 @@ returns-2 c = rw (le-leb (c .before .args .constants) (c .before .args .n) (omeg
 
 pub is-offset-spec : {M : Type 1} → statement M
 is-offset-spec =
- tie.close (tie.spec returns returns-2)
+    tie.close (tie.spec returns returns-2)

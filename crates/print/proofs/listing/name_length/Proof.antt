@@ -9,4 +9,4 @@ cast-result c = omega (arith, length-short (c .args .row))
 
 pub name-length-spec : {M : Type 1} → statement M
 name-length-spec =
- tie.close (tie.spec (λ c. search needs) cast-result (λ c. search needs))
+    tie.close (tie.spec (λ c. search needs) cast-result (λ c. search needs))

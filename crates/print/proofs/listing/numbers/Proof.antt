@@ -8,4 +8,4 @@ returns c = ((c .pre, omega arith), plain (c .args .n) _ (omega arith, (omega ar
 
 pub numbers-spec : {M : Type 1} → statement M
 numbers-spec =
- tie.close (tie.spec returns)
+    tie.close (tie.spec returns)

@@ -16,4 +16,4 @@ returns-3 c =
 
 pub spend-spec : {M : Type 1} → statement M
 spend-spec =
- tie.close (tie.spec (λ c. search needs) returns-2 returns-3)
+    tie.close (tie.spec (λ c. search needs) returns-2 returns-3)

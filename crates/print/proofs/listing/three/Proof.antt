@@ -12,4 +12,4 @@ returns c = ((omega arith, omega arith), three-text (c .before .args .a) (c .bef
 
 pub three-spec : {M : Type 1} → statement M
 three-spec =
- tie.close (tie.spec (λ c κs. search needs) returns)
+    tie.close (tie.spec (λ c κs. search needs) returns)

@@ -12,4 +12,4 @@ returns c = ((omega arith, omega arith), two-text (c .before .args .a) _ _ (omeg
 
 pub two-spec : {M : Type 1} → statement M
 two-spec =
- tie.close (tie.spec (λ c κs. search needs) returns)
+    tie.close (tie.spec (λ c κs. search needs) returns)
