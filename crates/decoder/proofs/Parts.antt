@@ -1,6 +1,6 @@
 -- Parts of a word as the code takes them out. Assumes nothing.
-use mathlib.Core.Path.{_≡_, _∙_}
-use mathlib.Core.Bool.{Bool, true, false, cond}
+use mathlib.Core.Path.{_≡_, refl, _∙_}
+use mathlib.Core.Bool.{Bool, true, false, _&&_, cond}
 use mathlib.Core.List.{List, [], _∷_}
 use Prim.Native.Nat.{ℕ, zero, suc, _+_, _-_, _^_, _<_, _≤_}
 use native.Mathlib.Omega.{arith}
@@ -10,7 +10,10 @@ use lib.ListN.{getD}
 use lib.Signed.{mag}
 use mir.Syntax.{w32}
 use mir.Val.{toZ, ofZ}
+use borrow.Author.Tests.{ltb-true}
+use Rattle.base.proofs.Bools.{both}
 use Rattle.encoder.proofs.ReadBack.{back}
+use Rattle.decoder.specs.Inner.Operation.{operations}
 
 -- one of three small numbers, or 0
 pub small-one : (k a b c n : ℕ) → 0 < n → a < n → b < n → c < n → getD (0 ∷ a ∷ b ∷ c ∷ []) k 0 < n
@@ -40,3 +43,16 @@ Other n (suc k) = Other n k × (n ≡ k → ⊥)
 pub other-above : (n k : ℕ) → Other n k → k ≤ n
 other-above n zero o = omega arith
 other-above n (suc k) o = let h = other-above n k (o .0) in let d = o .1 in omega (arith, h, d)
+
+-- the table's numbers are small
+abbrev all-small : List ℕ → Bool
+all-small [] = true
+all-small (e ∷ es) = ltb e 1024 && all-small es
+
+each-small : (es : List ℕ) (k : ℕ) → all-small es ≡ true → getD es k 0 < 1024
+each-small [] k h = omega arith
+each-small (e ∷ es) zero h = ltb-true e 1024 (both (ltb e 1024) (all-small es) h .0)
+each-small (e ∷ es) (suc k) h = each-small es k (both (ltb e 1024) (all-small es) h .1)
+
+pub entry-small : (k : ℕ) → getD operations k 0 < 1024
+entry-small k = each-small operations k refl

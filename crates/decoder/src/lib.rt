@@ -29,7 +29,7 @@ const OP_FP: u32 = 0b1010011;
 
 // Operations as numbers of three hexadecimal digits: what is to be added to the last (0 nothing, 1 funct3, 2 bit 5 of funct7, 3 half of
 // rs2), the shape, and the operation's number there. Where there is none it is `add`, whose word is then another.
-const OPERATIONS: [u32; 88] = [
+const OPERATIONS: [u16; 88] = [
     // by the opcode's upper five bits
     0x055,
     0x056,
@@ -149,7 +149,7 @@ fn operation(word: u32) -> u32
 {
     let funct3 = word / 4096 % 8;
     let funct7 = word / 33554432;
-    let entry = OPERATIONS[place(word % 128, funct3, funct7)];
+    let entry = OPERATIONS[place(word % 128, funct3, funct7)] as u32;
     let more = [0, funct3, funct7 / 32 % 2, word / 1048576 % 32 / 2];
     entry % 256 + more[(entry / 256 % 4) as usize]
 }

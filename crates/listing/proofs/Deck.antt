@@ -31,6 +31,7 @@ use Rattle.print.specs.Listing.{foreign}
 use Rattle.print.specs.Inner.Text.{word-in}
 use Rattle.print.specs.declared.Text.{Text}
 use Rattle.print.proofs.Short.{refusal-short}
+use Rattle.print.proofs.Brief.{listing-short}
 use Rattle.print.proofs.Listings.{first-from, no-first, first-behind, data-own, instr-own}
 use Rattle.listing.specs.Listing.{unless-foreign, listed, text-of, program-listing, deck-listing}
 use Rattle.listing.specs.Never.{NeverRefused}
@@ -89,7 +90,8 @@ module _ (file buf after : List ℕ) (full : length buf ≡ 65536) where
       let x = program file buf t after h in
       let p : Program = x .0 in
       let o : t .offset ≡ constants-offset p = ap (λ (u : Summary). u .offset) (told file buf t after h p (x .1)) in
-      ap (λ (c : List ℕ). text-of (listed c (t .offset))) (code-left file buf t after h p (x .1))
+      sym (ap text-of (never-refused file buf t after h))
+      ∙ ap (λ (c : List ℕ). text-of (listed c (t .offset))) (code-left file buf t after h p (x .1))
       ∙ ap (λ (k : ℕ). text-of (listed (bytes (routine-words p)) k)) o
       ∙ ap program-listing (sym (x .1))
   program-listed (refused n line) h = by (program-of (length buf) file) (h .0)
@@ -116,12 +118,12 @@ abbrev pub Says : (text : List ℕ) → (code out : List ℕ) → Text → (afte
 Says text code out r after = Puts text 0 out r after × (length code ≤ 65536 → length text ≤ 475136)
 
 module _ (a : RoutineAnswer) (code out after : List ℕ) (r : Text) where
-  pub part-said : (l o k j : ℕ) (f : Frame) → a ≡ Accepted l o k j f → Says (text-of (listed (take l code) o)) (take l code) out r after → Says (summary-listing (routine-answer a) code) code out r after
+  pub part-said : (l o k j : ℕ) (f : Frame) → a ≡ Accepted l o k j f → Puts (lines (take l code) o) 0 out r after → Says (summary-listing (routine-answer a) code) code out r after
   part-said l o k j f e p =
       let n = length-take l code in
-      rw e (p .0, λ h. p .1 (omega arith))
+      rw e (p, λ h. listing-short o (take l code) (omega arith))
 
-  pub all-said : (l o k j : ℕ) (f : Frame) → a ≡ Accepted l o k j f → length code ≤ l → Says (text-of (listed code o)) code out r after → Says (summary-listing (routine-answer a) code) code out r after
+  pub all-said : (l o k j : ℕ) (f : Frame) → a ≡ Accepted l o k j f → length code ≤ l → Puts (lines code o) 0 out r after → Says (summary-listing (routine-answer a) code) code out r after
   all-said l o k j f e h p = part-said l o k j f e (rw (take-all l code h) p)
 
   pub refusal-said : (why : Refusal) (line n : ℕ) → a ≡ Refused why line → n ≡ number-of why → n < 256 → line < 2 ^ 32 → Puts (refusal-line n line) 0 out r after → Says (summary-listing (routine-answer a) code) code out r after

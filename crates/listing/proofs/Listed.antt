@@ -9,11 +9,9 @@ use borrow.Author.Tests.{eq-eqb, ne-eqb}
 use lib.Dec.{eqb, leb}
 use lib.ListN.{length}
 use Rattle.refusal.specs.Answer.{Answer, accepted, refused}
-use Rattle.print.specs.Text.{words-of, Puts, length-in, put-in, refusal-line}
-use Rattle.print.specs.Listing.{foreign, foreign-from, listing-lines, listed-in, left-in}
+use Rattle.print.specs.Text.{words-of, Puts}
+use Rattle.print.specs.Listing.{foreign, foreign-from, listing-lines}
 use Rattle.print.specs.declared.Text.{Text}
-use Rattle.print.specs.declared.Listed.{Listed}
-use Rattle.print.specs.declared.Listed.the-variants as Listed
 use Rattle.print.proofs.Short.{words-few, refusal-short}
 use Rattle.print.proofs.Brief.{listing-short}
 use Rattle.listing.specs.Listing.{unless-foreign, cut-short, listed, text-of, Lists}
@@ -48,21 +46,12 @@ module _ (code : List ℕ) (constants : ℕ) where
   unfolding listed
   whole e n = rw (e, eq-eqb (length code % 4) 0 n)
 
-  -- what `listing_text` told, and left
-  module _ (e : fine ≡ true) (n : length code % 4 ≡ 0) (l : Listed) (buf after : List ℕ) (told : l ≡ listed-in first lines buf) (left : after ≡ left-in first lines buf) where
-    pub was-listed : (t : Text) → l ≡ Listed.Text t → Lists (listed code constants) buf (record { answer = CodeAnswer.Listed; text = t }) after
-    was-listed t f = rw (whole e n) (by first (sym told ∙ f) left)
-      where
-        by : (o : Option ℕ) → listed-in o lines buf ≡ Listed.Text t → after ≡ left-in o lines buf → Lists (unless-foreign o (accepted lines)) buf (record { answer = CodeAnswer.Listed; text = t }) after
-        by none p q = (refl, (let r : t ≡ length-in lines 0 buf = cc in r, q))
-        by (some place) p q = let z : _≡_ {A = ℕ} 0 1 = cc in absurd (omega arith)
+  module _ (e : fine ≡ true) (n : length code % 4 ≡ 0) where
+    pub is-foreign : (place : ℕ) → some place ≡ first → listed code constants ≡ refused 14 place
+    is-foreign place f = whole e n ∙ ap (λ (o : Option ℕ). unless-foreign o (accepted lines)) (sym f)
 
-    pub was-foreign : (place : ℕ) → l ≡ Listed.Foreign place → (listed code constants ≡ refused 14 place) × (after ≡ buf)
-    was-foreign place f = rw (whole e n) (by first (sym told ∙ f) left)
-      where
-        by : (o : Option ℕ) → listed-in o lines buf ≡ Listed.Foreign place → after ≡ left-in o lines buf → (unless-foreign o (accepted lines) ≡ refused 14 place) × (after ≡ buf)
-        by none p q = let z : _≡_ {A = ℕ} 0 1 = cc in absurd (omega arith)
-        by (some k) p q = let r : k ≡ place = cc in (ap (refused 14) r, q)
+    pub is-listed : none ≡ first → listed code constants ≡ accepted lines
+    is-listed f = whole e n ∙ ap (λ (o : Option ℕ). unless-foreign o (accepted lines)) (sym f)
 
 -- ---- how long it is
 
@@ -98,9 +87,9 @@ abbrev pub Tells : (code : List ℕ) → (constants : ℕ) → (buf : List ℕ) 
 Tells code constants buf r after =
     Lists (listed code constants) buf r after × (length code ≤ 65536 → length (text-of (listed code constants)) ≤ 475136)
 
-module _ (code : List ℕ) (constants : ℕ) (buf after : List ℕ) (r : CodeListing) where
-  pub told : Lists (listed code constants) buf r after → Tells code constants buf r after
-  told l = (l, λ h. brief code constants h)
+module _ (code : List ℕ) (constants : ℕ) (buf after : List ℕ) where
+  pub told-lines : (t : Text) → listed code constants ≡ accepted (lines code constants) → Puts (lines code constants) 0 buf t after → Tells code constants buf (record { answer = CodeAnswer.Listed; text = t }) after
+  told-lines t e p = (rw e (refl, p), λ h. brief code constants h)
 
-  pub told-as : (a : Answer (List ℕ)) → listed code constants ≡ a → Lists a buf r after → Tells code constants buf r after
-  told-as a e l = told (rw e l)
+  pub told-as : (r : CodeListing) (a : Answer (List ℕ)) → listed code constants ≡ a → Lists a buf r after → Tells code constants buf r after
+  told-as r a e l = (rw e l, λ h. brief code constants h)

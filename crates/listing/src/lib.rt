@@ -13,7 +13,6 @@ ghost use Rattle.routine.specs.Answer.{routine-answer};
 ghost use Rattle.listing.specs.Listing.{text-of, listed, Lists, deck-listing};
 ghost use Rattle.listing.specs.Inner.Listing.{summary-listing};
 use print::First;
-use print::Listed;
 use print::Text;
 use routine::RoutineAnswer;
 
@@ -97,26 +96,20 @@ pub fn code_listing(code: &[u8], constants: usize, out: &mut [u8]) -> CodeListin
     if code.len() % 4 != 0 {
         return foreign(cut_place(code, constants), out);
     }
-    let l = print::listing_text(code, constants, out);
-    match l {
-        Listed::Text(text) => CodeListing {
-            answer: CodeAnswer::Listed,
-            text,
-        },
-        Listed::Foreign(place) => foreign(place, out),
+    let first = print::first_foreign(code, constants);
+    match first {
+        First::At(place) => foreign(place, out),
+        First::Nowhere => {
+            let text = print::lines_text(code, constants, out);
+            CodeListing {
+                answer: CodeAnswer::Listed,
+                text,
+            }
+        }
     }
 }
 
-// The text alone.
-fn text_of(code: &[u8], constants: usize, out: &mut [u8]) -> Text
-    ensures { λ r. ⌜ Puts (text-of (listed (now (code .entry)) constants)) 0 (now (out .entry)) r (now (out .exit))
-        × (length (now (code .entry)) ≤ 65536 → length (text-of (listed (now (code .entry)) constants)) ≤ 475136) ⌝ }
-{
-    let l = code_listing(code, constants, out);
-    l.text
-}
-
-// The listing of the routine's answer, with the code in the buffer.
+// The lines of the routine's code, which stands in the buffer, or the refusal. None of its words is foreign (`NeverRefused`).
 fn answer_text(answer: RoutineAnswer, code: &[u8], out: &mut [u8]) -> Text
     ensures { λ r. ⌜ Puts (summary-listing (routine-answer answer) (now (code .entry))) 0 (now (out .entry)) r (now (out .exit))
         × (length (now (code .entry)) ≤ 65536 → length (summary-listing (routine-answer answer) (now (code .entry))) ≤ 475136) ⌝ }
@@ -125,9 +118,9 @@ fn answer_text(answer: RoutineAnswer, code: &[u8], out: &mut [u8]) -> Text
         RoutineAnswer::Accepted(length, constants, _, _, _) => {
             let n = length as usize;
             if n > code.len() {
-                return text_of(code, constants as usize, out);
+                return print::lines_text(code, constants as usize, out);
             }
-            text_of(&code[..n], constants as usize, out)
+            print::lines_text(&code[..n], constants as usize, out)
         }
         RoutineAnswer::Refused(why, line) => print::refusal_line(
             refusal::number(why),

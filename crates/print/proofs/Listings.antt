@@ -6,8 +6,8 @@ use mathlib.Core.Option.{Option, some, none}
 use Prim.Native.Nat.{ℕ, suc, _+_, _-_, _<_, _≤_}
 use native.Mathlib.Numerals.{add-one}
 use native.Mathlib.Omega.{arith}
-use borrow.Author.Tests.{lt-ltb, le-ltb, ltb-true, ltb-false, le-leb, lt-leb}
-use lib.Dec.{ltb, leb, eqb}
+use borrow.Author.Tests.{lt-ltb, le-ltb}
+use lib.Dec.{ltb}
 use lib.ListN.{length, drop, set, length-append}
 use lib.Seq.{sets}
 use Rattle.isa.specs.Instr.{Instr}
@@ -16,14 +16,8 @@ use Rattle.text.specs.Ascii.{bytes}
 use Rattle.text.specs.Digits.{decimal, digits}
 use Rattle.text.proofs.Numerals.{length-digits}
 use Rattle.print.specs.Text.{words-of, hex}
-use Rattle.print.specs.Listing.{name, shown, operands-text, instr-line, data-line, line-of, listing-line, listing-lines, no-instr, foreign, foreign-from, listed-in, left-in}
+use Rattle.print.specs.Listing.{name, shown, operands-text, instr-line, data-line, line-of, listing-line, listing-lines, no-instr, foreign, foreign-from}
 use Rattle.print.specs.Inner.Text.{word-in}
-use Rattle.print.specs.Inner.Listing.{spent, measured}
-use Rattle.print.specs.declared.listing.Room.{Room}
-use Rattle.print.specs.declared.listing.Measured.the-variants.{Foreign, Short, Fits}
-use Rattle.print.specs.declared.Text.the-variants as Text
-use Rattle.print.specs.declared.Listed.the-variants as Listed
-use Rattle.print.proofs.Fitting.{too-long, fits, from-none}
 use Rattle.print.proofs.Lines.{no-words, more-words}
 use Rattle.print.proofs.Stores.{sets-append}
 
@@ -136,88 +130,3 @@ module _ (constants : ℕ) (s : List ℕ) (i : ℕ) where
     lines-put out after at next o n =
         let p : sets out at (lines-from constants s i) ≡ sets out at (listing-line constants i w ++ lines-from constants s (i + 4)) = rw e (ap (sets out at) (more-lines h)) in
         p ∙ sets-append out at (listing-line constants i w) (lines-from constants s (i + 4)) ∙ rw (o, n)
-
--- ---- room
-
--- what is left of it where so much is used
-pub record Kept (room used : ℕ) (r : Room) : Type 0 where
-  pub left : r .left ≡ room - used
-  pub short : r .short ≡ ltb room used
-
-pub kept : (room used k : ℕ) (r : Room) → Kept room used r → Kept room (used + k) (spent r k)
-kept room used k r h = by (r .short) refl (ltb (r .left) k) refl
-  where
-    by : (s : Bool) → r .short ≡ s → (t : Bool) → ltb (r .left) k ≡ t → Kept room (used + k) (cond s r (cond t (record { left = 0; short = true }) (record { left = r .left - k; short = false })))
-    by true e t f =
-        let g = ltb-true room used (sym (h .short) ∙ e) in
-        record { left = h .left ∙ omega arith; short = e ∙ sym (lt-ltb room (used + k) (omega arith)) }
-    by false e true f =
-        let g = ltb-true (r .left) k f in
-        let d = ltb-false room used (sym (h .short) ∙ e) in
-        let l = h .left in
-        record { left = omega arith; short = sym (lt-ltb room (used + k) (omega arith)) }
-    by false e false f =
-        let g = ltb-false (r .left) k f in
-        let d = ltb-false room used (sym (h .short) ∙ e) in
-        let l = h .left in
-        record { left = omega arith; short = sym (le-ltb room (used + k) (omega arith)) }
-
-pub kept-all : (room n : ℕ) → Kept room (n - n) (record { left = room; short = false })
-kept-all room n = record { left = omega arith; short = sym (le-ltb room (n - n) (omega arith)) }
-
--- of a text of which `a` bytes were to come, and `b` are behind k more
-pub kept-next : (room total a b k : ℕ) (r s : Room) → a ≤ total → a ≡ k + b → s ≡ spent r k → Kept room (total - a) r → Kept room (total - b) s
-kept-next room total a b k r s h e f g =
-    let u : total - a + k ≡ total - b = omega arith in
-    rw (← u, f) (kept room (total - a) k r g)
-
-pub kept-end : (room total b : ℕ) (r : Room) (t : Bool) → b ≡ 0 → Kept room (total - b) r → r .short ≡ t → ltb room total ≡ t
-kept-end room total b r t e k f =
-    let u : total - b ≡ total = omega arith in
-    rw (← u) (sym (k .short) ∙ f)
-
-pub too-short : (room total : ℕ) (first : Option ℕ) → first ≡ none → ltb room total ≡ true → Short ≡ measured first (leb total room)
-too-short room total first e f = rw (e, lt-leb total room (ltb-true room total f))
-
-pub enough : (room total : ℕ) (first : Option ℕ) → first ≡ none → ltb room total ≡ false → Fits ≡ measured first (leb total room)
-enough room total first e f = rw (e, le-leb total room (ltb-false room total f))
-
-pub told-foreign : (place : ℕ) (fits : Bool) (first : Option ℕ) → first ≡ some place → Foreign place ≡ measured first fits
-told-foreign place fits first e = rw e
-
--- ---- what was measured
-
-module _ (place : ℕ) where
-  pub was-foreign : (first : Option ℕ) (fits : Bool) → measured first fits ≡ Foreign place → first ≡ some place
-  was-foreign (some p) fits e = let q : p ≡ place = cc in ap some q
-  was-foreign none true e = let z : _≡_ {A = ℕ} 0 1 = cc in absurd (omega arith)
-  was-foreign none false e = let z : _≡_ {A = ℕ} 0 1 = cc in absurd (omega arith)
-
-pub was-short : (first : Option ℕ) (fits : Bool) → measured first fits ≡ Short → (first ≡ none) × (fits ≡ false)
-was-short (some p) fits e = let z : _≡_ {A = ℕ} 0 1 = cc in absurd (omega arith)
-was-short none true e = let z : _≡_ {A = ℕ} 0 1 = cc in absurd (omega arith)
-was-short none false e = (refl, refl)
-
-pub was-enough : (first : Option ℕ) (fits : Bool) → measured first fits ≡ Fits → (first ≡ none) × (fits ≡ true)
-was-enough (some p) fits e = let z : _≡_ {A = ℕ} 0 1 = cc in absurd (omega arith)
-was-enough none true e = (refl, refl)
-was-enough none false e = let z : _≡_ {A = ℕ} 0 1 = cc in absurd (omega arith)
-
--- ---- what is told and left of it
-
-module _ (first : Option ℕ) (text buf : List ℕ) where
-  pub tells-foreign : (place : ℕ) (fits : Bool) → measured first fits ≡ Foreign place → (Listed.Foreign place ≡ listed-in first text buf) × (buf ≡ left-in first text buf)
-  tells-foreign place fits e = let f = was-foreign place first fits e in (rw f, rw f)
-
-  pub tells-short : measured first (leb (length text) (length buf)) ≡ Short → (Listed.Text Text.TooLong ≡ listed-in first text buf) × (buf ≡ left-in first text buf)
-  tells-short e =
-      let f = was-short first _ e in
-      let p = too-long text 0 buf (from-none text buf _ false refl (f .1)) in
-      (rw (f .0) (ap Listed.Text (p .0)), rw (f .0) (p .1))
-
-  pub tells-whole : (after : List ℕ) (n : ℕ) → measured first (leb (length text) (length buf)) ≡ Fits → after ≡ sets buf 0 text → n ≡ length text
-      → (Listed.Text (Text.Length n) ≡ listed-in first text buf) × (after ≡ left-in first text buf)
-  tells-whole after n e h k =
-      let f = was-enough first _ e in
-      let p = fits text 0 buf after n (from-none text buf _ true refl (f .1)) k h in
-      (rw (f .0) (ap Listed.Text (p .0)), rw (f .0) (p .1))

@@ -82,8 +82,8 @@ length-name row h =
     length-take-le (getD lengths row 0) (drop (8 * row) names) (omega arith)
 
 -- the part of the table from byte a up to byte e
-pub name-part : (row k : ℕ) → k ≡ getD lengths row 0 → take (8 * row + k - 8 * row) (drop (8 * row) names) ≡ name-at row
+pub name-part : (table : List ℕ) (row k : ℕ) → table ≡ names → k ≡ getD lengths row 0 → take (8 * row + k - 8 * row) (drop (8 * row) table) ≡ name-at row
 unfolding name-at
-name-part row k e =
+name-part table row k t e =
     let p : 8 * row + k - 8 * row ≡ getD lengths row 0 = omega arith in
-    ap (λ (n : ℕ). take n (drop (8 * row) names)) p
+    rw (t, p)

@@ -10,11 +10,9 @@ use Rattle.isa.specs.Instr.{Instr, R, F, C, M, R4, I, Shift, S, B, U, J, ROp, A
 use Rattle.isa.specs.Decode.{decode}
 use Rattle.text.specs.Ascii.{bytes}
 use Rattle.text.specs.Digits.{decimal, integer-bytes}
-use Rattle.print.specs.Text.{hex, length-in, put-in}
+use Rattle.print.specs.Text.{hex}
 use Rattle.print.specs.declared.First.{First}
 use Rattle.print.specs.declared.First.the-variants.{At, Nowhere}
-use Rattle.print.specs.declared.Listed.{Listed}
-use Rattle.print.specs.declared.Listed.the-variants as Listed
 
 -- ---- names, as `rvv!` spells them
 
@@ -167,13 +165,3 @@ foreign-from constants offset (w ∷ ws) =
 abbrev pub first-answer : First → Option ℕ
 first-answer (At place) = some place
 first-answer Nowhere = none
-
--- ---- in a buffer, from its first byte on: whole or not at all, and no byte where a word is foreign
-
-abbrev pub listed-in : (first : Option ℕ) → (text buf : List ℕ) → Listed
-listed-in none text buf = Listed.Text (length-in text 0 buf)
-listed-in (some place) text buf = Listed.Foreign place
-
-abbrev pub left-in : (first : Option ℕ) → (text buf : List ℕ) → List ℕ
-left-in none text buf = put-in text 0 buf
-left-in (some place) text buf = buf

@@ -12,7 +12,7 @@ mod listing;
 mod reason;
 
 pub use listing::first_foreign;
-pub use listing::listing_text;
+pub use listing::lines_text;
 pub use reason::reason_line;
 pub use reason::refusal_text;
 
@@ -26,12 +26,6 @@ pub enum Text {
 pub enum First {
     At(usize),
     Nowhere,
-}
-
-// A listing's text, or where the first foreign word stands.
-pub enum Listed {
-    Text(Text),
-    Foreign(usize),
 }
 
 fn glyph(d: u64) -> u8

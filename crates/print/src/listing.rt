@@ -3,17 +3,16 @@ ghost use mathlib.Core.Path.{_≡_};
 ghost use mathlib.Core.List.{[], _∷_, map};
 ghost use lib.IntN.{pos};
 ghost use Prim.Native.Nat.{_+_, _*_, _-_, _≤_, _<_};
-ghost use lib.Dec.{eqb, leb, ltb};
+ghost use lib.Dec.{leb};
 ghost use lib.ListN.{length, take, drop, getD};
 ghost use lib.Seq.{sets};
 ghost use Rattle.text.specs.Digits.{integer-bytes};
 ghost use Rattle.encoder.specs.Instr.{instr-of};
-ghost use Rattle.print.specs.Text.{words-of};
+ghost use Rattle.print.specs.Text.{words-of, Puts};
 ghost use Rattle.print.specs.Listing.{operands-text, shown, instr-line, data-line, listing-line, listing-lines, foreign};
-ghost use Rattle.print.specs.Listing.{foreign-from, first-answer, listed-in, left-in};
-ghost use Rattle.print.specs.Inner.Listing.{name-at, lengths, Sound, value-text, values-text, spent, measured};
+ghost use Rattle.print.specs.Listing.{foreign-from, first-answer};
+ghost use Rattle.print.specs.Inner.Listing.{names, name-at, lengths, Sound, value-text, values-text};
 use crate::First;
-use crate::Listed;
 use crate::Text;
 use decoder::Decoded;
 use encoder::Instr;
@@ -89,18 +88,6 @@ struct Operands {
     values: [u64; 5],
 }
 
-// What is left of the room for a text, and whether there was too little.
-struct Room {
-    left: usize,
-    short: bool,
-}
-
-enum Measured {
-    Foreign(usize),
-    Short,
-    Fits,
-}
-
 // ---- an instruction's line
 
 fn name_length(row: usize) -> usize
@@ -110,14 +97,15 @@ fn name_length(row: usize) -> usize
     LENGTHS[row] as usize
 }
 
-fn put_name(row: usize, out: &mut [u8], at: usize) -> usize
-    requires { ⌜ (row < 53) × (at + length (name-at row) ≤ length (now out)) ⌝ }
+// The table is lent, since an indexed constant is built anew at each use.
+fn put_name(table: &[u8], row: usize, out: &mut [u8], at: usize) -> usize
+    requires { ⌜ (now table ≡ names) × (row < 53) × (at + length (name-at row) ≤ length (now out)) ⌝ }
     ensures { λ r. ⌜ (now (out .exit) ≡ sets (now (out .entry)) at (name-at row)) × (r ≡ at + length (name-at row)) ⌝ }
 {
     let a = 8 * row;
     let k = name_length(row);
     let e = a + k;
-    crate::put_bytes(&NAMES[a..e], out, at);
+    crate::put_bytes(&table[a..e], out, at);
     at + k
 }
 
@@ -213,9 +201,8 @@ fn instr_length(offset: u64, i: Instr) -> usize
     crate::decimal_length(offset) + name_length(encoder::row(i)) + values_length(operands_of(i)) + 2
 }
 
-// 0 where the word is foreign.
 fn line_length(constants: usize, offset: usize, word: u32) -> usize
-    ensures { λ r. ⌜ (r ≡ length (listing-line constants offset word)) × (eqb r 0 ≡ foreign constants offset word) × (r ≤ 140) ⌝ }
+    ensures { λ r. ⌜ (r ≡ length (listing-line constants offset word)) × (r ≤ 140) ⌝ }
 {
     if offset >= constants {
         return crate::decimal_length(offset as u64) + 15;
@@ -265,14 +252,14 @@ fn put_values(s: Operands, out: &mut [u8], at: usize) -> usize
     e
 }
 
-fn put_instr(offset: u64, i: Instr, out: &mut [u8], at: usize) -> usize
-    requires { ⌜ at + length (instr-line offset (instr-of i)) ≤ length (now out) ⌝ }
+fn put_instr(table: &[u8], offset: u64, i: Instr, out: &mut [u8], at: usize) -> usize
+    requires { ⌜ (now table ≡ names) × (at + length (instr-line offset (instr-of i)) ≤ length (now out)) ⌝ }
     ensures { λ r. ⌜ (now (out .exit) ≡ sets (now (out .entry)) at (instr-line offset (instr-of i)))
         × (r ≡ at + length (instr-line offset (instr-of i))) ⌝ }
 {
     let e = crate::put_decimal(offset, out, at);
     out[e] = 44;
-    let f = put_name(encoder::row(i), out, e + 1);
+    let f = put_name(table, encoder::row(i), out, e + 1);
     let g = put_values(operands_of(i), out, f);
     out[g] = 10;
     g + 1
@@ -289,8 +276,15 @@ fn put_data(offset: u64, word: u32, out: &mut [u8], at: usize) -> usize
     e + 15
 }
 
-fn put_line(constants: usize, offset: usize, word: u32, out: &mut [u8], at: usize) -> usize
-    requires { ⌜ at + length (listing-line constants offset word) ≤ length (now out) ⌝ }
+fn put_line(
+    table: &[u8],
+    constants: usize,
+    offset: usize,
+    word: u32,
+    out: &mut [u8],
+    at: usize,
+) -> usize
+    requires { ⌜ (now table ≡ names) × (at + length (listing-line constants offset word) ≤ length (now out)) ⌝ }
     ensures { λ r. ⌜ (now (out .exit) ≡ sets (now (out .entry)) at (listing-line constants offset word))
         × (r ≡ at + length (listing-line constants offset word)) ⌝ }
 {
@@ -299,54 +293,41 @@ fn put_line(constants: usize, offset: usize, word: u32, out: &mut [u8], at: usiz
     }
     let d = decoder::decode(word);
     match d {
-        Decoded::Is(i) => put_instr(offset as u64, i, out, at),
+        Decoded::Is(i) => put_instr(table, offset as u64, i, out, at),
         Decoded::Foreign => at,
     }
 }
 
 // ---- all lines
 
-fn spend(r: Room, k: usize) -> Room
-    ensures { λ s. ⌜ s ≡ spent r k ⌝ }
+// Whether the lines fit into room bytes.
+fn lines_fit(code: &[u8], constants: usize, room: usize) -> bool
+    ensures { λ r. ⌜ r ≡ leb (length (listing-lines constants 0 (words-of (now (code .entry))))) room ⌝ }
 {
-    if r.short {
-        return r;
-    }
-    if r.left < k {
-        return Room {
-            left: 0,
-            short: true,
-        };
-    }
-    Room {
-        left: r.left - k,
-        short: false,
-    }
-}
-
-// Where the first foreign word is; else whether the lines fit into room bytes.
-fn measure(code: &[u8], constants: usize, room: usize) -> Measured
-    ensures { λ r. ⌜ r ≡ measured (foreign-from constants 0 (words-of (now (code .entry))))
-        (leb (length (listing-lines constants 0 (words-of (now (code .entry))))) room) ⌝ }
-{
-    let mut r = Room {
-        left: room,
-        short: false,
-    };
+    let mut left = room;
     let mut i = 0;
     while code.len() - i >= 4 {
         let k = line_length(constants, i, crate::word_at(code, i));
-        if k == 0 {
-            return Measured::Foreign(i);
+        if left < k {
+            return false;
         }
-        r = spend(r, k);
+        left -= k;
         i += 4;
     }
-    if r.short {
-        Measured::Short
-    } else {
-        Measured::Fits
+    true
+}
+
+// The same; room for the longest listing of 65,536 bytes needs no count.
+fn have_room(code: &[u8], constants: usize, room: usize) -> bool
+    ensures { λ r. ⌜ r ≡ leb (length (listing-lines constants 0 (words-of (now (code .entry))))) room ⌝ }
+{
+    if code.len() > 65536 {
+        return lines_fit(code, constants, room);
     }
+    if room < 475136 {
+        return lines_fit(code, constants, room);
+    }
+    true
 }
 
 fn put_lines(code: &[u8], constants: usize, out: &mut [u8]) -> usize
@@ -354,42 +335,53 @@ fn put_lines(code: &[u8], constants: usize, out: &mut [u8]) -> usize
     ensures { λ r. ⌜ (now (out .exit) ≡ sets (now (out .entry)) 0 (listing-lines constants 0 (words-of (now (code .entry)))))
         × (r ≡ length (listing-lines constants 0 (words-of (now (code .entry))))) ⌝ }
 {
+    let table = NAMES;
     let mut at = 0;
     let mut i = 0;
     while code.len() - i >= 4 {
         let w = crate::word_at(code, i);
-        at = put_line(constants, i, w, out, at);
+        at = put_line(&table, constants, i, w, out, at);
         i += 4;
     }
     at
+}
+
+// The lines of code whose constants start at `constants`; a foreign word before them has none.
+pub fn lines_text(code: &[u8], constants: usize, out: &mut [u8]) -> Text
+    ensures { λ r. ⌜ Puts (listing-lines constants 0 (words-of (now (code .entry)))) 0 (now (out .entry)) r (now (out .exit)) ⌝ }
+{
+    if !have_room(code, constants, out.len()) {
+        return Text::TooLong;
+    }
+    let n = put_lines(code, constants, out);
+    Text::Length(n)
+}
+
+// ---- foreign words
+
+fn is_foreign(constants: usize, offset: usize, word: u32) -> bool
+    ensures { λ r. ⌜ r ≡ foreign constants offset word ⌝ }
+{
+    if offset >= constants {
+        return false;
+    }
+    let d = decoder::decode(word);
+    match d {
+        Decoded::Is(_) => false,
+        Decoded::Foreign => true,
+    }
 }
 
 // Where the first word before the constants stands that no accepted instruction has.
 pub fn first_foreign(code: &[u8], constants: usize) -> First
     ensures { λ r. ⌜ first-answer r ≡ foreign-from constants 0 (words-of (now (code .entry))) ⌝ }
 {
-    let m = measure(code, constants, 0);
-    match m {
-        Measured::Foreign(at) => First::At(at),
-        Measured::Short => First::Nowhere,
-        Measured::Fits => First::Nowhere,
-    }
-}
-
-// The listing of code whose constants start at `constants`, or where the first foreign word stands.
-pub fn listing_text(code: &[u8], constants: usize, out: &mut [u8]) -> Listed
-    ensures { λ r. ⌜ (r ≡ listed-in (foreign-from constants 0 (words-of (now (code .entry))))
-        (listing-lines constants 0 (words-of (now (code .entry)))) (now (out .entry)))
-        × (now (out .exit) ≡ left-in (foreign-from constants 0 (words-of (now (code .entry))))
-        (listing-lines constants 0 (words-of (now (code .entry)))) (now (out .entry))) ⌝ }
-{
-    let m = measure(code, constants, out.len());
-    match m {
-        Measured::Foreign(at) => Listed::Foreign(at),
-        Measured::Short => Listed::Text(Text::TooLong),
-        Measured::Fits => {
-            let n = put_lines(code, constants, out);
-            Listed::Text(Text::Length(n))
+    let mut i = 0;
+    while code.len() - i >= 4 {
+        if is_foreign(constants, i, crate::word_at(code, i)) {
+            return First::At(i);
         }
+        i += 4;
     }
+    First::Nowhere
 }

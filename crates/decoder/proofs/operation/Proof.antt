@@ -5,9 +5,12 @@ use lib.Dec.{lit<}
 use lib.ListN.{getD}
 use Rattle.isa.specs.Decode.{cut}
 use Rattle.decoder.specs.Inner.Operation.{operations}
-use Rattle.decoder.proofs.Parts.{small-one}
+use Rattle.decoder.proofs.Parts.{small-one, entry-small}
 use Rattle.decoder.proofs.operation.Statement.{statement}
 use Rattle.decoder.proofs.operation.Tie as tie
+
+cast-entry : tie.Need-cast-entry
+cast-entry c = omega (arith, entry-small (c .place .result))
 
 add-result : tie.Need-add-result
 add-result c =
@@ -27,6 +30,7 @@ operation-spec =
     (λ c κs. search needs)
     (λ c. search needs)
     (λ c. search needs)
+    cast-entry
     (λ c. search needs)
     (λ c. search needs)
     (λ c. search needs)

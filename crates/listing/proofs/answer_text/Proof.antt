@@ -11,10 +11,10 @@ returns : tie.Need-returns
 returns c =
     let g = c .before .before .before .before .before .before in
     let a = g .before .before .before .before .args in
-    all-said (a .answer) (now (a .code)) (now (a .out)) _ _ _ _ _ _ _ (g .answer .given .1) (omega arith) (c .before .before .text-of .ensures)
+    all-said (a .answer) (now (a .code)) (now (a .out)) _ _ _ _ _ _ _ (g .answer .given .1) (omega arith) (c .before .before .lines-text .ensures)
 
-slice-aggregate-text-of : tie.Need-slice-aggregate-text-of
-slice-aggregate-text-of c =
+slice-aggregate-lines-text : tie.Need-slice-aggregate-lines-text
+slice-aggregate-lines-text c =
     let g = c .before .before .before in
     sym (length-take-le _ (now (g .before .before .before .before .args .code)) (omega arith))
 
@@ -22,7 +22,7 @@ returns-2 : tie.Need-returns-2
 returns-2 c =
     let g = c .before .before .before .before .before .before .before in
     let a = g .before .before .before .before .args in
-    part-said (a .answer) (now (a .code)) (now (a .out)) _ _ _ _ _ _ _ (g .answer .given .1) (c .before .before .text-of2 .ensures)
+    part-said (a .answer) (now (a .code)) (now (a .out)) _ _ _ _ _ _ _ (g .answer .given .1) (c .before .before .lines-text2 .ensures)
 
 returns-3 : tie.Need-returns-3
 returns-3 c =
@@ -41,7 +41,7 @@ answer-text-spec =
     (λ c κs. search needs)
     (λ c. search needs)
     returns
-    slice-aggregate-text-of
+    slice-aggregate-lines-text
     (λ c. search needs)
     (λ c κs. search needs)
     (λ c. search needs)

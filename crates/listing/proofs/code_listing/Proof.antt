@@ -6,14 +6,17 @@ use native.Mathlib.Omega.{arith}
 use Prim.Native.Nat.{ℕ}
 use denote.Ref.{now}
 use Rattle.refusal.specs.Answer.{refused}
-use Rattle.listing.specs.declared.CodeAnswer.the-variants as CodeAnswer
-use Rattle.listing.proofs.Listed.{fine, not-fine, cut, was-listed, was-foreign, told, told-as}
+use Rattle.print.specs.Listing.{first-answer}
+use Rattle.listing.proofs.Listed.{fine, not-fine, cut, is-foreign, is-listed, told-lines, told-as}
 use Rattle.listing.proofs.code_listing.Statement.{statement}
 use Rattle.listing.proofs.code_listing.Tie as tie
 
--- the place before the test of the offset
+-- the places before the test of the offset, and before the search
 abbrev start : tie.After-is-offset → tie.Start
 start c = c .before .before .before
+
+abbrev whole : tie.After-first-foreign → tie.Else1
+whole c = c .before .before
 
 in-order : (c : tie.Else1) → fine (now (start (c .before) .args .code)) (start (c .before) .args .constants) ≡ true
 in-order c = sym (c .before .is-offset .ensures) ∙ not-false _ (c .if1 .left)
@@ -35,22 +38,21 @@ returns-2 c =
 
 returns-3 : tie.Need-returns-3
 returns-3 c =
-    let l = c .before .before .before .before .before in
-    let e = l .before .before .before in
+    let f = c .before .before .foreign2 in
+    let g = c .before .before .before .before .before in
+    let l = g .before .before in
+    let e = whole l in
     let a = start (e .before) .args in
-    let p = l .listing-text in
-    told (now (a .code)) (a .constants) (now (a .out)) _ (record { answer = CodeAnswer.Listed; text = c .before .l .given .0 .0 }) (was-listed (now (a .code)) (a .constants) (in-order e) (l .before .before .if2 .left) (p .result) (now (a .out)) _ (p .ensures .0) (p .ensures .1) _ (c .before .l .given .1))
+    told-as (now (a .code)) (a .constants) (now (a .out)) _ (f .result) _ (is-foreign (now (a .code)) (a .constants) (in-order e) (l .before .if2 .left) _ (sym (ap first-answer (g .first .given .1)) ∙ l .first-foreign .ensures)) (f .ensures)
 
 returns-4 : tie.Need-returns-4
 returns-4 c =
-    let f = c .before .before .foreign2 in
-    let g = c .before .before .before .before .before in
-    let l = g .before .before .before .before in
-    let e = l .before .before .before in
+    let p = c .before .before .lines-text in
+    let g = c .before .before .before .before in
+    let l = g .before .before in
+    let e = whole l in
     let a = start (e .before) .args in
-    let p = l .listing-text in
-    let w = was-foreign (now (a .code)) (a .constants) (in-order e) (l .before .before .if2 .left) (p .result) (now (a .out)) _ (p .ensures .0) (p .ensures .1) _ (g .l2 .given .1) in
-    told-as (now (a .code)) (a .constants) (now (a .out)) _ (f .result) _ (w .0) (rw (w .1) at (f .ensures))
+    told-lines (now (a .code)) (a .constants) (now (a .out)) _ (p .result) (is-listed (now (a .code)) (a .constants) (in-order e) (l .before .if2 .left) (sym (ap first-answer (g .enum-told .given .1)) ∙ l .first-foreign .ensures)) (p .ensures)
 
 pub code-listing-spec : {M : Type 1} → statement M
 code-listing-spec =
@@ -66,6 +68,7 @@ code-listing-spec =
     returns-2
     (λ c κs. search needs)
     (λ c. search needs)
+    (λ c κs. search needs)
     (λ c. search needs)
     (λ c κs. search needs)
     (λ c. search needs)

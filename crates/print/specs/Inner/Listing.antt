@@ -1,7 +1,6 @@
--- How the code makes the listing's text: names in one table, operands as numbers, and the room that is left.
-use mathlib.Core.Bool.{Bool, true, false, cond}
+-- How the code makes the listing's text: names in one table, operands as numbers.
+use mathlib.Core.Bool.{cond}
 use mathlib.Core.List.{List, [], _∷_, _++_}
-use mathlib.Core.Option.{Option, some, none}
 use mathlib.Core.Path.{_≡_}
 use Prim.Native.Nat.{ℕ, _-_, _*_, _^_, _≤_}
 use lib.Dec.{ltb}
@@ -9,9 +8,6 @@ use lib.ListN.{length, getD, take, drop}
 use Rattle.text.specs.Ascii.{bytes}
 use Rattle.text.specs.Digits.{decimal}
 use Rattle.print.specs.declared.listing.Operands.{Operands}
-use Rattle.print.specs.declared.listing.Room.{Room}
-use Rattle.print.specs.declared.listing.Measured.{Measured}
-use Rattle.print.specs.declared.listing.Measured.the-variants.{Foreign, Short, Fits}
 
 -- ---- the table of names, in the order of the table of base words, eight bytes each
 
@@ -39,15 +35,3 @@ value-text v = cond (ltb v (2 ^ 32)) (decimal v) (45 ∷ decimal (v - 2 ^ 32))
 unfoldable pub values-text : List ℕ → List ℕ
 values-text [] = []
 values-text (v ∷ vs) = 44 ∷ (value-text v ++ values-text vs)
-
--- ---- the room that is left
-
-abbrev pub spent : Room → (k : ℕ) → Room
-spent r k =
-    cond (r .short) r
-    (cond (ltb (r .left) k) (record { left = 0; short = true }) (record { left = r .left - k; short = false }))
-
-abbrev pub measured : (first : Option ℕ) → (fits : Bool) → Measured
-measured (some place) fits = Foreign place
-measured none true = Fits
-measured none false = Short

@@ -1,31 +1,56 @@
 use borrow.Author.Needs.{needs}
-use mathlib.Core.Path.{sym, _∙_}
-use lib.Dec.{leb}
+use mathlib.Core.Path.{_≡_, refl, sym, _∙_}
+use Prim.Native.Nat.{_-_, _≤_}
+use native.Mathlib.Omega.{arith}
 use lib.ListN.{length}
 use denote.Ref.{now}
-use Rattle.print.proofs.Listings.{first-from, lines-from, was-foreign, was-short, was-enough}
+use Rattle.print.proofs.Listings.{first-from, no-first, first-here, first-behind}
 use Rattle.print.proofs.listing.first_foreign.Statement.{statement}
 use Rattle.print.proofs.listing.first_foreign.Tie as tie
 
-returns : tie.Need-returns
+abbrev Inv-loop : tie.InvT-loop
+Inv-loop code constants i₀ i = (i ≤ length code) × (first-from constants code 0 ≡ first-from constants code i)
+
+abbrev μ-loop : tie.MeasureT-loop
+μ-loop code constants i₀ i = length code - i
+
+loop-holds : tie.Need-loop-holds Inv-loop μ-loop
+loop-holds c = (omega arith, refl)
+
+returns : tie.Need-returns Inv-loop μ-loop
 returns c =
-    let m = c .before .before .before in
-    let a = m .before .before .args in
-    sym (was-foreign _ (first-from (a .constants) (now (a .code)) 0) (leb (length (lines-from (a .constants) (now (a .code)) 0)) 0) (sym (m .measure .ensures) ∙ c .before .m .given .1))
+    let f = c .before .is-foreign in
+    let w = c .before .before .word-at in
+    let l = c .before .before .before .before .loop in
+    let a = c .before .before .before .before .before .before .args in
+    sym (l .inv .1 ∙ first-here (a .constants) (now (a .code)) (l .i) _ (omega arith) (w .ensures) (sym (f .ensures) ∙ c .if1 .taken))
 
-returns-2 : tie.Need-returns-2
+loop-again : tie.Need-loop-again Inv-loop μ-loop
+loop-again c =
+    let f = c .before .is-foreign in
+    let w = c .before .before .word-at in
+    let l = c .before .before .before .before .loop in
+    let a = c .before .before .before .before .before .before .args in
+    (omega arith, l .inv .1 ∙ first-behind (a .constants) (now (a .code)) (l .i) _ (omega arith) (w .ensures) (sym (f .ensures) ∙ c .if1 .left))
+
+returns-2 : tie.Need-returns-2 Inv-loop μ-loop
 returns-2 c =
-    let m = c .before .before in
-    let a = m .before .before .args in
-    sym (was-short (first-from (a .constants) (now (a .code)) 0) (leb (length (lines-from (a .constants) (now (a .code)) 0)) 0) (sym (m .measure .ensures) ∙ c .enum-told .given .1) .0)
-
-returns-3 : tie.Need-returns-3
-returns-3 c =
-    let m = c .before .before in
-    let a = m .before .before .args in
-    sym (was-enough (first-from (a .constants) (now (a .code)) 0) (leb (length (lines-from (a .constants) (now (a .code)) 0)) 0) (sym (m .measure .ensures) ∙ c .enum-told2 .given .1) .0)
+    let l = c .before .loop in
+    let a = c .before .before .before .args in
+    sym (l .inv .1 ∙ no-first (a .constants) (now (a .code)) (l .i) (omega arith))
 
 pub first-foreign-spec : {M : Type 1} → statement M
 first-foreign-spec =
     tie.close
-    (tie.spec (λ c κs. search needs) (λ c. search needs) (λ c. search needs) (λ c. search needs) returns returns-2 returns-3)
+    (tie.spec
+    Inv-loop
+    μ-loop
+    loop-holds
+    (λ c. search needs)
+    (λ c κs. search needs)
+    (λ c κs. search needs)
+    returns
+    (λ c. search needs)
+    (λ c. search needs)
+    loop-again
+    returns-2)

@@ -1,13 +1,11 @@
 use borrow.Author.Needs.{needs}
 use mathlib.Core.Path.{sym, ap, _∙_}
-use Prim.Native.Nat.{_+_}
 use native.Mathlib.Omega.{arith}
-use borrow.Author.Tests.{ne-eqb}
 use lib.ListN.{length}
 use Rattle.decoder.specs.Decoded.{instr-answer}
 use Rattle.encoder.specs.Instr.{instr-of}
 use Rattle.print.proofs.Counts.{decimal-short}
-use Rattle.print.proofs.Listings.{length-instr-line, length-data-line, data-at, data-own, instr-at, instr-own, no-line, is-foreign}
+use Rattle.print.proofs.Listings.{length-data-line, data-at, instr-at, no-line}
 use Rattle.print.proofs.listing.line_length.Statement.{statement}
 use Rattle.print.proofs.listing.line_length.Tie as tie
 
@@ -19,26 +17,23 @@ returns c =
     let a = c .before .before .args in
     let d = c .decimal-length .ensures .0 in
     let l = length-data-line (a .offset) (a .word) in
-    let s = decimal-short 19 (a .offset) (omega arith) in
     let e = ap length (data-at (a .constants) (a .offset) (a .word) (omega arith)) in
-    (omega (arith, d, l, e), ne-eqb (c .decimal-length .result + 15) 0 (λ z. omega (arith, z)) ∙ sym (data-own (a .constants) (a .offset) (a .word) (omega arith)), omega (arith, d, s))
+    (omega (arith, d, l, e), omega (arith, d, decimal-short 19 (a .offset) (omega arith)))
 
 returns-2 : tie.Need-returns-2
 returns-2 c =
     let d = c .before .before .before .before in
     let a = d .before .before .args in
     let e = sym (d .decode .ensures) ∙ ap instr-answer (c .before .before .d .given .1) in
-    let j = instr-of (c .before .before .d .given .0 .0) in
-    let i = c .instr-length in
-    let l = length-instr-line (a .offset) j in
-    (i .ensures .0 ∙ sym (ap length (instr-at (a .constants) (a .offset) (a .word) j (omega arith) e)), ne-eqb (i .result) 0 (λ z. omega (arith, z, l, i .ensures .0)) ∙ sym (instr-own (a .constants) (a .offset) (a .word) j (omega arith) e), i .ensures .1)
+    let i = c .instr-length .ensures in
+    (i .0 ∙ sym (ap length (instr-at (a .constants) (a .offset) (a .word) (instr-of (c .before .before .d .given .0 .0)) (omega arith) e)), i .1)
 
 returns-3 : tie.Need-returns-3
 returns-3 c =
     let d = c .before .before in
     let a = d .before .before .args in
     let e = sym (d .decode .ensures) ∙ ap instr-answer (c .enum-told .given .1) in
-    (sym (ap length (no-line (a .constants) (a .offset) (a .word) (omega arith) e)), sym (is-foreign (a .constants) (a .offset) (a .word) (omega arith) e), omega arith)
+    (sym (ap length (no-line (a .constants) (a .offset) (a .word) (omega arith) e)), omega arith)
 
 pub line-length-spec : {M : Type 1} → statement M
 line-length-spec =

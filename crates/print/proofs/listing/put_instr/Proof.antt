@@ -15,7 +15,7 @@ use Rattle.print.proofs.listing.put_instr.Tie as tie
 
 -- the places behind offset, row, name and operands
 abbrev start : tie.After-put-decimal → tie.Start
-start c = c .before .before .before
+start c = c .before .before .before .before
 
 abbrev offset-put : tie.After-row → tie.After-put-decimal
 offset-put c = c .before .before .before
@@ -31,27 +31,27 @@ is-named c = named (c .row .result) (instr-of (start (offset-put c) .args .i)) (
 
 put-decimal-requires : tie.Need-put-decimal-requires
 put-decimal-requires c κs =
-    let s = c .before .before in
-    omega (arith, length-instr-line (s .args .offset) (instr-of (s .args .i)), s .pre)
+    let s = c .before .before .before in
+    omega (arith, length-instr-line (s .args .offset) (instr-of (s .args .i)), s .pre .1)
 
 slice-write-out : tie.Need-slice-write-out
 slice-write-out c =
     let d = c .before .before in
     let s = start d in
-    omega (arith, length-instr-line (s .args .offset) (instr-of (s .args .i)), s .pre, d .put-decimal .ensures .1, d .put-decimal .kept .1 .0)
+    omega (arith, length-instr-line (s .args .offset) (instr-of (s .args .i)), s .pre .1, d .put-decimal .ensures .1, d .put-decimal .kept .1 .0)
 
 add-put-name : tie.Need-add-put-name
 add-put-name c =
     let d = offset-put (c .before) in
     let s = start d in
-    omega (arith, length-instr-line (s .args .offset) (instr-of (s .args .i)), s .pre, d .put-decimal .ensures .1)
+    omega (arith, length-instr-line (s .args .offset) (instr-of (s .args .i)), s .pre .1, d .put-decimal .ensures .1)
 
 put-name-requires : tie.Need-put-name-requires
 put-name-requires c κs =
     let r = c .before in
     let d = offset-put r in
     let s = start d in
-    (r .row .ensures .0, simp length-set (omega (arith, length-instr-line (s .args .offset) (instr-of (s .args .i)), s .pre, d .put-decimal .ensures .1, d .put-decimal .kept .1 .0, ap length (is-named r))))
+    (s .pre .0, r .row .ensures .0, simp length-set (omega (arith, length-instr-line (s .args .offset) (instr-of (s .args .i)), s .pre .1, d .put-decimal .ensures .1, d .put-decimal .kept .1 .0, ap length (is-named r))))
 
 put-values-requires : tie.Need-put-values-requires
 put-values-requires c κs =
@@ -60,7 +60,7 @@ put-values-requires c κs =
     let d = offset-put r in
     let s = start d in
     let o = c .before .operands-of in
-    (o .ensures .0, omega (arith, length-instr-line (s .args .offset) (instr-of (s .args .i)), s .pre, d .put-decimal .ensures .1, d .put-decimal .kept .1 .0, ap length (is-named r), n .put-name .ensures .1, simp length-set at (n .put-name .kept .1 .0), ap length (o .ensures .1)))
+    (o .ensures .0, omega (arith, length-instr-line (s .args .offset) (instr-of (s .args .i)), s .pre .1, d .put-decimal .ensures .1, d .put-decimal .kept .1 .0, ap length (is-named r), n .put-name .ensures .1, simp length-set at (n .put-name .kept .1 .1 .0), ap length (o .ensures .1)))
 
 slice-write-out-2 : tie.Need-slice-write-out-2
 slice-write-out-2 c =
@@ -70,7 +70,7 @@ slice-write-out-2 c =
     let d = offset-put r in
     let s = start d in
     let o = v .before .before .operands-of in
-    omega (arith, length-instr-line (s .args .offset) (instr-of (s .args .i)), s .pre, d .put-decimal .ensures .1, d .put-decimal .kept .1 .0, ap length (is-named r), n .put-name .ensures .1, simp length-set at (n .put-name .kept .1 .0), ap length (o .ensures .1), v .put-values .ensures .1, v .put-values .kept .1 .0)
+    omega (arith, length-instr-line (s .args .offset) (instr-of (s .args .i)), s .pre .1, d .put-decimal .ensures .1, d .put-decimal .kept .1 .0, ap length (is-named r), n .put-name .ensures .1, simp length-set at (n .put-name .kept .1 .1 .0), ap length (o .ensures .1), v .put-values .ensures .1, v .put-values .kept .1 .0)
 
 add-result : tie.Need-add-result
 add-result c =
@@ -80,14 +80,14 @@ add-result c =
     let d = offset-put r in
     let s = start d in
     let o = v .before .before .operands-of in
-    omega (arith, length-instr-line (s .args .offset) (instr-of (s .args .i)), s .pre, d .put-decimal .ensures .1, ap length (is-named r), n .put-name .ensures .1, ap length (o .ensures .1), v .put-values .ensures .1)
+    omega (arith, length-instr-line (s .args .offset) (instr-of (s .args .i)), s .pre .1, d .put-decimal .ensures .1, ap length (is-named r), n .put-name .ensures .1, ap length (o .ensures .1), v .put-values .ensures .1)
 
 same-length : tie.Need-same-length
 same-length c =
     let v = c .before .before in
     let n = name-put v in
     let d = offset-put (row-told n) in
-    simp length-set (omega (arith, v .put-values .kept .1 .0, simp length-set at (n .put-name .kept .1 .0), d .put-decimal .kept .1 .0))
+    simp length-set (omega (arith, v .put-values .kept .1 .0, simp length-set at (n .put-name .kept .1 .1 .0), d .put-decimal .kept .1 .0))
 
 returns : tie.Need-returns
 returns c =

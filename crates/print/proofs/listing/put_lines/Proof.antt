@@ -10,32 +10,32 @@ use Rattle.print.proofs.listing.put_lines.Statement.{statement}
 use Rattle.print.proofs.listing.put_lines.Tie as tie
 
 abbrev Inv-loop : tie.InvT-loop
-Inv-loop code constants out₀ at₀ i₀ out at i =
+Inv-loop code constants out₀ table at₀ i₀ out at i =
     (i ≤ length code) × (length out ≡ length out₀) × (at + length (lines-from constants code i) ≡ length (lines-from constants code 0))
     × (sets out₀ 0 (lines-from constants code 0) ≡ sets out at (lines-from constants code i))
 
 abbrev μ-loop : tie.MeasureT-loop
-μ-loop code constants out₀ at₀ i₀ out at i = length code - i
+μ-loop code constants out₀ table at₀ i₀ out at i = length code - i
 
 loop-holds : tie.Need-loop-holds Inv-loop μ-loop
 loop-holds c = (omega arith, refl, omega arith, refl)
 
 put-line-requires : tie.Need-put-line-requires Inv-loop μ-loop
 put-line-requires c κs =
-    let l = c .before .before .before .loop in
-    let s = c .before .before .before .before .before .before in
+    let l = c .before .before .before .before .loop in
+    let s = c .before .before .before .before .before .before .before in
     let a = s .args in
-    omega (arith, length-lines (a .constants) (now (a .code)) (l .i) _ (omega arith) (c .before .word-at .ensures), s .pre)
+    (refl, omega (arith, length-lines (a .constants) (now (a .code)) (l .i) _ (omega arith) (c .before .before .word-at .ensures), s .pre))
 
 loop-again : tie.Need-loop-again Inv-loop μ-loop
 loop-again c =
     let p = c .before .before .put-line in
-    let w = c .before .before .before .before .word-at in
-    let l = c .before .before .before .before .before .before .loop in
-    let a = c .before .before .before .before .before .before .before .before .before .args in
+    let w = c .before .before .before .before .before .word-at in
+    let l = c .before .before .before .before .before .before .before .loop in
+    let a = c .before .before .before .before .before .before .before .before .before .before .args in
     let n = length-lines (a .constants) (now (a .code)) (l .i) _ (omega arith) (w .ensures) in (
       omega arith,
-      omega (arith, p .kept .1 .1 .1 .0),
+      omega (arith, p .kept .1 .1 .1 .1 .0),
       omega (arith, n, p .ensures .1),
       l .inv .3 ∙ lines-put (a .constants) (now (a .code)) (l .i) _ (omega arith) (w .ensures) (l .out) _ (l .at) _ (p .ensures .0) (p .ensures .1),
     )
@@ -56,6 +56,7 @@ put-lines-spec =
     loop-holds
     (λ c. search needs)
     (λ c κs. search needs)
+    (λ c. search needs)
     put-line-requires
     (λ c. search needs)
     (λ c. search needs)

@@ -1,9 +1,8 @@
 use borrow.Author.Needs.{needs}
 use mathlib.Core.Path.{sym, ap, _∙_}
-use Prim.Native.Nat.{_+_}
 use native.Mathlib.Omega.{arith}
 use mathlib.Core.List.{List}
-use Prim.Native.Nat.{ℕ}
+use Prim.Native.Nat.{ℕ, _+_}
 use lib.ListN.{length}
 use lib.Seq.{sets}
 use denote.Ref.{now}
@@ -11,37 +10,41 @@ use Rattle.print.proofs.Named.{name-part, length-name, length-short}
 use Rattle.print.proofs.listing.put_name.Statement.{statement}
 use Rattle.print.proofs.listing.put_name.Tie as tie
 
--- the place behind the name's length
-abbrev told : tie.After-put-bytes-arg3 → tie.After-name-length
+-- the places before and behind the name's length
+abbrev start : tie.After-name-length → tie.Start
+start c = c .before .before .before
+
+abbrev told : tie.After-put-bytes → tie.After-name-length
 told c = c .before .before .before
 
 add-e : tie.Need-add-e
-add-e c = omega (arith, c .name-length .ensures, length-short (c .before .before .args .row))
+add-e c = omega (arith, c .name-length .ensures, length-short (start c .args .row))
 
 part-put-bytes-end : tie.Need-part-put-bytes-end
 part-put-bytes-end c =
-    let h = length-short (c .before .before .before .args .row) in
-    let k = c .before .name-length .ensures in
+    let h = length-short (start c .args .row) in
+    let k = c .name-length .ensures in
+    let l = ap length (start c .pre .0) in
     search needs
 
 put-bytes-requires : tie.Need-put-bytes-requires
 put-bytes-requires c κs =
-    let n = told c in
-    let a = n .before .before .args in
-    omega (arith, ap length (name-part (a .row) (n .name-length .result) (n .name-length .ensures)), n .before .before .pre)
+    let n = c .before .before in
+    let s = start n in
+    omega (arith, ap length (name-part (now (s .args .table)) (s .args .row) (n .name-length .result) (s .pre .0) (n .name-length .ensures)), s .pre .2)
 
 add-result : tie.Need-add-result
 add-result c =
-    let n = told (c .before .before .before) in
-    let s = n .before .before in
-    omega (arith, n .name-length .ensures, length-name (s .args .row) (s .pre .0), s .pre .1)
+    let n = told (c .before .before) in
+    let s = start n in
+    omega (arith, n .name-length .ensures, length-name (s .args .row) (s .pre .1), s .pre .2)
 
 returns : tie.Need-returns
 returns c =
-    let n = told (c .before .before .before) in
-    let s = n .before .before in
+    let n = told (c .before .before) in
+    let s = start n in
     let a = s .args in
-    (c .before .before .put-bytes .ensures ∙ ap (λ (l : List ℕ). sets (now (a .out)) (a .at) l) (name-part (a .row) (n .name-length .result) (n .name-length .ensures)), omega (arith, n .name-length .ensures, length-name (a .row) (s .pre .0)))
+    (c .before .before .put-bytes .ensures ∙ ap (λ (l : List ℕ). sets (now (a .out)) (a .at) l) (name-part (now (a .table)) (a .row) (n .name-length .result) (s .pre .0) (n .name-length .ensures)), omega (arith, n .name-length .ensures, length-name (a .row) (s .pre .1)))
 
 pub put-name-spec : {M : Type 1} → statement M
 put-name-spec =
