@@ -1,4 +1,4 @@
-/* Deck files and single orders as RV64 machine words: libhandheld.a (`rt staticlib handheld`).
+/* Deck files and single orders as RV64 machine words, and listings of these: libhandheld.a (`rt staticlib handheld`).
 
    Every function is proved to answer and leave what crates/handheld says, for all arguments that
    meet the terms below. The library keeps nothing between calls, allocates nothing and calls nothing
@@ -86,9 +86,11 @@ enum {
     CODE_LISTED
 };
 
-/* The listing of code whose constants start at offset, into out: a line for each word, before the constants
-   its byte offset, name and operands, all decimal, parted by commas; from there on `offset,data,` and 8
-   hexadecimal digits. Or one line, `refused,number,place`, and no line of code, with the first of these
+/* The listing of code whose constants start at offset, into out, a line for each word. Before the constants:
+   its byte offset, its instruction's name, and the operands, parted by commas; numbers are decimal, registers
+   bare. rd comes first, then rs1, rs2, rs3, then an immediate with its sign, or the rounding field; of a
+   store what is stored, the base, the offset; a branch's or jump's offset is in bytes from the word itself.
+   From the constants on: the byte offset, `data` and 8 hexadecimal digits. Or one line, `refused,number,place`, and no line of code, with the first of these
    that holds: DECK_VALUE, place 0 (offset past the end or at no multiple of 4); DECK_FOREIGN (the first word
    before the constants that no instruction here has, or else a last word cut short, in the constants too).
    Any words may stand behind offset. Answers the number. */

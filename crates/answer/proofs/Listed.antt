@@ -23,7 +23,7 @@ use Rattle.routine.specs.Answer.{routine-answer}
 use Rattle.print.specs.Text.{Puts, le-word, words-of, hex, word-line, word-lines, refusal-line}
 use Rattle.print.specs.declared.Text.{Text}
 use Rattle.print.proofs.Short.{words-short, refusal-short}
-use Rattle.answer.specs.Answer.{answer-text, listing, deck-text}
+use Rattle.answer.specs.Answer.{answer-text, program-text, deck-text}
 
 -- the promise, and the bound
 abbrev pub Tells : (text : List ℕ) → (code out : List ℕ) → Text → (after : List ℕ) → Type 0
@@ -84,7 +84,7 @@ lines-back offset (w ∷ ws) = rw (byte-line offset w, lines-back (offset + 4) w
 -- ---- the promise
 
 module _ (file buf after : List ℕ) (full : length buf ≡ 65536) where
-  of-program : (a : Answer Program) → after ≡ buffer-after a buf → answer-text (summary-answer a) after ≡ listing a
+  of-program : (a : Answer Program) → after ≡ buffer-after a buf → answer-text (summary-answer a) after ≡ program-text a
   unfolding buffer-after
   of-program (refused n line) e = refl
   of-program (accepted p) e =

@@ -15,13 +15,13 @@ answer-text (accepted t) code = code-lines (take (t .length) code)
 answer-text (refused n line) code = refusal-line n line
 
 -- "byte offset (decimal) and word (8 hex digits), or refused,number,line"
-abbrev pub listing : Answer Program → List ℕ
-listing (accepted p) = word-lines 0 (routine-words p)
-listing (refused n line) = refusal-line n line
+abbrev pub program-text : Answer Program → List ℕ
+program-text (accepted p) = word-lines 0 (routine-words p)
+program-text (refused n line) = refusal-line n line
 
 -- of a file, with the buffer at its full size
 unfoldable pub deck-text : (file : List ℕ) → List ℕ
-deck-text file = listing (program-of 65536 file)
+deck-text file = program-text (program-of 65536 file)
 
 -- ---- on standard error
 

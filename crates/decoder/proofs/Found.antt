@@ -119,7 +119,7 @@ laws =
     record {
       reads-back = λ i w e. let q = accepted-valid i w e in ap decode (q .1) ∙ decode-encode i (q .0);
       writes-again = λ w i e. let q = encode-decode w i e in valid-accepted i (q .0) ∙ ap accepted (q .1);
-      one = λ i j w e f.
+      injective = λ i j w e f.
           let p = accepted-valid i w e in
           let q = accepted-valid j w f in
           encode-injective i j (p .0) (q .0) (sym (p .1) ∙ q .1);

@@ -14,4 +14,4 @@ pub record Laws : Type 0 where
   -- "and that instruction writes the word again"
   pub writes-again : (w : ℕ) (i : Instr) → decode w ≡ some i → encoded i ≡ accepted w
   -- "No two different base instructions share a word"
-  pub one : (i j : Instr) (w : ℕ) → encoded i ≡ accepted w → encoded j ≡ accepted w → i ≡ j
+  pub injective : (i j : Instr) (w : ℕ) → encoded i ≡ accepted w → encoded j ≡ accepted w → i ≡ j

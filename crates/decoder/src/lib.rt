@@ -7,7 +7,7 @@ ghost use lib.Dec.{ltb};
 ghost use lib.IntN.{pos, negsuc};
 ghost use Rattle.isa.specs.Decode.{cut, decode};
 ghost use Rattle.encoder.specs.Instr.{instr-of};
-ghost use Rattle.decoder.specs.Decoded.{instr-answer};
+ghost use Rattle.decoder.specs.Decoded.{instr-answer, Proper, ProperAnswer};
 ghost use Rattle.decoder.specs.Inner.Operation.{place-of, operation-of, candidate-of};
 use encoder::Encoded;
 use encoder::Instr;
@@ -188,7 +188,7 @@ fn j_imm(funct3: u32, rs1: u32, rs2: u32, funct7: u32) -> u32
 
 // That operation with the operands that the word's other fields hold.
 fn candidate(operation: u32, word: u32) -> Instr
-    ensures { λ r. ⌜ instr-of r ≡ candidate-of operation (cut word) ⌝ }
+    ensures { λ r. ⌜ (instr-of r ≡ candidate-of operation (cut word)) × Proper r ⌝ }
 {
     let op = (operation % 16) as usize;
     let rd = word / 128 % 32;
@@ -198,16 +198,16 @@ fn candidate(operation: u32, word: u32) -> Instr
     let funct7 = word / 33554432;
     match operation / 16 {
         0 => Instr::R(op, rd, rs1, rs2),
-        1 => Instr::F(op, rd, rs1, rs2, funct3),
-        2 => Instr::C(op, rd, rs1, funct3),
-        3 => Instr::M(op, rd, rs1),
-        4 => Instr::R4(op, rd, rs1, rs2, funct7 / 4, funct3),
-        5 => Instr::I(op, rd, rs1, signed(funct7 * 32 + rs2, 2048)),
-        6 => Instr::Shift(op, rd, rs1, (funct7 % 2 * 32 + rs2) as i32),
-        7 => Instr::S(op, rs1, rs2, signed(funct7 * 32 + rd, 2048)),
-        8 => Instr::B(op, rs1, rs2, signed(b_imm(rd, funct7), 4096)),
+        1 => Instr::F(op % 4, rd, rs1, rs2, funct3),
+        2 => Instr::C(op % 5, rd, rs1, funct3),
+        3 => Instr::M(op % 2, rd, rs1),
+        4 => Instr::R4(op % 4, rd, rs1, rs2, funct7 / 4, funct3),
+        5 => Instr::I(op % 8, rd, rs1, signed(funct7 * 32 + rs2, 2048)),
+        6 => Instr::Shift(op % 3, rd, rs1, (funct7 % 2 * 32 + rs2) as i32),
+        7 => Instr::S(op % 2, rs1, rs2, signed(funct7 * 32 + rd, 2048)),
+        8 => Instr::B(op % 6, rs1, rs2, signed(b_imm(rd, funct7), 4096)),
         9 => Instr::U(
-            op,
+            op % 2,
             rd,
             (funct7 * 8192 + rs2 * 256 + rs1 * 8 + funct3) as i32,
         ),
@@ -217,7 +217,7 @@ fn candidate(operation: u32, word: u32) -> Instr
 
 // The instruction whose word this is.
 pub fn decode(word: u32) -> Decoded
-    ensures { λ r. ⌜ instr-answer r ≡ decode word ⌝ }
+    ensures { λ r. ⌜ (instr-answer r ≡ decode word) × ProperAnswer r ⌝ }
 {
     let i = candidate(operation(word), word);
     let again = encoder::encode(i);

@@ -17,7 +17,7 @@ use Rattle.routine.specs.Routine.{program-of}
 use Rattle.routine.specs.Run.{run}
 use Rattle.routine.proofs.Law.{run-promise}
 use Rattle.print.specs.Text.{word-line, word-lines, refusal-line}
-use Rattle.answer.specs.Answer.{listing, deck-text}
+use Rattle.answer.specs.Answer.{program-text, deck-text}
 use Rattle.handheld.specs.Numbers.{number, deck-numbers, Deck, RunTold}
 use Rattle.handheld.proofs.Shown.{number-told}
 
@@ -46,7 +46,7 @@ unfolding word-lines word-line
 lines-present [] h = h
 lines-present (w ∷ ws) h = simp length-append (omega arith)
 
-listed : (a : Answer Program) → 0 < length (listing a)
+listed : (a : Answer Program) → 0 < length (program-text a)
 unfolding refusal-line
 listed (accepted p) =
     let n = resolved-length (place p) 0 (items p) in

@@ -15,7 +15,7 @@ use Rattle.assembler.specs.State.{Lent}
 use Rattle.listing.specs.Listing.{text-of, deck-listing}
 use Rattle.routine.specs.Run.{RunOutcome, run}
 
--- document 01's number; 0 where the answer is no refusal
+-- the refusal's number; 0 where the answer is none
 abbrev pub number : {A : Type 0} → Answer A → ℕ
 number (accepted a) = 0
 number (refused n place) = n

@@ -7,7 +7,7 @@ use Prim.Native.Nat.{ℕ, zero, suc, _+_, _*_, _%_, _^_, _<_, _≤_}
 use native.Mathlib.Omega.{arith}
 use borrow.Author.Tests.{eq-eqb, le-leb, leb-true, leb-false, ltb-true, ltb-false}
 use lib.Dec.{leb, ltb}
-use lib.ListN.{length, getD, take, length-take}
+use lib.ListN.{length, getD, take, replicate, length-take, length-replicate}
 use lib.Seq.{getD-take, length-take-le, take-all}
 use Rattle.base.proofs.Bools.{join}
 use Rattle.isa.specs.Instr.{Instr}
@@ -21,11 +21,11 @@ use Rattle.ast.specs.declared.Frame.{Frame}
 use Rattle.reading.specs.Program.{Program}
 use Rattle.assembler.specs.Bytes.{bytes}
 use Rattle.call.specs.Layout.{constants-offset, routine-words}
-use Rattle.routine.specs.Routine.{Summary, Promise, program-of, summary-answer}
+use Rattle.routine.specs.Routine.{Summary, Promise, program-of, summary-of, summary-answer, buffer-after}
 use Rattle.routine.specs.Answer.{routine-answer}
 use Rattle.routine.specs.declared.RoutineAnswer.{RoutineAnswer}
 use Rattle.routine.specs.declared.RoutineAnswer.the-variants.{Accepted, Refused}
-use Rattle.correctness.proofs.Correct.{program, told, code-left, extent, words-valid}
+use Rattle.correctness.proofs.Correct.{program, answered, told, code-left, extent, words-valid}
 use Rattle.print.specs.Text.{Puts, refusal-line}
 use Rattle.print.specs.Listing.{foreign}
 use Rattle.print.specs.Inner.Text.{word-in}
@@ -34,7 +34,7 @@ use Rattle.print.proofs.Short.{refusal-short}
 use Rattle.print.proofs.Brief.{listing-short}
 use Rattle.print.proofs.Listings.{first-from, no-first, first-behind, data-own, instr-own}
 use Rattle.listing.specs.Listing.{unless-foreign, listed, text-of, program-listing, deck-listing}
-use Rattle.listing.specs.Never.{NeverRefused}
+use Rattle.listing.specs.Never.{NeverRefused, EveryWord}
 use Rattle.listing.specs.Inner.Listing.{summary-listing}
 use Rattle.listing.proofs.Listed.{fine, lines, whole}
 
@@ -110,6 +110,18 @@ module _ (file buf after : List ℕ) (full : length buf ≡ 65536) where
   deck-told t r out left n h q =
       let e = deck-listed t h in
       (rw (← e) (q .0), h .0 ∙ ap (λ (k : ℕ). summary-answer (program-of k file)) full, rw (← e) (q .1 (omega arith)))
+
+pub every-word : EveryWord
+unfolding deck-listing
+every-word file p e =
+    let buf : List ℕ = replicate 65536 0 in
+    let full : length buf ≡ 65536 = length-replicate {A = ℕ} 65536 0 in
+    let f : program-of (length buf) file ≡ accepted p = ap (λ (n : ℕ). program-of n file) full ∙ e in
+    let h = answered file buf p f in
+    let c = code-left file buf (summary-of p) (buffer-after (accepted p) buf) h p f in
+    ap program-listing e ∙ ap (λ (s : List ℕ). text-of (listed s (constants-offset p))) (sym c)
+    ∙ ap text-of (never-refused file buf (summary-of p) (buffer-after (accepted p) buf) h)
+    ∙ ap (λ (s : List ℕ). lines s (constants-offset p)) c
 
 -- ---- the routine's answer
 

@@ -133,7 +133,7 @@ instr-line offset i = decimal offset ++ (44 ∷ (bytes (name i) ++ (operands-tex
 unfoldable pub data-line : (offset w : ℕ) → List ℕ
 data-line offset w = decimal offset ++ (bytes ",data," ++ (hex w ++ (10 ∷ [])))
 
--- ---- all lines of code whose constants start at an offset
+-- ---- all lines of code; `constants` is the offset where its constants start
 
 abbrev pub line-of : (offset : ℕ) → Option Instr → List ℕ
 line-of offset (some i) = instr-line offset i

@@ -23,7 +23,7 @@ sentences =
     ∷ "unsaved: line 1 must save the register, or the cell keeps a saved one"
     ∷ "line: the line is missing, has a wrong form or end, or cannot stand here"
     ∷ ""
-    ∷ "foreign: a word of the code is no instruction, or the last word is cut short"
+    ∷ "foreign: no instruction here has the word, or the last word is cut short"
     ∷ []
 
 -- a number's sentence; no byte where there is no such number
@@ -34,6 +34,6 @@ refusal-text number = bytes (getD sentences number "")
 unfoldable pub reason-front : (number line : ℕ) → List ℕ
 reason-front number line = bytes "line " ++ (decimal line ++ (bytes ": " ++ (decimal number ++ bytes ", ")))
 
--- what `deckwords` adds on standard error: "line L: N, SENTENCE", and byte 10
+-- what the programs add on standard error: "line L: N, SENTENCE", and byte 10
 unfoldable pub reason-line : (number line : ℕ) → List ℕ
 reason-line number line = reason-front number line ++ (refusal-text number ++ (10 ∷ []))

@@ -40,7 +40,7 @@ word-lines offset (w ∷ ws) = word-line offset w ++ word-lines (offset + 4) ws
 abbrev pub code-lines : List ℕ → List ℕ
 code-lines code = word-lines 0 (words-of code)
 
--- "refused,number,line", and byte 10
+-- "refused,number,line", and byte 10; of code, the place stands for the line
 unfoldable pub refusal-line : (number line : ℕ) → List ℕ
 refusal-line number line = bytes "refused," ++ (decimal number ++ (44 ∷ (decimal line ++ (10 ∷ []))))
 

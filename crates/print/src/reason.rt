@@ -32,8 +32,8 @@ const UNSAVED: [u8; 69] = *b"unsaved: line 1 must save the register, or the cell
 
 const LINE: [u8; 72] = *b"line: the line is missing, has a wrong form or end, or cannot stand here";
 
-const FOREIGN: [u8; 76] =
-    *b"foreign: a word of the code is no instruction, or the last word is cut short";
+const FOREIGN: [u8; 72] =
+    *b"foreign: no instruction here has the word, or the last word is cut short";
 
 // s from the first byte on.
 fn put_text(s: &[u8], out: &mut [u8]) -> Text

@@ -16,13 +16,13 @@ returns-2 : tie.Need-returns-2
 returns-2 c =
     let d = c .before .before in
     let a = d .before .before .args in
-    sym (instr-own (a .constants) (a .offset) (a .word) _ (omega arith) (sym (d .decode .ensures) ∙ ap instr-answer (c .enum-told .given .1)))
+    sym (instr-own (a .constants) (a .offset) (a .word) _ (omega arith) (sym (d .decode .ensures .0) ∙ ap instr-answer (c .enum-told .given .1)))
 
 returns-3 : tie.Need-returns-3
 returns-3 c =
     let d = c .before .before in
     let a = d .before .before .args in
-    sym (is-foreign (a .constants) (a .offset) (a .word) (omega arith) (sym (d .decode .ensures) ∙ ap instr-answer (c .enum-told2 .given .1)))
+    sym (is-foreign (a .constants) (a .offset) (a .word) (omega arith) (sym (d .decode .ensures .0) ∙ ap instr-answer (c .enum-told2 .given .1)))
 
 pub is-foreign-spec : {M : Type 1} → statement M
 is-foreign-spec =

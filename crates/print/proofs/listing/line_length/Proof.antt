@@ -24,7 +24,7 @@ returns-2 : tie.Need-returns-2
 returns-2 c =
     let d = c .before .before .before .before in
     let a = d .before .before .args in
-    let e = sym (d .decode .ensures) ∙ ap instr-answer (c .before .before .d .given .1) in
+    let e = sym (d .decode .ensures .0) ∙ ap instr-answer (c .before .before .d .given .1) in
     let i = c .instr-length .ensures in
     (i .0 ∙ sym (ap length (instr-at (a .constants) (a .offset) (a .word) (instr-of (c .before .before .d .given .0 .0)) (omega arith) e)), i .1)
 
@@ -32,7 +32,7 @@ returns-3 : tie.Need-returns-3
 returns-3 c =
     let d = c .before .before in
     let a = d .before .before .args in
-    let e = sym (d .decode .ensures) ∙ ap instr-answer (c .enum-told .given .1) in
+    let e = sym (d .decode .ensures .0) ∙ ap instr-answer (c .enum-told .given .1) in
     (sym (ap length (no-line (a .constants) (a .offset) (a .word) (omega arith) e)), omega arith)
 
 pub line-length-spec : {M : Type 1} → statement M

@@ -30,7 +30,7 @@ put-instr-requires c κs =
     let d = c .before .before .before .before in
     let s = start d in
     let a = s .args in
-    let e = sym (d .decode .ensures) ∙ ap instr-answer (g .1) in
+    let e = sym (d .decode .ensures .0) ∙ ap instr-answer (g .1) in
     (s .pre .0, omega (arith, ap length (instr-at (a .constants) (a .offset) (a .word) (instr-of (g .0 .0)) (omega arith) e), s .pre .1))
 
 returns-2 : tie.Need-returns-2
@@ -39,14 +39,14 @@ returns-2 c =
     let g = p .before .before .before .d .given in
     let d = p .before .before .before .before .before in
     let a = start d .args in
-    let e = sym (d .decode .ensures) ∙ ap instr-answer (g .1) in
+    let e = sym (d .decode .ensures .0) ∙ ap instr-answer (g .1) in
     rw (instr-at (a .constants) (a .offset) (a .word) (instr-of (g .0 .0)) (omega arith) e) (p .put-instr .ensures)
 
 returns-3 : tie.Need-returns-3
 returns-3 c =
     let d = c .before .before in
     let a = start d .args in
-    let e = sym (d .decode .ensures) ∙ ap instr-answer (c .enum-told .given .1) in
+    let e = sym (d .decode .ensures .0) ∙ ap instr-answer (c .enum-told .given .1) in
     rw (no-line (a .constants) (a .offset) (a .word) (omega arith) e) (refl, omega arith)
 
 pub put-line-spec : {M : Type 1} → statement M
