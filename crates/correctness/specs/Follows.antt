@@ -1,5 +1,5 @@
--- What follows: an accepted file is one program, its code lies in the buffer in whole words, and depends on neither the size nor the contents
--- of the buffer.
+-- What follows: an accepted file is one program, its code lies in the buffer in whole words, and depends on neither the size nor the
+-- contents of the buffer.
 -- Statements; proved in `proofs`.
 use mathlib.Core.Path.{_≡_}
 use mathlib.Core.List.{List}

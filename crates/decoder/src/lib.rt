@@ -1,5 +1,5 @@
-// A word's base instruction (document 02, point 5). A table tells the operation by the word's fixed fields, and the encoder is asked for the
-// word again: where it gives another one, or none, no instruction has the word.
+// A word's base instruction (document 02, point 5). A table tells the operation by the word's fixed fields, and the encoder is asked for
+// the word again: where it gives another one, or none, no instruction has the word.
 ghost use mathlib.Core.Path.{_≡_};
 ghost use mathlib.Core.Bool.{cond};
 ghost use Prim.Native.Nat.{_+_, _*_, _-_, _/_, _%_, _<_, _≤_};

@@ -1,4 +1,5 @@
--- A refusal in words: one plain sentence for each of document 01's "Numbers of refusal" and for 14 of document 02 (docs/DECK.md shows the table).
+-- A refusal in words: one plain sentence for each of document 01's "Numbers of refusal", and for 14 of document 02 (docs/DECK.md shows
+-- the table).
 use mathlib.Core.List.{List, [], _∷_, _++_}
 use Prim.Native.Nat.{ℕ}
 use Prim.Native.String.{String}

@@ -13,8 +13,11 @@ use Rattle.print.specs.declared.listing.Operands.{Operands}
 
 abbrev pub names : List ℕ
 names =
-    bytes
-    "add     sub     sll     xor     srl     sra     or      and     fsgnj.d fsgnjn.dfsgnjx.dfmin.d  fmax.d  fle.d   flt.d   feq.d   fadd.d  fsub.d  fmul.d  fdiv.d  fsqrt.d fcvt.w.dfcvt.l.dfcvt.d.wfcvt.d.lfmv.x.d fmv.d.x fmadd.d fmsub.d fnmsub.dfnmadd.daddi    xori    ori     andi    jalr    ld      fld     addiw   slli    srli    srai    sd      fsd     beq     bne     blt     bge     bltu    bgeu    lui     auipc   jal     "
+    bytes "add     sub     sll     xor     srl     sra     or      and     fsgnj.d fsgnjn.dfsgnjx.dfmin.d  "
+    ++ (bytes "fmax.d  fle.d   flt.d   feq.d   fadd.d  fsub.d  fmul.d  fdiv.d  fsqrt.d fcvt.w.dfcvt.l.dfcvt.d.w"
+    ++ (bytes "fcvt.d.lfmv.x.d fmv.d.x fmadd.d fmsub.d fnmsub.dfnmadd.daddi    xori    ori     andi    jalr    "
+    ++ (bytes "ld      fld     addiw   slli    srli    srai    sd      fsd     beq     bne     blt     bge     "
+    ++ bytes "bltu    bgeu    lui     auipc   jal     ")))
 
 abbrev pub lengths : List ℕ
 lengths =
