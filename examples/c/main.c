@@ -28,14 +28,16 @@ static void reason(uint32_t number) {
 
 /* The file's listing; that of its code, which `code` holds, is the same. */
 static void list_deck(size_t length, size_t code_length, size_t offset) {
-    uint64_t told[3], coded[2];
+    uint64_t told[DECK_LISTED], coded[CODE_LISTED];
     uint32_t number = deck_listing(file, length, listing, sizeof listing, told);
-    fwrite(listing, 1, told[2], stdout);
-    printf("number %" PRIu32 ", line %" PRIu64 ", length %" PRIu64 ", listing %" PRIu64 "\n", number, told[0], told[1], told[2]);
+    fwrite(listing, 1, told[DECK_LISTED_TEXT], stdout);
+    printf("number %" PRIu32 ", line %" PRIu64 ", length %" PRIu64 ", listing %" PRIu64 "\n", number,
+           told[DECK_LISTED_LINE], told[DECK_LISTED_LENGTH], told[DECK_LISTED_TEXT]);
     reason(number);
     if (number) return;
     number = code_listing(code, code_length, offset, again, sizeof again, coded);
-    int same = number == 0 && coded[1] == told[2] && memcmp(again, listing, coded[1]) == 0;
+    int same = number == 0 && coded[CODE_LISTED_TEXT] == told[DECK_LISTED_TEXT]
+               && memcmp(again, listing, coded[CODE_LISTED_TEXT]) == 0;
     puts(same ? "the code has the same listing" : "the code has another listing");
 }
 
@@ -55,11 +57,12 @@ static void deck(size_t length) {
 static void list_code(size_t offset, size_t room) {
     static const uint8_t two[8] = {0x13};
     uint8_t out[64];
-    uint64_t told[2];
+    uint64_t told[CODE_LISTED];
     uint32_t number = code_listing(two, sizeof two, offset, out, room, told);
-    printf("%" PRIu32 " listing: offset %zu, room %zu, place %" PRIu64 ", length %" PRIu64 "\n", number, offset, room, told[0], told[1]);
+    printf("%" PRIu32 " listing: offset %zu, room %zu, place %" PRIu64 ", length %" PRIu64 "\n", number, offset, room,
+           told[CODE_LISTED_PLACE], told[CODE_LISTED_TEXT]);
     reason(number);
-    fwrite(out, 1, told[1], stdout);
+    fwrite(out, 1, told[CODE_LISTED_TEXT], stdout);
 }
 
 static void words(const uint8_t *at, size_t length) {

@@ -8,6 +8,8 @@ use borrow.Author.Tests.{ltb-false}
 use lib.Dec.{ltb}
 use lib.ListN.{length, getD, List·getD-eq-default}
 use lib.IntN.{ℤ}
+use mir.Syntax.{w32}
+use mir.Val.{SFits, toZ, ofZ}
 use Rattle.isa.specs.Instr.{Instr, R, F, C, M, R4, I, Shift, S, B, U, ADD, FADD-D, FSQRT-D, FMV-X-D, FMADD-D, ADDI, SLLI, SD, BEQ, LUI, fixed, f-rounding, c-rounding, operands, registers-hold, valid}
 use Rattle.isa.specs.Decode.{r-ops, f-ops, c-ops, m-ops, r4-ops, i-ops, shift-ops, s-ops, b-ops, u-ops}
 use Rattle.refusal.specs.Answer.{Answer, refused}
@@ -16,6 +18,7 @@ use Rattle.encoder.specs.Instr.{instr-of}
 use Rattle.encoder.specs.declared.Instr as Declared
 use Rattle.encoder.specs.declared.Instr.the-variants as Code
 use Rattle.encoder.proofs.Answers.{bad-register, bad-value}
+use Rattle.encoder.proofs.Signs.{handed}
 
 module _ {K : Type 0} (l : List K) (k : K) (first : getD l 0 k ≡ k) (op r : ℕ) (within : r ≡ cond (ltb op (length l)) op 0) where
   chosen : getD l r k ≡ getD l op k
@@ -55,6 +58,10 @@ is-B i k r a b z e w = ap instr-of e ∙ ap (λ o. B o a b z) (sym (chosen b-ops
 
 pub is-U : (i : Declared.Instr) (k r d : ℕ) (z : ℤ) → i ≡ Code.U k d z → r ≡ cond (ltb k 2) k 0 → instr-of i ≡ U (getD u-ops r LUI) d z
 is-U i k r d z e w = ap instr-of e ∙ ap (λ o. U o d z) (sym (chosen u-ops LUI refl k r w))
+
+-- one whose immediate was handed on
+pub handed-as : (f : ℤ → Instr) (z : ℤ) → SFits w32 z → (i : Declared.Instr) → instr-of i ≡ f z → {a : Answer ℕ} → a ≡ encoded (f (toZ w32 (ofZ w32 z))) → a ≡ encoded (instr-of i)
+handed-as f z h i e p = handed (λ (y : ℤ). encoded (f y)) z h p ∙ ap encoded (sym e)
 
 -- ---- which rounding fields are fixed
 

@@ -6,8 +6,7 @@ use lib.IntN.{ℤ}
 use lib.ListN.{getD}
 use Rattle.isa.specs.Instr.{I, Shift, S, B, U, J, ADDI, SLLI, SD, BEQ, LUI, JAL}
 use Rattle.isa.specs.Decode.{i-ops, shift-ops, s-ops, b-ops, u-ops}
-use Rattle.encoder.proofs.Signs.{handed}
-use Rattle.encoder.proofs.Values.{is-R, is-F, is-C, is-M, is-R4, is-I, is-Shift, is-S, is-B, is-U}
+use Rattle.encoder.proofs.Values.{is-R, is-F, is-C, is-M, is-R4, is-I, is-Shift, is-S, is-B, is-U, handed-as}
 use Rattle.encoder.proofs.value.encode.Statement.{statement}
 use Rattle.encoder.proofs.value.encode.Tie as tie
 
@@ -30,43 +29,37 @@ returns-6 : tie.Need-returns-6
 returns-6 c =
     let e = c .before .before .before .i6 .given in
     let f = e .0 in
-    handed (λ (z : ℤ). encoded (I (getD i-ops (c .before .within6 .result) ADDI) (f .1 .0) (f .1 .1 .0) z)) (f .1 .1 .1 .0) (record { sfits = c .before .before .known-told6 .given .1 .1 .1 .0 .1 }) (c .itype .ensures)
-    ∙ ap encoded (sym (is-I _ _ _ _ _ _ (e .1) (c .before .within6 .ensures .1)))
+    handed-as (λ (z : ℤ). I (getD i-ops (c .before .within6 .result) ADDI) (f .1 .0) (f .1 .1 .0) z) (f .1 .1 .1 .0) (record { sfits = c .before .before .known-told6 .given .1 .1 .1 .0 .1 }) (c .before .before .before .before .before .args .i) (is-I _ _ _ _ _ _ (e .1) (c .before .within6 .ensures .1)) (c .itype .ensures)
 
 returns-7 : tie.Need-returns-7
 returns-7 c =
     let e = c .before .before .before .i7 .given in
     let f = e .0 in
-    handed (λ (z : ℤ). encoded (Shift (getD shift-ops (c .before .within7 .result) SLLI) (f .1 .0) (f .1 .1 .0) z)) (f .1 .1 .1 .0) (record { sfits = c .before .before .known-told7 .given .1 .1 .1 .0 .1 }) (c .shift .ensures)
-    ∙ ap encoded (sym (is-Shift _ _ _ _ _ _ (e .1) (c .before .within7 .ensures .1)))
+    handed-as (λ (z : ℤ). Shift (getD shift-ops (c .before .within7 .result) SLLI) (f .1 .0) (f .1 .1 .0) z) (f .1 .1 .1 .0) (record { sfits = c .before .before .known-told7 .given .1 .1 .1 .0 .1 }) (c .before .before .before .before .before .args .i) (is-Shift _ _ _ _ _ _ (e .1) (c .before .within7 .ensures .1)) (c .shift .ensures)
 
 returns-8 : tie.Need-returns-8
 returns-8 c =
     let e = c .before .before .before .i8 .given in
     let f = e .0 in
-    handed (λ (z : ℤ). encoded (S (getD s-ops (c .before .within8 .result) SD) (f .1 .0) (f .1 .1 .0) z)) (f .1 .1 .1 .0) (record { sfits = c .before .before .known-told8 .given .1 .1 .1 .0 .1 }) (c .stype .ensures)
-    ∙ ap encoded (sym (is-S _ _ _ _ _ _ (e .1) (c .before .within8 .ensures .1)))
+    handed-as (λ (z : ℤ). S (getD s-ops (c .before .within8 .result) SD) (f .1 .0) (f .1 .1 .0) z) (f .1 .1 .1 .0) (record { sfits = c .before .before .known-told8 .given .1 .1 .1 .0 .1 }) (c .before .before .before .before .before .args .i) (is-S _ _ _ _ _ _ (e .1) (c .before .within8 .ensures .1)) (c .stype .ensures)
 
 returns-9 : tie.Need-returns-9
 returns-9 c =
     let e = c .before .before .before .i9 .given in
     let f = e .0 in
-    handed (λ (z : ℤ). encoded (B (getD b-ops (c .before .within9 .result) BEQ) (f .1 .0) (f .1 .1 .0) z)) (f .1 .1 .1 .0) (record { sfits = c .before .before .known-told9 .given .1 .1 .1 .0 .1 }) (c .btype .ensures)
-    ∙ ap encoded (sym (is-B _ _ _ _ _ _ (e .1) (c .before .within9 .ensures .1)))
+    handed-as (λ (z : ℤ). B (getD b-ops (c .before .within9 .result) BEQ) (f .1 .0) (f .1 .1 .0) z) (f .1 .1 .1 .0) (record { sfits = c .before .before .known-told9 .given .1 .1 .1 .0 .1 }) (c .before .before .before .before .before .args .i) (is-B _ _ _ _ _ _ (e .1) (c .before .within9 .ensures .1)) (c .btype .ensures)
 
 returns-10 : tie.Need-returns-10
 returns-10 c =
     let e = c .before .before .before .i10 .given in
     let f = e .0 in
-    handed (λ (z : ℤ). encoded (U (getD u-ops (c .before .within10 .result) LUI) (f .1 .0) z)) (f .1 .1 .0) (record { sfits = c .before .before .known-told10 .given .1 .1 .0 .1 }) (c .utype .ensures)
-    ∙ ap encoded (sym (is-U _ _ _ _ _ (e .1) (c .before .within10 .ensures .1)))
+    handed-as (λ (z : ℤ). U (getD u-ops (c .before .within10 .result) LUI) (f .1 .0) z) (f .1 .1 .0) (record { sfits = c .before .before .known-told10 .given .1 .1 .0 .1 }) (c .before .before .before .before .before .args .i) (is-U _ _ _ _ _ (e .1) (c .before .within10 .ensures .1)) (c .utype .ensures)
 
 returns-11 : tie.Need-returns-11
 returns-11 c =
     let e = c .before .before .i11 .given in
     let f = e .0 in
-    handed (λ (z : ℤ). encoded (J JAL (f .0) z)) (f .1 .0) (record { sfits = c .before .known-told11 .given .1 .0 .1 }) (c .jtype .ensures)
-    ∙ ap (λ i. encoded (instr-of i)) (sym (e .1))
+    handed-as (λ (z : ℤ). J JAL (f .0) z) (f .1 .0) (record { sfits = c .before .known-told11 .given .1 .0 .1 }) (c .before .before .before .before .args .i) (ap instr-of (e .1)) (c .jtype .ensures)
 
 pub encode-spec : {M : Type 1} → statement M
 encode-spec =
