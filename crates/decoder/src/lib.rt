@@ -28,79 +28,79 @@ const BRANCH: u32 = 0b1100011;
 const OP_FP: u32 = 0b1010011;
 
 // Operations as numbers of three hexadecimal digits: what is to be added to the last (0 nothing, 1 funct3, 2 bit 5 of funct7, 3 half of
-// rs2), the shape, and the operation's number there. Where there is none it is `add`, whose word is then another.
+// rs2), the shape, and the operation's number there. 0 where there is none: `add`, whose word is then another.
 const OPERATIONS: [u16; 88] = [
     // by the opcode's upper five bits
-    0x055,
-    0x056,
+    0x055, // ld
+    0x056, // fld
     0x000,
     0x000,
     0x000,
-    0x091,
-    0x057,
+    0x091, // auipc
+    0x057, // addiw
     0x000,
-    0x070,
-    0x071,
-    0x000,
-    0x000,
-    0x000,
-    0x090,
-    0x000,
-    0x000,
-    0x040,
-    0x041,
-    0x042,
-    0x043,
+    0x070, // sd
+    0x071, // fsd
     0x000,
     0x000,
     0x000,
+    0x090, // lui
     0x000,
     0x000,
-    0x054,
+    0x040, // fmadd.d
+    0x041, // fmsub.d
+    0x042, // fnmsub.d
+    0x043, // fnmadd.d
     0x000,
-    0x0a0,
+    0x000,
+    0x000,
+    0x000,
+    0x000,
+    0x054, // jalr
+    0x000,
+    0x0a0, // jal
     0x000,
     0x000,
     0x000,
     0x000,
     // OP, OP-IMM and BRANCH by funct3
-    0x200,
-    0x002,
+    0x200, // add or the next by bit 5 of funct7
+    0x002, // sll
     0x000,
     0x000,
-    0x003,
-    0x204,
-    0x006,
-    0x007,
-    0x050,
-    0x060,
+    0x003, // xor
+    0x204, // srl or the next by bit 5 of funct7
+    0x006, // or
+    0x007, // and
+    0x050, // addi
+    0x060, // slli
     0x000,
     0x000,
-    0x051,
-    0x261,
-    0x052,
-    0x053,
-    0x080,
-    0x081,
+    0x051, // xori
+    0x261, // srli or the next by bit 5 of funct7
+    0x052, // ori
+    0x053, // andi
+    0x080, // beq
+    0x081, // bne
     0x000,
     0x000,
-    0x082,
-    0x083,
-    0x084,
-    0x085,
+    0x082, // blt
+    0x083, // bge
+    0x084, // bltu
+    0x085, // bgeu
     // OP-FP by the upper five bits of funct7
-    0x010,
-    0x011,
-    0x012,
-    0x013,
-    0x108,
-    0x10b,
+    0x010, // fadd.d
+    0x011, // fsub.d
+    0x012, // fmul.d
+    0x013, // fdiv.d
+    0x108, // fsgnj.d and the next by funct3
+    0x10b, // fmin.d and the next by funct3
     0x000,
     0x000,
     0x000,
     0x000,
     0x000,
-    0x020,
+    0x020, // fsqrt.d
     0x000,
     0x000,
     0x000,
@@ -109,17 +109,17 @@ const OPERATIONS: [u16; 88] = [
     0x000,
     0x000,
     0x000,
-    0x10d,
+    0x10d, // fle.d and the next by funct3
     0x000,
     0x000,
     0x000,
-    0x321,
+    0x321, // fcvt.w.d or the next by rs2
     0x000,
-    0x323,
+    0x323, // fcvt.d.w or the next by rs2
     0x000,
-    0x030,
+    0x030, // fmv.x.d
     0x000,
-    0x031,
+    0x031, // fmv.d.x
     0x000,
 ];
 

@@ -27,59 +27,59 @@ const NAMES: [u8; 424] =
     bltu    bgeu    lui     auipc   jal     ";
 
 const LENGTHS: [u8; 53] = [
-    3,
-    3,
-    3,
-    3,
-    3,
-    3,
-    2,
-    3,
-    7,
-    8,
-    8,
-    6,
-    6,
-    5,
-    5,
-    5,
-    6,
-    6,
-    6,
-    6,
-    7,
-    8,
-    8,
-    8,
-    8,
-    7,
-    7,
-    7,
-    7,
-    8,
-    8,
-    4,
-    4,
-    3,
-    4,
-    4,
-    2,
-    3,
-    5,
-    4,
-    4,
-    4,
-    2,
-    3,
-    3,
-    3,
-    3,
-    3,
-    4,
-    4,
-    3,
-    5,
-    3,
+    3, // add
+    3, // sub
+    3, // sll
+    3, // xor
+    3, // srl
+    3, // sra
+    2, // or
+    3, // and
+    7, // fsgnj.d
+    8, // fsgnjn.d
+    8, // fsgnjx.d
+    6, // fmin.d
+    6, // fmax.d
+    5, // fle.d
+    5, // flt.d
+    5, // feq.d
+    6, // fadd.d
+    6, // fsub.d
+    6, // fmul.d
+    6, // fdiv.d
+    7, // fsqrt.d
+    8, // fcvt.w.d
+    8, // fcvt.l.d
+    8, // fcvt.d.w
+    8, // fcvt.d.l
+    7, // fmv.x.d
+    7, // fmv.d.x
+    7, // fmadd.d
+    7, // fmsub.d
+    8, // fnmsub.d
+    8, // fnmadd.d
+    4, // addi
+    4, // xori
+    3, // ori
+    4, // andi
+    4, // jalr
+    2, // ld
+    3, // fld
+    5, // addiw
+    4, // slli
+    4, // srli
+    4, // srai
+    2, // sd
+    3, // fsd
+    3, // beq
+    3, // bne
+    3, // blt
+    3, // bge
+    4, // bltu
+    4, // bgeu
+    3, // lui
+    5, // auipc
+    3, // jal
 ];
 
 // What stands behind an instruction's name: n numbers, 2^32 more for one with a minus.
