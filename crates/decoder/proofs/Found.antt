@@ -10,8 +10,7 @@ use Rattle.isa.specs.Decode.{cut, decode}
 use Rattle.isa.proofs.Validity.{Valid}
 use Rattle.isa.proofs.Laws.{cut-join, fit, up4, twos-small, i-back, u-back, b-back, j-back, shamt-back, encode-decode, encode-injective}
 use Rattle.isa.proofs.Laws.{decode-encode}
-use Rattle.isa.proofs.Validity.{valid-Valid}
-use Rattle.refusal.specs.Answer.{Answer, accepted, refused}
+use Rattle.refusal.specs.Answer.{accepted, refused}
 use Rattle.encoder.specs.Answer.{encoded}
 use Rattle.encoder.proofs.Answers.{accepted-valid, valid-accepted}
 use Rattle.decoder.specs.Inner.Operation.{operation-of, candidate-of}

@@ -1,7 +1,7 @@
 -- The instruction that the decoder answers, or none.
 use mathlib.Core.Option.{Option, some, none}
 use Rattle.isa.specs.Instr.{Instr}
-use Prim.Native.Nat.{ℕ, _<_}
+use Prim.Native.Nat.{_<_}
 use Rattle.encoder.specs.Instr.{instr-of}
 use Rattle.encoder.specs.declared.Instr as Declared
 use Rattle.encoder.specs.declared.Instr.the-variants as Code

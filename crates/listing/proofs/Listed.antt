@@ -3,7 +3,7 @@ use mathlib.Core.Path.{_≡_, refl, sym, ap, _∙_}
 use mathlib.Core.Bool.{Bool, true, false, _&&_, cond}
 use mathlib.Core.List.{List, [], _∷_}
 use mathlib.Core.Option.{Option, some, none, Option·getD}
-use Prim.Native.Nat.{ℕ, suc, _+_, _*_, _/_, _%_, _^_, _<_, _≤_}
+use Prim.Native.Nat.{ℕ, suc, _+_, _*_, _/_, _%_, _≤_}
 use native.Mathlib.Omega.{arith}
 use borrow.Author.Tests.{eq-eqb, ne-eqb}
 use lib.Dec.{eqb, leb}
@@ -14,7 +14,7 @@ use Rattle.print.specs.Listing.{foreign, foreign-from, listing-lines}
 use Rattle.print.specs.declared.Text.{Text}
 use Rattle.print.proofs.Short.{words-few, refusal-short}
 use Rattle.print.proofs.Brief.{listing-short}
-use Rattle.listing.specs.Listing.{unless-foreign, cut-short, listed, text-of, Lists}
+use Rattle.listing.specs.Listing.{unless-foreign, listed, text-of, Lists}
 use Rattle.listing.specs.declared.CodeAnswer.the-variants as CodeAnswer
 use Rattle.listing.specs.declared.CodeListing.{CodeListing}
 

@@ -1,7 +1,7 @@
 -- No listing of at most 65,536 bytes is longer than 475,136 bytes: 16,384 lines of 29. Assumes nothing.
-use mathlib.Core.Path.{_≡_, refl, ap, _∙_}
+use mathlib.Core.Path.{_≡_, refl, ap}
 use mathlib.Core.Bool.{Bool, true, false, cond}
-use mathlib.Core.List.{List, [], _∷_, _++_}
+use mathlib.Core.List.{List, [], _∷_}
 use mathlib.Core.Option.{Option, some, none}
 use Prim.Native.Nat.{ℕ, suc, _+_, _*_, _-_, _^_, _<_, _≤_}
 use native.Mathlib.Omega.{arith}
@@ -9,7 +9,7 @@ use lib.Dec.{ltb}
 use lib.IntN.{ℤ, pos, negsuc}
 use lib.ListN.{length, length-append}
 use lib.Signed.{mag}
-use Rattle.isa.specs.Instr.{Instr, R, F, C, M, R4, I, Shift, S, B, U, J, ROp, FOp, COp, MOp, R4Op, IOp, ShiftOp, SOp, BOp, UOp, JOp, ADD, SUB, SLL, XOR, SRL, SRA, OR, AND, FSGNJ-D, FSGNJN-D, FSGNJX-D, FMIN-D, FMAX-D, FLE-D, FLT-D, FEQ-D, FADD-D, FSUB-D, FMUL-D, FDIV-D, FSQRT-D, FCVT-W-D, FCVT-L-D, FCVT-D-W, FCVT-D-L, FMV-X-D, FMV-D-X, FMADD-D, FMSUB-D, FNMSUB-D, FNMADD-D, ADDI, XORI, ORI, ANDI, JALR, LD, FLD, ADDIW, SLLI, SRLI, SRAI, SD, FSD, BEQ, BNE, BLT, BGE, BLTU, BGEU, LUI, AUIPC, JAL, unsigned, rounding, f-rounding, c-rounding}
+use Rattle.isa.specs.Instr.{Instr, R, F, C, M, R4, I, Shift, S, B, U, J, FOp, COp, ADD, SUB, SLL, XOR, SRL, SRA, OR, AND, FSGNJ-D, FSGNJN-D, FSGNJX-D, FMIN-D, FMAX-D, FLE-D, FLT-D, FEQ-D, FADD-D, FSUB-D, FMUL-D, FDIV-D, FSQRT-D, FCVT-W-D, FCVT-L-D, FCVT-D-W, FCVT-D-L, FMV-X-D, FMV-D-X, FMADD-D, FMSUB-D, FNMSUB-D, FNMADD-D, ADDI, XORI, ORI, ANDI, JALR, LD, FLD, ADDIW, SLLI, SRLI, SRAI, SD, FSD, BEQ, BNE, BLT, BGE, BLTU, BGEU, LUI, AUIPC, JAL, unsigned, rounding, f-rounding, c-rounding}
 use Rattle.isa.specs.Decode.{decode}
 use Rattle.isa.proofs.Validity.{Holds, Valid}
 use Rattle.isa.proofs.Laws.{encode-decode, rounding-small}

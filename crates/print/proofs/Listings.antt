@@ -1,9 +1,9 @@
 -- The listing's lines: their parts, how long they are, and a turn of the loops over the words. Assumes nothing.
 use mathlib.Core.Path.{_≡_, refl, sym, ap, _∙_}
-use mathlib.Core.Bool.{Bool, true, false, _&&_, cond}
+use mathlib.Core.Bool.{true, false, cond}
 use mathlib.Core.List.{List, [], _∷_, _++_}
 use mathlib.Core.Option.{Option, some, none}
-use Prim.Native.Nat.{ℕ, suc, _+_, _-_, _<_, _≤_}
+use Prim.Native.Nat.{ℕ, _+_, _-_, _<_, _≤_}
 use native.Mathlib.Numerals.{add-one}
 use native.Mathlib.Omega.{arith}
 use borrow.Author.Tests.{lt-ltb, le-ltb}
@@ -16,7 +16,7 @@ use Rattle.text.specs.Ascii.{bytes}
 use Rattle.text.specs.Digits.{decimal, digits}
 use Rattle.text.proofs.Numerals.{length-digits}
 use Rattle.print.specs.Text.{words-of, hex}
-use Rattle.print.specs.Listing.{name, shown, operands-text, instr-line, data-line, line-of, listing-line, listing-lines, no-instr, foreign, foreign-from}
+use Rattle.print.specs.Listing.{name, shown, operands-text, instr-line, data-line, listing-line, listing-lines, foreign, foreign-from}
 use Rattle.print.specs.Inner.Text.{word-in}
 use Rattle.print.proofs.Lines.{no-words, more-words}
 use Rattle.print.proofs.Stores.{sets-append}

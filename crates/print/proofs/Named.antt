@@ -1,6 +1,6 @@
 -- The table of names: every row has its instruction's name. One test over the whole table, and what it says at each row. Assumes nothing.
 use mathlib.Core.Path.{_≡_, refl, sym, ap, _∙_}
-use mathlib.Core.Bool.{Bool, true, false, _&&_}
+use mathlib.Core.Bool.{Bool, true, _&&_}
 use mathlib.Core.List.{List, [], _∷_, map}
 use Prim.Native.Nat.{ℕ, zero, suc, _+_, _*_, _-_, _<_, _≤_}
 use native.Mathlib.Omega.{arith}
@@ -27,12 +27,12 @@ chunks (l ∷ ls) ns = take l ns ∷ chunks ls (drop 8 ns)
 table : map name-bytes rows ≡ chunks lengths names
 table = refl
 
-chunk-at : (ls ns : List ℕ) (n : ℕ) → n < length ls → getD (chunks ls ns) n [] ≡ take (getD ls n 0) (drop (8 * n) ns)
-chunk-at [] ns n h = absurd (omega arith)
-chunk-at (l ∷ ls) ns zero h = refl
-chunk-at (l ∷ ls) ns (suc n) h =
+chunk-at : (ls ns : List ℕ) (n : ℕ) (d : List ℕ) → n < length ls → getD (chunks ls ns) n d ≡ take (getD ls n 0) (drop (8 * n) ns)
+chunk-at [] ns n d h = absurd (omega arith)
+chunk-at (l ∷ ls) ns zero d h = refl
+chunk-at (l ∷ ls) ns (suc n) d h =
     let e : 8 + 8 * n ≡ 8 * suc n = omega arith in
-    chunk-at ls (drop 8 ns) n (omega arith) ∙ ap (take (getD ls n 0)) (drop-drop (8 * n) 8 ns ∙ ap (λ (k : ℕ). drop k ns) e)
+    chunk-at ls (drop 8 ns) n d (omega arith) ∙ ap (take (getD ls n 0)) (drop-drop (8 * n) 8 ns ∙ ap (λ (k : ℕ). drop k ns) e)
 
 bare-name : (i : Instr) → name (bare i) ≡ name i
 bare-name (R k d a b) = refl
@@ -47,17 +47,11 @@ bare-name (B k a b z) = refl
 bare-name (U k d z) = refl
 bare-name (J k d z) = refl
 
--- an entry of a mapped list
-module _ {A B : Type 0} (f : A → B) (x : A) (y : B) where
-  at : (l : List A) (n : ℕ) → n < length l → getD (map f l) n y ≡ f (getD l n x)
-  at [] n h = absurd (omega arith)
-  at (a ∷ l) zero h = refl
-  at (a ∷ l) (suc n) h = at l n (omega arith)
-
 pub named : (row : ℕ) (i : Instr) → row < 53 → row-of row ≡ bare i → name-at row ≡ bytes (name i)
 unfolding name-at
 named row i h e =
-    sym (chunk-at lengths names row h) ∙ ap (λ (l : List (List ℕ)). getD l row []) (sym table) ∙ at name-bytes (R ADD 0 0 0) [] rows row h
+    let d : List ℕ = name-bytes (R ADD 0 0 0) in
+    sym (chunk-at lengths names row d h) ∙ ap (λ (l : List (List ℕ)). getD l row d) (sym table) ∙ List·getD-map name-bytes rows row (R ADD 0 0 0)
     ∙ ap name-bytes e ∙ ap bytes (bare-name i)
 
 -- ---- lengths

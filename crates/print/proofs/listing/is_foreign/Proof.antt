@@ -2,7 +2,6 @@ use borrow.Author.Needs.{needs}
 use mathlib.Core.Path.{sym, ap, _∙_}
 use native.Mathlib.Omega.{arith}
 use Rattle.decoder.specs.Decoded.{instr-answer}
-use Rattle.encoder.specs.Instr.{instr-of}
 use Rattle.print.proofs.Listings.{data-own, instr-own, is-foreign}
 use Rattle.print.proofs.listing.is_foreign.Statement.{statement}
 use Rattle.print.proofs.listing.is_foreign.Tie as tie

@@ -2,7 +2,6 @@ use borrow.Author.Needs.{needs}
 use mathlib.Core.Path.{refl, sym, ap, _∙_}
 use native.Mathlib.Omega.{arith}
 use lib.ListN.{length}
-use denote.Ref.{now}
 use Rattle.decoder.specs.Decoded.{instr-answer}
 use Rattle.encoder.specs.Instr.{instr-of}
 use Rattle.print.proofs.Listings.{data-at, instr-at, no-line}

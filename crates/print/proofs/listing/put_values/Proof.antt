@@ -4,7 +4,6 @@ use Prim.Native.Nat.{_+_, _-_, _≤_}
 use native.Mathlib.Omega.{arith}
 use lib.ListN.{length}
 use lib.Seq.{sets}
-use denote.Ref.{now}
 use Rattle.print.proofs.Operands.{rest, next-length, next-put, last}
 use Rattle.print.proofs.listing.put_values.Statement.{statement}
 use Rattle.print.proofs.listing.put_values.Tie as tie
