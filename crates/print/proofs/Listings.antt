@@ -1,22 +1,23 @@
 -- The listing's lines: their parts, how long they are, and a turn of the loops over the words. Assumes nothing.
 use mathlib.Core.Path.{_≡_, refl, sym, ap, _∙_}
-use mathlib.Core.Bool.{true, false, cond}
+use mathlib.Core.Bool.{Bool, true, false, _&&_, cond}
 use mathlib.Core.List.{List, [], _∷_, _++_}
 use mathlib.Core.Option.{Option, some, none}
-use Prim.Native.Nat.{ℕ, _+_, _-_, _<_, _≤_}
+use Prim.Native.Nat.{ℕ, _+_, _-_, _/_, _<_, _≤_}
 use native.Mathlib.Numerals.{add-one}
 use native.Mathlib.Omega.{arith}
-use borrow.Author.Tests.{lt-ltb, le-ltb}
-use lib.Dec.{ltb}
-use lib.ListN.{length, drop, set, length-append}
+use borrow.Author.Tests.{lt-ltb, le-ltb, lt-leb, le-leb, leb-true, eq-eqb, ne-eqb}
+use lib.Dec.{eqb, ltb, leb}
+use lib.ListN.{length, drop, set, getD, length-append, List·getD-eq-default}
 use lib.Seq.{sets}
+use Rattle.base.proofs.Bools.{both, and-false}
 use Rattle.isa.specs.Instr.{Instr}
 use Rattle.isa.specs.Decode.{decode}
 use Rattle.text.specs.Ascii.{bytes}
 use Rattle.text.specs.Digits.{decimal, digits}
 use Rattle.text.proofs.Numerals.{length-digits}
 use Rattle.print.specs.Text.{words-of, hex}
-use Rattle.print.specs.Listing.{name, shown, operands-text, instr-line, data-line, listing-line, listing-lines, foreign, foreign-from}
+use Rattle.print.specs.Listing.{name, shown, operands-text, instr-line, data-line, listing-line, listing-lines, hidden-line, hides, view-line, view-lines, marked, foreign, foreign-from}
 use Rattle.print.specs.Inner.Text.{word-in}
 use Rattle.print.proofs.Lines.{no-words, more-words}
 use Rattle.print.proofs.Stores.{sets-append}
@@ -90,10 +91,72 @@ module _ (constants o w : ℕ) where
   unfolding foreign
   is-foreign h e = rw (lt-ltb o constants h, e)
 
+-- ---- a hidden line
+
+pub length-hidden-line : (o : ℕ) → length (hidden-line o) ≡ length (decimal o) + 15
+unfolding hidden-line
+length-hidden-line o = simp length-append (omega arith)
+
+pub hidden-line-put : (l l1 l2 : List ℕ) (at e o : ℕ) → l1 ≡ sets l at (decimal o) → e ≡ at + length (decimal o) → l2 ≡ sets l1 e (bytes ",data,--------" ++ (10 ∷ []))
+    → l2 ≡ sets l at (hidden-line o)
+unfolding hidden-line
+hidden-line-put l l1 l2 at e o p q r = two-then l l1 l2 at e (decimal o) (bytes ",data,--------" ++ (10 ∷ [])) p q r
+
+module _ (hidden : ℕ → Bool) (constants o w : ℕ) where
+  pub view-hidden : hides hidden constants o ≡ true → view-line hidden constants o w ≡ hidden-line o
+  unfolding view-line
+  view-hidden e = rw e
+
+  pub view-shown : hides hidden constants o ≡ false → view-line hidden constants o w ≡ listing-line constants o w
+  unfolding view-line
+  view-shown e = rw e
+
+  -- a hidden word is a constant's
+  pub hidden-length : hides hidden constants o ≡ true → length (hidden-line o) ≡ length (listing-line constants o w)
+  hidden-length e =
+      let h = leb-true constants o (both (leb constants o) _ e .0) in
+      length-hidden-line o ∙ sym (ap length (data-at constants o w h) ∙ length-data-line o w)
+
+  pub view-length : length (view-line hidden constants o w) ≡ length (listing-line constants o w)
+  view-length = by (hides hidden constants o) refl
+    where
+      by : (t : Bool) → hides hidden constants o ≡ t → length (view-line hidden constants o w) ≡ length (listing-line constants o w)
+      by true e = ap length (view-hidden e) ∙ hidden-length e
+      by false e = ap length (view-shown e)
+
+module _ (hidden : ℕ → Bool) (constants : ℕ) where
+  pub views-length : (o : ℕ) (ws : List ℕ) → length (view-lines hidden constants o ws) ≡ length (listing-lines constants o ws)
+  unfolding view-lines listing-lines
+  views-length o [] = refl
+  views-length o (w ∷ ws) =
+      length-append (view-line hidden constants o w) (view-lines hidden constants (o + 4) ws)
+      ∙ rw (view-length hidden constants o w, views-length (o + 4) ws) (sym (length-append (listing-line constants o w) (listing-lines constants (o + 4) ws)))
+
+-- nothing hidden
+pub all-shown : (constants o : ℕ) (ws : List ℕ) → view-lines (λ k. false) constants o ws ≡ listing-lines constants o ws
+unfolding view-lines listing-lines
+all-shown constants o [] = refl
+all-shown constants o (w ∷ ws) = rw (view-shown (λ k. false) constants o w (and-false (leb constants o)), all-shown constants (o + 4) ws)
+
+-- ---- the marks
+
+module _ (marks : List ℕ) (constants o : ℕ) where
+  pub before-constants : o < constants → hides (marked marks) constants o ≡ false
+  before-constants h = rw (lt-leb constants o h)
+
+  pub marks-end : constants ≤ o → length marks ≤ (o - constants) / 8 → hides (marked marks) constants o ≡ false
+  marks-end h k = rw (le-leb constants o h, List·getD-eq-default marks 0 k)
+
+  pub marks-at : constants ≤ o → hides (marked marks) constants o ≡ marked marks ((o - constants) / 8)
+  marks-at h = rw (le-leb constants o h)
+
 -- ---- from byte i on
 
 abbrev pub lines-from : (constants : ℕ) → List ℕ → ℕ → List ℕ
 lines-from constants s i = listing-lines constants i (words-of (drop i s))
+
+abbrev pub views-from : (hidden : ℕ → Bool) → (constants : ℕ) → List ℕ → ℕ → List ℕ
+views-from hidden constants s i = view-lines hidden constants i (words-of (drop i s))
 
 abbrev pub first-from : (constants : ℕ) → List ℕ → ℕ → Option ℕ
 first-from constants s i = foreign-from constants i (words-of (drop i s))
@@ -125,8 +188,18 @@ module _ (constants : ℕ) (s : List ℕ) (i : ℕ) where
     pub first-behind : foreign constants i w ≡ false → first-from constants s i ≡ first-from constants s (i + 4)
     first-behind f = first-at h ∙ rw (← e, f)
 
-    pub lines-put : (out after : List ℕ) (at next : ℕ) → after ≡ sets out at (listing-line constants i w) → next ≡ at + length (listing-line constants i w)
-        → sets out at (lines-from constants s i) ≡ sets after next (lines-from constants s (i + 4))
-    lines-put out after at next o n =
-        let p : sets out at (lines-from constants s i) ≡ sets out at (listing-line constants i w ++ lines-from constants s (i + 4)) = rw e (ap (sets out at) (more-lines h)) in
-        p ∙ sets-append out at (listing-line constants i w) (lines-from constants s (i + 4)) ∙ rw (o, n)
+module _ (hidden : ℕ → Bool) (constants : ℕ) (s : List ℕ) (i : ℕ) where
+  pub no-views : length s < i + 4 → views-from hidden constants s i ≡ []
+  unfolding view-lines
+  no-views h = ap (view-lines hidden constants i) (no-words s i h)
+
+  more-views : i + 4 ≤ length s → views-from hidden constants s i ≡ view-line hidden constants i (word-in s i) ++ views-from hidden constants s (i + 4)
+  unfolding view-lines
+  more-views h = ap (view-lines hidden constants i) (more-words s i h)
+
+  module _ (w : ℕ) (h : i + 4 ≤ length s) (e : w ≡ word-in s i) where
+    pub views-put : (out after : List ℕ) (at next : ℕ) → after ≡ sets out at (view-line hidden constants i w) → next ≡ at + length (listing-line constants i w)
+        → sets out at (views-from hidden constants s i) ≡ sets after next (views-from hidden constants s (i + 4))
+    views-put out after at next o n =
+        let p : sets out at (views-from hidden constants s i) ≡ sets out at (view-line hidden constants i w ++ views-from hidden constants s (i + 4)) = rw e (ap (sets out at) (more-views h)) in
+        p ∙ sets-append out at (view-line hidden constants i w) (views-from hidden constants s (i + 4)) ∙ rw (o, n, view-length hidden constants i w)

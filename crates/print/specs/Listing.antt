@@ -1,11 +1,12 @@
--- The text of a listing (document 02, point 5).
-use mathlib.Core.Bool.{Bool, true, false, _&&_, cond}
+-- The text of a listing (document 02, points 5 and 10).
+use mathlib.Core.Bool.{Bool, true, false, not, _&&_, cond}
 use mathlib.Core.List.{List, [], _∷_, _++_}
 use mathlib.Core.Option.{Option, some, none}
-use Prim.Native.Nat.{ℕ, _+_}
+use Prim.Native.Nat.{ℕ, _+_, _-_, _/_}
 use Prim.Native.String.{String}
-use lib.Dec.{ltb}
+use lib.Dec.{eqb, ltb, leb}
 use lib.IntN.{ℤ, pos}
+use lib.ListN.{getD}
 use Rattle.isa.specs.Instr.{Instr, R, F, C, M, R4, I, Shift, S, B, U, J, ROp, ADD, SUB, SLL, XOR, SRL, SRA, OR, AND, FSGNJ-D, FSGNJN-D, FSGNJX-D, FMIN-D, FMAX-D, FLE-D, FLT-D, FEQ-D, FOp, FADD-D, FSUB-D, FMUL-D, FDIV-D, COp, FSQRT-D, FCVT-W-D, FCVT-L-D, FCVT-D-W, FCVT-D-L, MOp, FMV-X-D, FMV-D-X, R4Op, FMADD-D, FMSUB-D, FNMSUB-D, FNMADD-D, IOp, ADDI, XORI, ORI, ANDI, JALR, LD, FLD, ADDIW, ShiftOp, SLLI, SRLI, SRAI, SOp, SD, FSD, BOp, BEQ, BNE, BLT, BGE, BLTU, BGEU, UOp, LUI, AUIPC, JOp, JAL}
 use Rattle.isa.specs.Decode.{decode}
 use Rattle.text.specs.Ascii.{bytes}
@@ -147,6 +148,31 @@ listing-line constants offset w = cond (ltb offset constants) (line-of offset (d
 unfoldable pub listing-lines : (constants offset : ℕ) → List ℕ → List ℕ
 listing-lines constants offset [] = []
 listing-lines constants offset (w ∷ ws) = listing-line constants offset w ++ listing-lines constants (offset + 4) ws
+
+-- ---- the same but for hidden constants
+
+-- "eight hyphens in place of the digits"
+unfoldable pub hidden-line : (offset : ℕ) → List ℕ
+hidden-line offset = decimal offset ++ (bytes ",data,--------" ++ (10 ∷ []))
+
+-- the word at this offset is a half of a hidden constant; constant k is the two words from `constants` + 8 × k on
+abbrev pub hides : (hidden : ℕ → Bool) → (constants offset : ℕ) → Bool
+hides hidden constants offset = leb constants offset && hidden ((offset - constants) / 8)
+
+unfoldable pub view-line : (hidden : ℕ → Bool) → (constants offset w : ℕ) → List ℕ
+view-line hidden constants offset w =
+    cond (hides hidden constants offset) (hidden-line offset) (listing-line constants offset w)
+
+unfoldable pub view-lines : (hidden : ℕ → Bool) → (constants offset : ℕ) → List ℕ → List ℕ
+view-lines hidden constants offset [] = []
+view-lines hidden constants offset (w ∷ ws) =
+    view-line hidden constants offset w ++ view-lines hidden constants (offset + 4) ws
+
+-- a byte for each constant: 0 where it shows, and where there is no byte
+abbrev pub marked : (marks : List ℕ) → (k : ℕ) → Bool
+marked marks k = not (eqb (getD marks k 0) 0)
+
+-- ---- foreign words
 
 abbrev pub no-instr : Option Instr → Bool
 no-instr (some i) = false

@@ -1,4 +1,4 @@
-// The listing (document 02, point 5): the text of a word's line, and of all words of the code.
+// The listing (document 02, points 5 and 10): the text of a word's line, and of all words of the code.
 ghost use mathlib.Core.Path.{_≡_};
 ghost use mathlib.Core.List.{[], _∷_, map};
 ghost use lib.IntN.{pos};
@@ -10,7 +10,7 @@ ghost use Rattle.text.specs.Digits.{integer-bytes};
 ghost use Rattle.encoder.specs.Instr.{instr-of};
 ghost use Rattle.print.specs.Text.{words-of, Puts};
 ghost use Rattle.print.specs.Listing.{operands-text, shown, instr-line, data-line, listing-line, listing-lines, foreign};
-ghost use Rattle.print.specs.Listing.{foreign-from, first-answer};
+ghost use Rattle.print.specs.Listing.{foreign-from, first-answer, hidden-line, hides, view-line, view-lines, marked};
 ghost use Rattle.print.specs.Inner.Listing.{names, name-at, lengths, Sound, value-text, values-text};
 use crate::First;
 use crate::Text;
@@ -298,9 +298,53 @@ fn put_line(
     }
 }
 
+// ---- a line that may be hidden
+
+// The word at this offset is a half of a constant that has a mark.
+fn is_hidden(marks: &[u8], constants: usize, offset: usize) -> bool
+    ensures { λ r. ⌜ r ≡ hides (marked (now (marks .entry))) constants offset ⌝ }
+{
+    if offset < constants {
+        return false;
+    }
+    let k = (offset - constants) / 8;
+    if k >= marks.len() {
+        return false;
+    }
+    marks[k] != 0
+}
+
+fn put_hidden(offset: u64, out: &mut [u8], at: usize) -> usize
+    requires { ⌜ at + length (hidden-line offset) ≤ length (now out) ⌝ }
+    ensures { λ r. ⌜ (now (out .exit) ≡ sets (now (out .entry)) at (hidden-line offset)) × (r ≡ at + length (hidden-line offset)) ⌝ }
+{
+    let e = crate::put_decimal(offset, out, at);
+    crate::put_bytes(b",data,--------\n", out, e);
+    e + 15
+}
+
+fn put_view_line(
+    table: &[u8],
+    marks: &[u8],
+    constants: usize,
+    offset: usize,
+    word: u32,
+    out: &mut [u8],
+    at: usize,
+) -> usize
+    requires { ⌜ (now table ≡ names) × (at + length (listing-line constants offset word) ≤ length (now out)) ⌝ }
+    ensures { λ r. ⌜ (now (out .exit) ≡ sets (now (out .entry)) at (view-line (marked (now (marks .entry))) constants offset word))
+        × (r ≡ at + length (listing-line constants offset word)) ⌝ }
+{
+    if is_hidden(marks, constants, offset) {
+        return put_hidden(offset as u64, out, at);
+    }
+    put_line(table, constants, offset, word, out, at)
+}
+
 // ---- all lines
 
-// Whether the lines fit into room bytes.
+// Whether the lines fit into room bytes; a hidden one is as long as one that shows.
 fn lines_fit(code: &[u8], constants: usize, room: usize) -> bool
     ensures { λ r. ⌜ r ≡ leb (length (listing-lines constants 0 (words-of (now (code .entry))))) room ⌝ }
 {
@@ -330,9 +374,10 @@ fn have_room(code: &[u8], constants: usize, room: usize) -> bool
     true
 }
 
-fn put_lines(code: &[u8], constants: usize, out: &mut [u8]) -> usize
+fn put_lines(code: &[u8], constants: usize, marks: &[u8], out: &mut [u8]) -> usize
     requires { ⌜ length (listing-lines constants 0 (words-of (now code))) ≤ length (now out) ⌝ }
-    ensures { λ r. ⌜ (now (out .exit) ≡ sets (now (out .entry)) 0 (listing-lines constants 0 (words-of (now (code .entry)))))
+    ensures { λ r. ⌜ (now (out .exit)
+        ≡ sets (now (out .entry)) 0 (view-lines (marked (now (marks .entry))) constants 0 (words-of (now (code .entry)))))
         × (r ≡ length (listing-lines constants 0 (words-of (now (code .entry))))) ⌝ }
 {
     let table = NAMES;
@@ -340,21 +385,30 @@ fn put_lines(code: &[u8], constants: usize, out: &mut [u8]) -> usize
     let mut i = 0;
     while code.len() - i >= 4 {
         let w = crate::word_at(code, i);
-        at = put_line(&table, constants, i, w, out, at);
+        at = put_view_line(&table, marks, constants, i, w, out, at);
         i += 4;
     }
     at
 }
 
-// The lines of code whose constants start at `constants`; a foreign word before them has none.
-pub fn lines_text(code: &[u8], constants: usize, out: &mut [u8]) -> Text
-    ensures { λ r. ⌜ Puts (listing-lines constants 0 (words-of (now (code .entry)))) 0 (now (out .entry)) r (now (out .exit)) ⌝ }
+// The lines of code whose constants start at `constants`, but for the digits of the constants that have a mark; a foreign word before
+// them has no line.
+pub fn view_text(code: &[u8], constants: usize, marks: &[u8], out: &mut [u8]) -> Text
+    ensures { λ r. ⌜ Puts (view-lines (marked (now (marks .entry))) constants 0 (words-of (now (code .entry)))) 0
+        (now (out .entry)) r (now (out .exit)) ⌝ }
 {
     if !have_room(code, constants, out.len()) {
         return Text::TooLong;
     }
-    let n = put_lines(code, constants, out);
+    let n = put_lines(code, constants, marks, out);
     Text::Length(n)
+}
+
+// The same with nothing hidden.
+pub fn lines_text(code: &[u8], constants: usize, out: &mut [u8]) -> Text
+    ensures { λ r. ⌜ Puts (listing-lines constants 0 (words-of (now (code .entry)))) 0 (now (out .entry)) r (now (out .exit)) ⌝ }
+{
+    view_text(code, constants, &code[..0], out)
 }
 
 // ---- foreign words
