@@ -1,18 +1,30 @@
 -- An accepted file's program is what its lines say, line by line; it has at most 1,008 constants. Assumes nothing.
 use mathlib.Core.Path.{_≡_, refl, sym, ap, subst, _∙_}
-use mathlib.Core.Bool.{true, false}
+use mathlib.Core.Bool.{Bool, true, false}
 use mathlib.Core.List.{List, [], _∷_, _++_, map, append-assoc, append-nil}
+use mathlib.Core.Option.{Option, some, none}
 use Prim.Native.Nat.{ℕ, _≤_}
 use native.Mathlib.Omega.{arith}
 use borrow.Author.Tests.{ltb-true}
-use lib.Dec.{ltb}
+use lib.Dec.{ltb, leb}
+use lib.Ieee.{ofInt, binary64}
+use lib.IntN.{natAbs}
 use lib.ListN.{length, drop, length-append}
 use Rattle.base.proofs.Bools.{T-true, passed}
-use Rattle.refusal.specs.Answer.{Answer, accepted}
+use Rattle.refusal.specs.Answer.{Answer, accepted, refused}
+use Rattle.refusal.specs.declared.Refusal.{Refusal}
+use Rattle.refusal.specs.declared.Refusal.the-variants as Refusal
+use Rattle.ast.specs.Uses.{uses, registers-fit}
+use Rattle.ast.specs.declared.Operand.{Operand}
+use Rattle.ast.specs.declared.Operand.the-variants as Operand
+use Rattle.ast.specs.declared.Constant.the-variants.{Float, Bits}
 use Rattle.ast.specs.Constant.{constant-bits}
 use Rattle.text.specs.Lines.{lines-of}
+use Rattle.form.specs.Text.{DeckLine, text}
+use Rattle.form.specs.Text as Text
 use Rattle.form.specs.Grammar.{said}
-use Rattle.deck.specs.Judge.{Content, line-judged}
+use Rattle.form.proofs.Grammar.{grammar}
+use Rattle.deck.specs.Judge.{Content, demand, operand-judged, judged, line-judged}
 use Rattle.deck.specs.Judge as Deck
 use Rattle.reading.specs.Line.{Line, order, constant}
 use Rattle.reading.specs.Program.{Program, constants}
@@ -82,3 +94,50 @@ module _ (size : ℕ) where
 
 pub lined : (size : ℕ) (file : List ℕ) (p : Program) → program-of size file ≡ accepted p → (length (constants (p .lines)) ≤ 1008) × (map says (drop 1 (lines-of file)) ≡ map content (p .lines))
 lined size file p e = file-lined size (lines-of file) p (taken size file p e .read)
+
+-- ---- one line
+
+-- the program's line that the text of a line is read as
+abbrev pub ReadAs : DeckLine → Line → Type 0
+ReadAs (Text.head H) l = ⊥
+ReadAs (Text.order o) l = l ≡ order o
+ReadAs (Text.float z) l = l ≡ constant (Float (ofInt binary64 z))
+ReadAs (Text.bits n) l = l ≡ constant (Bits n)
+
+not-refused : {n place : ℕ} (l : Line) → refused n place ≡ content l → ⊥
+not-refused (order o) e = let z : _≡_ {A = ℕ} 0 1 = cc in omega arith
+not-refused (constant c) e = let z : _≡_ {A = ℕ} 0 1 = cc in omega arith
+
+demand-met : (b : Bool) (r : Refusal) (a : Answer Content) (l : Line) → demand b r a ≡ content l → a ≡ content l
+demand-met true r a l e = e
+demand-met false r a l e = absurd (not-refused l e)
+
+operand-met : (x : Operand) (a : Answer Content) (l : Line) → operand-judged x a ≡ content l → a ≡ content l
+operand-met Operand.Nothing a l e = e
+operand-met (Operand.Loaded p i) a l e = demand-met (ltb i 4096) Refusal.Count a l e
+operand-met (Operand.Stored p i) a l e = demand-met (ltb i 4096) Refusal.Count a l e
+operand-met (Operand.Constant k) a l e = demand-met (ltb k 1008) Refusal.Count a l e
+operand-met (Operand.GoneTo n) a l e = demand-met (leb n 1023) Refusal.Label a l e
+operand-met (Operand.Set n) a l e = demand-met (leb n 1023) Refusal.Label a l e
+
+same-line : (k l : Line) → content k ≡ content l → l ≡ k
+same-line (order o) (order q) e = cc
+same-line (order o) (constant c) e = let z : _≡_ {A = ℕ} 0 1 = cc in absurd (omega arith)
+same-line (constant c) (order o) e = let z : _≡_ {A = ℕ} 0 1 = cc in absurd (omega arith)
+same-line (constant c) (constant d) e = cc
+
+pub read-as : (t : List ℕ) (l : Line) → says t ≡ content l → (d : DeckLine) × (text d ≡ t) × ReadAs d l
+unfolding line-judged judged
+read-as t l e = by (said t) refl e
+  where
+    by : (o : Option DeckLine) → said t ≡ o → line-judged false o ≡ content l → (d : DeckLine) × (text d ≡ t) × ReadAs d l
+    by none s e = absurd (not-refused l e)
+    by (some (Text.head H)) s e = absurd (not-refused l e)
+    by (some (Text.order o)) s e =
+        let a : Answer Content = operand-judged (uses o .operand) (accepted (Deck.order o)) in
+        let f = demand-met (registers-fit (uses o .registers)) Refusal.Register a l e in
+        (Text.order o, grammar .0 t (Text.order o) s .1, same-line (order o) l (operand-met (uses o .operand) (accepted (Deck.order o)) l f))
+    by (some (Text.float z)) s e =
+        let k : Line = constant (Float (ofInt binary64 z)) in
+        (Text.float z, grammar .0 t (Text.float z) s .1, same-line k l (demand-met (leb (natAbs z) 9007199254740992) Refusal.Value (content k) l e))
+    by (some (Text.bits n)) s e = (Text.bits n, grammar .0 t (Text.bits n) s .1, same-line (constant (Bits n)) l e)

@@ -12,7 +12,7 @@ ghost use Rattle.routine.specs.Routine.{program-of, summary-answer};
 ghost use Rattle.routine.specs.Answer.{routine-answer};
 ghost use Rattle.listing.specs.Listing.{text-of, listed, Lists, deck-listing};
 ghost use Rattle.listing.specs.Views.{deck-view};
-ghost use Rattle.listing.specs.Inner.Listing.{summary-view};
+ghost use Rattle.listing.specs.Inner.Listing.{summary-view, Says};
 ghost use Rattle.listing.specs.Inner.Marks.{hidden-by};
 
 mod marks;
@@ -122,8 +122,8 @@ pub fn code_listing(code: &[u8], constants: usize, out: &mut [u8]) -> CodeListin
 
 // The lines of the routine's code, which stands in the buffer, or the refusal. None of its words is foreign (`NeverRefused`).
 fn answer_text(view: View, file: &[u8], answer: RoutineAnswer, code: &[u8], out: &mut [u8]) -> Text
-    ensures { λ r. ⌜ Puts (summary-view (hidden-by view (now (file .entry))) (routine-answer answer) (now (code .entry))) 0
-        (now (out .entry)) r (now (out .exit)) ⌝ }
+    ensures { λ r. ⌜ Says (summary-view (hidden-by view (now (file .entry))) (routine-answer answer) (now (code .entry)))
+        (now (code .entry)) (now (out .entry)) r (now (out .exit)) ⌝ }
 {
     match answer {
         RoutineAnswer::Accepted(length, constants, _, _, _) => {
