@@ -17,7 +17,6 @@ use Rattle.ast.specs.Constant.{constant-bits}
 use Rattle.ast.specs.Uses.{uses, registers-fit}
 use Rattle.ast.specs.declared.Head.{Head}
 use Rattle.ast.specs.declared.Operand.{Operand}
-use Rattle.ast.specs.declared.Operand.the-variants as Operand
 use Rattle.base.proofs.Bools.{both}
 use Rattle.form.specs.Text.{DeckLine, Fits}
 use Rattle.form.specs.Text as Text
@@ -26,6 +25,7 @@ use Rattle.form.proofs.Grammar.{grammar}
 use Rattle.deck.specs.Judge.{Content, head, order, constant, demand, operand-judged, judged, is-head, line-judged}
 use Rattle.orders.specs.Fault.{fault}
 use Rattle.routine.proofs.LawJudged.{Said, line-said}
+use Rattle.correctness.proofs.Accepts.{operand-cases}
 
 -- what an answer says of its content, beside `LawJudged`
 abbrev Rest : Answer Content → Type 0
@@ -47,12 +47,7 @@ cap-fits h e = rw (both (epilogue-holds h) (cap-holds h) e .1) tt
 -- ---- all lines
 
 operand-rest : (x : Operand) (a : Answer Content) → Rest a → Rest (operand-judged x a)
-operand-rest Operand.Nothing a h = h
-operand-rest (Operand.Loaded p i) a h = demanded (ltb i 4096) Refusal.Count a (λ e. h)
-operand-rest (Operand.Stored p i) a h = demanded (ltb i 4096) Refusal.Count a (λ e. h)
-operand-rest (Operand.Constant k) a h = demanded (ltb k 1008) Refusal.Count a (λ e. h)
-operand-rest (Operand.GoneTo l) a h = demanded (leb l 1023) Refusal.Label a (λ e. h)
-operand-rest (Operand.Set l) a h = demanded (leb l 1023) Refusal.Label a (λ e. h)
+operand-rest x a h = operand-cases Rest a h (λ t. demanded t Refusal.Count a (λ e. h)) (λ t. demanded t Refusal.Label a (λ e. h)) x
 
 judged-rest : (l : DeckLine) → Fits l → Rest (judged l)
 unfolding judged

@@ -16,7 +16,6 @@ use Rattle.refusal.specs.declared.Refusal.{Refusal}
 use Rattle.refusal.specs.declared.Refusal.the-variants as Refusal
 use Rattle.ast.specs.Uses.{uses, registers-fit}
 use Rattle.ast.specs.declared.Operand.{Operand}
-use Rattle.ast.specs.declared.Operand.the-variants as Operand
 use Rattle.ast.specs.declared.Constant.the-variants.{Float, Bits}
 use Rattle.ast.specs.Constant.{constant-bits}
 use Rattle.text.specs.Lines.{lines-of}
@@ -31,7 +30,7 @@ use Rattle.reading.specs.Program.{Program, constants}
 use Rattle.call.specs.Layout.{entry}
 use Rattle.routine.specs.Routine.{placed-at, next-line, with-line, only, room-number, order-number, constant-number, as-line, line-read, lines-read, as-head, head-read, file-read, program-of}
 use Rattle.routine.proofs.LawLines.{constants-order, constants-last}
-use Rattle.correctness.proofs.Accepts.{same, unless-accepts, placed-accepts, then-accepts}
+use Rattle.correctness.proofs.Accepts.{same, unless-accepts, placed-accepts, then-accepts, operand-cases}
 use Rattle.correctness.proofs.Taken.{taken}
 
 -- what a line behind line 1 says
@@ -113,12 +112,7 @@ demand-met true r a l e = e
 demand-met false r a l e = absurd (not-refused l e)
 
 operand-met : (x : Operand) (a : Answer Content) (l : Line) → operand-judged x a ≡ content l → a ≡ content l
-operand-met Operand.Nothing a l e = e
-operand-met (Operand.Loaded p i) a l e = demand-met (ltb i 4096) Refusal.Count a l e
-operand-met (Operand.Stored p i) a l e = demand-met (ltb i 4096) Refusal.Count a l e
-operand-met (Operand.Constant k) a l e = demand-met (ltb k 1008) Refusal.Count a l e
-operand-met (Operand.GoneTo n) a l e = demand-met (leb n 1023) Refusal.Label a l e
-operand-met (Operand.Set n) a l e = demand-met (leb n 1023) Refusal.Label a l e
+operand-met x a l = operand-cases (λ b. b ≡ content l → a ≡ content l) a (λ e. e) (λ t. demand-met t Refusal.Count a l) (λ t. demand-met t Refusal.Label a l) x
 
 same-line : (k l : Line) → content k ≡ content l → l ≡ k
 same-line (order o) (order q) e = cc

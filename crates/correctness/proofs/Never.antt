@@ -17,7 +17,6 @@ use Rattle.refusal.specs.declared.Refusal.{Refusal}
 use Rattle.refusal.specs.declared.Refusal.the-variants as Refusal
 use Rattle.ast.specs.Uses.{uses, registers-fit, index-holds, saves-hold}
 use Rattle.ast.specs.declared.Operand.{Operand}
-use Rattle.ast.specs.declared.Operand.the-variants as Operand
 use Rattle.ast.specs.declared.Order.{Order}
 use Rattle.ast.specs.declared.Order.the-variants.{Unary, Scratched, Binary, Fused, Ifelse, LoadConst, Load, Save, BranchIf, SetLabel}
 use Rattle.text.specs.Lines.{lines-of}
@@ -51,6 +50,7 @@ use Rattle.routine.proofs.LawRoom.{span-words}
 use Rattle.correctness.specs.Refusals.{numbers, Never}
 use Rattle.correctness.proofs.Taken.{AllSet, file-fit}
 use Rattle.correctness.proofs.Whole.{taken-good}
+use Rattle.correctness.proofs.Accepts.{operand-cases}
 
 -- ---- 6: jumps that aren't far
 
@@ -174,12 +174,7 @@ demand-fine true r a h k = k
 demand-fine false r a h k = h
 
 operand-fine : (x : Operand) (a : Answer Content) → Fine a → Fine (operand-judged x a)
-operand-fine Operand.Nothing a h = h
-operand-fine (Operand.Loaded p i) a h = demand-fine (ltb i 4096) Refusal.Count a tt h
-operand-fine (Operand.Stored p i) a h = demand-fine (ltb i 4096) Refusal.Count a tt h
-operand-fine (Operand.Constant k) a h = demand-fine (ltb k 1008) Refusal.Count a tt h
-operand-fine (Operand.GoneTo l) a h = demand-fine (leb l 1023) Refusal.Label a tt h
-operand-fine (Operand.Set l) a h = demand-fine (leb l 1023) Refusal.Label a tt h
+operand-fine x a h = operand-cases Fine a h (λ t. demand-fine t Refusal.Count a tt h) (λ t. demand-fine t Refusal.Label a tt h) x
 
 judged-fine : (l : DeckLine) → Fine (judged l)
 unfolding judged

@@ -18,7 +18,6 @@ use Rattle.ast.specs.Uses.{uses, registers-fit}
 use Rattle.ast.specs.declared.Constant.{Constant}
 use Rattle.ast.specs.declared.Constant.the-variants.{Float, Bits}
 use Rattle.ast.specs.declared.Operand.{Operand}
-use Rattle.ast.specs.declared.Operand.the-variants as Operand
 use Rattle.text.specs.Digits.{digits, word-bytes}
 use Rattle.text.specs.Fields.{onto, commas}
 use Rattle.text.specs.Lines.{lines-of}
@@ -39,6 +38,7 @@ use Rattle.orders.specs.Code.{line-code}
 use Rattle.call.specs.Layout.{span, body, constants-from, entry, exit, code-items, data-items, items, constants-offset, place, routine-words}
 use Rattle.call.proofs.Items.{span-append, resolved-append}
 use Rattle.routine.specs.Routine.{then, unless, next-line, with-line, last-line, only, room-number, order-number, constant-number, placed-at, as-line, line-read, lines-read, as-head, head-read, file-read, closed-off, body-lines, jump-lines, first-line, unset, far, refused-at, finished, program-of, summary-of}
+use Rattle.correctness.proofs.Accepts.{operand-cases}
 
 -- ---- zero in place of bits
 
@@ -198,12 +198,7 @@ demand-blank true r a e = e
 demand-blank false r a e = refl
 
 operand-blank : (x : Operand) (a : Answer Content) → a ≡ mapped blank-content a → operand-judged x a ≡ mapped blank-content (operand-judged x a)
-operand-blank Operand.Nothing a e = e
-operand-blank (Operand.Loaded p i) a e = demand-blank (ltb i 4096) Refusal.Count a e
-operand-blank (Operand.Stored p i) a e = demand-blank (ltb i 4096) Refusal.Count a e
-operand-blank (Operand.Constant k) a e = demand-blank (ltb k 1008) Refusal.Count a e
-operand-blank (Operand.GoneTo l) a e = demand-blank (leb l 1023) Refusal.Label a e
-operand-blank (Operand.Set l) a e = demand-blank (leb l 1023) Refusal.Label a e
+operand-blank x a e = operand-cases (λ b. b ≡ mapped blank-content b) a e (λ t. demand-blank t Refusal.Count a e) (λ t. demand-blank t Refusal.Label a e) x
 
 text-blank : (first : Bool) (t : List ℕ) → line-judged first (said (zeroed t)) ≡ mapped blank-content (line-judged first (said t))
 unfolding zeroed line-judged judged

@@ -69,8 +69,14 @@ unfolding deck-view hidden-in view-lines view-line listing-line instr-line data-
     judged said read split first same read-values read-decimal read-integer read-word read-from counts-hold any-saved items span body constants constants-from prologue epilogue saves reloads saved repeated line-code Orders.code access-code point-code jumps labels li-code sub-stack-code add-stack-code
     allocate-stack-code label-place Code.bytes flatMap resolved place toBits ofInt round
 examples = (
-  (refl, refl), (refl, refl), (refl, refl), (refl, refl), (refl, refl),
-  (refl, refl), (refl, refl), (refl, refl),
+  (refl, refl),
+  (refl, refl),
+  (refl, refl),
+  (refl, refl),
+  (refl, refl),
+  (refl, refl),
+  (refl, refl),
+  (refl, refl),
 )
 
 -- two files that differ only in digits: what `Unseen` asks for can be met

@@ -8,7 +8,6 @@ use borrow.Author.Tests.{ltb-false}
 use lib.Dec.{ltb}
 use lib.ListN.{length, drop}
 use Rattle.ast.specs.declared.Constant.the-variants.{Float, Bits}
-use Rattle.ast.specs.declared.Frame.the-variants.{Fast, Indirect}
 use Rattle.ast.specs.declared.Unary.the-variants.{Fmov, Recip, Round, Floor, Not}
 use Rattle.ast.specs.declared.Scratched.the-variants.{Sign, Frac}
 use Rattle.ast.specs.declared.Binary.the-variants.{Minus, Times, Divide, Gt, Neq, And, Andnot, Or, Xor}
@@ -22,7 +21,7 @@ use Rattle.form.specs.Text.{DeckLine, text}
 use Rattle.form.specs.Text as Text
 use Rattle.reading.specs.Line.{Line, order, constant}
 use Rattle.reading.specs.Program.{Program, constants}
-use Rattle.refusal.specs.Answer.{Answer, accepted}
+use Rattle.refusal.specs.Answer.{accepted}
 use Rattle.routine.specs.Routine.{program-of}
 use Rattle.correctness.proofs.Lined.{says, content, lined, ReadAs, read-as}
 use Rattle.print.specs.Listing.{marked}

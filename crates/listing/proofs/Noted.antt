@@ -2,15 +2,14 @@
 use mathlib.Core.Path.{_≡_, refl, sym, ap, _∙_}
 use mathlib.Core.Bool.{Bool, true, false, not, _&&_, cond}
 use mathlib.Core.List.{List, [], _∷_, _++_, append-assoc, append-nil}
-use Prim.Native.Nat.{ℕ, suc, _+_, _≤_, _<_}
+use Prim.Native.Nat.{ℕ, _+_, _≤_, _<_}
 use native.Mathlib.Omega.{arith}
-use borrow.Author.Tests.{lt-ltb, le-ltb, ltb-true, ltb-false, eq-eqb}
+use borrow.Author.Tests.{lt-ltb, ltb-true, ltb-false}
 use lib.Dec.{eqb, ltb}
 use lib.ListN.{length, take, drop, getD, set, replicate, length-append, length-set, length-take, length-replicate, drop-of-length-le, getD-replicate, List·getD-append, List·getD-eq-default}
 use lib.Seq.{getD-set-same, getD-set-other, getD-at}
 use Rattle.text.specs.Ascii.{bytes}
-use Rattle.text.specs.Lines.{lines-of, first-length, Ends}
-use Rattle.text.specs.Readers.{same}
+use Rattle.text.specs.Lines.{lines-of, Ends}
 use Rattle.text.proofs.Steps.{same-length}
 use Rattle.print.specs.Listing.{marked}
 use Rattle.listing.specs.Inner.Marks.{starts, mark-of, marks-of, hidden-by}

@@ -1,6 +1,6 @@
 -- WHAT THE ATTENDANT CAN'T SEE: digits of `bits` lines alter neither the text nor what the routine tells. Assumes nothing.
 use mathlib.Core.Path.{_≡_, refl, sym, ap, _∙_, fun-ext}
-use mathlib.Core.Bool.{Bool, true, false, cond}
+use mathlib.Core.Bool.{Bool, true}
 use mathlib.Core.List.{List, [], _∷_, _++_, map, flatMap, append-assoc}
 use Prim.Native.Nat.{ℕ, zero, suc, _+_, _*_, _-_, _/_, _%_, _^_, _≤_}
 use native.Mathlib.Nat.{zero-add}
@@ -12,7 +12,6 @@ use Rattle.base.proofs.Bools.{join}
 use Rattle.refusal.specs.Answer.{Answer, accepted, refused}
 use Rattle.ast.specs.Constant.{constant-bits}
 use Rattle.ast.specs.declared.Constant.the-variants.{Float, Bits}
-use Rattle.text.specs.Lines.{lines-of}
 use Rattle.reading.specs.Line.{Line, order, constant}
 use Rattle.reading.specs.Program.{Program, constants}
 use Rattle.assembler.specs.Bytes.{bytes}

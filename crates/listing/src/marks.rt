@@ -1,8 +1,7 @@
 // Which constants of a deck file come from `bits` lines: what the attendant doesn't see follows from the file alone.
 ghost use mathlib.Core.Path.{_≡_};
-ghost use mathlib.Core.List.{List};
-ghost use Prim.Native.Nat.{ℕ, _≤_, _<_};
-ghost use lib.ListN.{length, take, drop, getD};
+ghost use Prim.Native.Nat.{ℕ, _<_};
+ghost use lib.ListN.{length, drop, getD};
 ghost use Rattle.ast.specs.Constant.{constant-limit};
 ghost use Rattle.text.specs.Lines.{lines-of};
 ghost use Rattle.print.specs.Listing.{marked};

@@ -1,14 +1,14 @@
 -- The listing's lines: their parts, how long they are, and a turn of the loops over the words. Assumes nothing.
 use mathlib.Core.Path.{_≡_, refl, sym, ap, _∙_}
-use mathlib.Core.Bool.{Bool, true, false, _&&_, cond}
+use mathlib.Core.Bool.{Bool, true, false, cond}
 use mathlib.Core.List.{List, [], _∷_, _++_}
 use mathlib.Core.Option.{Option, some, none}
 use Prim.Native.Nat.{ℕ, _+_, _-_, _/_, _<_, _≤_}
 use native.Mathlib.Numerals.{add-one}
 use native.Mathlib.Omega.{arith}
-use borrow.Author.Tests.{lt-ltb, le-ltb, lt-leb, le-leb, leb-true, eq-eqb, ne-eqb}
-use lib.Dec.{eqb, ltb, leb}
-use lib.ListN.{length, drop, set, getD, length-append, List·getD-eq-default}
+use borrow.Author.Tests.{lt-ltb, le-ltb, lt-leb, le-leb, leb-true}
+use lib.Dec.{leb}
+use lib.ListN.{length, drop, set, length-append, List·getD-eq-default}
 use lib.Seq.{sets}
 use Rattle.base.proofs.Bools.{both, and-false}
 use Rattle.isa.specs.Instr.{Instr}

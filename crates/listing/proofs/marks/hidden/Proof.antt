@@ -1,9 +1,6 @@
 use borrow.Author.Needs.{needs}
-use mathlib.Core.Path.{_≡_, sym, ap, subst, _∙_}
-use mathlib.Core.List.{List}
-use Prim.Native.Nat.{ℕ}
+use mathlib.Core.Path.{sym, ap, _∙_}
 use denote.Ref.{now}
-use Rattle.print.specs.Listing.{marked}
 use Rattle.listing.specs.Inner.Marks.{hidden-by}
 use Rattle.listing.specs.declared.View.{View}
 use Rattle.listing.proofs.Noted.{nothing-hidden, bits-hidden}
