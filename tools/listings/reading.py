@@ -4,7 +4,7 @@
     reading.py [--data OFFSET] < WORDS      WORDS as `deckwords` prints them; the constants start at OFFSET
 
 `line` gives a word's line behind its offset, or None where no accepted instruction has the word; `listing` gives a code's number of
-refusal, its place and its text.
+refusal, its place and its text; `attended` gives the attendant's text from an accepted deck's lines and its listing.
 """
 import argparse
 import sys
@@ -148,6 +148,29 @@ def listing(code, at):
 
 def code_of(words):
     return b"".join(w.to_bytes(4, "little") for w in words)
+
+
+# ---- document 02, point 10: from the deck's own lines, which of its constants came from `bits`
+
+
+def raw_constants(deck):
+    """Of each constant of an accepted deck the digits of its `bits` line, or None for a `float` line."""
+    lines = [told.split(",") for told in deck.decode().splitlines()]
+    return [digits if name == "bits" else None for name, digits, *_ in lines if name in ("float", "bits")]
+
+
+def rewritten(text, at, deck, halves):
+    """An accepted deck's listing, whose constants start at `at`, with these digits for the low and the high half of a `bits` constant."""
+    rows = text.splitlines()
+    for k, digits in enumerate(raw_constants(deck)):
+        for row, half in enumerate(halves(digits) if digits else (), at // 4 + 2 * k):
+            rows[row] = rows[row][:-8] + half
+    return "".join(row + "\n" for row in rows)
+
+
+def attended(text, at, deck):
+    """The listing as the attendant sees it: eight hyphens in place of the digits of each half of a `bits` constant."""
+    return rewritten(text, at, deck, lambda digits: ("-" * 8, "-" * 8))
 
 
 def main():
