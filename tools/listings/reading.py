@@ -1,7 +1,8 @@
 #!/usr/bin/env python3
 """The listing once more, independent of the proved code and of objdump: a word's line by the ISA Manual, a code's text by document 02.
 
-    reading.py [--data OFFSET] < WORDS      WORDS as `deckwords` prints them; the constants start at OFFSET
+    reading.py [--data OFFSET [--attendant DECK]] < WORDS      WORDS as `deckwords` prints them; the constants start at OFFSET; with the
+                                                               deck file the attendant's text
 
 `line` gives a word's line behind its offset, or None where no accepted instruction has the word; `listing` gives a code's number of
 refusal, its place and its text; `attended` gives the attendant's text from an accepted deck's lines and its listing.
@@ -176,9 +177,11 @@ def attended(text, at, deck):
 def main():
     parser = argparse.ArgumentParser(description=__doc__, formatter_class=argparse.RawDescriptionHelpFormatter)
     parser.add_argument("--data", type=int, metavar="OFFSET")
-    at = parser.parse_args().data
+    parser.add_argument("--attendant", type=argparse.FileType("rb"), metavar="DECK")
+    given = parser.parse_args()
     code = code_of(int(row.split(",")[1], 16) for row in sys.stdin)
-    sys.stdout.write(listing(code, len(code) if at is None else at)[2])
+    text = listing(code, len(code) if given.data is None else given.data)[2]
+    sys.stdout.write(attended(text, given.data, given.attendant.read()) if given.attendant else text)
 
 
 if __name__ == "__main__":
