@@ -64,6 +64,10 @@ EXAMPLES = [
     (HEAD + POINTER + "\n" * (65537 - len(HEAD + POINTER)), "refused,7,1\n", None),
     (HEAD + POINTER[:-1], "refused,12,2\n", None),
     (HEAD + "bits,7ff8dead00000000\n", data(88, "00000000", "7ff8dead"), NEITHER),
+    (HEAD + POINTER * 1000 + "float,3\n" * 8, data(88, *["00001234", "00000040"] * 1000, *["00000000", "40080000"] * 8),
+     data(88, *[HYPHENS] * 2000, *["00000000", "40080000"] * 8)),
+    (HEAD + "float,3\n" * 1000 + POINTER * 8, data(88, *["00000000", "40080000"] * 1000, *["00001234", "00000040"] * 8),
+     data(88, *["00000000", "40080000"] * 1000, *[HYPHENS] * 16)),
 ]
 
 
@@ -113,8 +117,7 @@ def spoiled(r, deck):
 
 
 def fresh(r, seed, count):
-    """Decks of the generator, good and bad ones, with constants more; every tenth is spoiled. The worked examples come first."""
-    yield from examples()
+    """Decks of the generator, good and bad ones, with constants more; every tenth is spoiled."""
     for i, deck in enumerate(decks(seed, count)):
         more = with_constants(r, deck)
         yield spoiled(r, more) if i % 10 == 8 else more
@@ -129,3 +132,15 @@ def others(r, deck):
     """The deck with other digits in all of its well-formed `bits` lines, some times; not at all where it has none."""
     for _ in range(CHANGES if WELL_FORMED.search(deck) else 0):
         yield WELL_FORMED.sub(lambda _: some_bits(r).encode(), deck)
+
+
+# ---- for the gate
+
+
+def recorded(r, seed, count):
+    """The worked examples; so many short accepted decks with constants of both kinds, and a quarter as many refused ones."""
+    plain = re.compile(rb"[ -}\n]{,700}")
+    short = [deck for deck in fresh(r, seed, 10 * count) if plain.fullmatch(deck) and WELL_FORMED.search(deck)]
+    good = [deck for deck in short if by_reference(deck)[1] is not None and b"\nfloat," in deck]
+    bad = [deck for deck in short if by_reference(deck)[1] is None]
+    return [*examples(), *good[:count], *bad[: count // 4]]
