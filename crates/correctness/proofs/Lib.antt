@@ -4,6 +4,8 @@ pub mod Taken
 pub mod Reached
 pub mod Whole
 pub mod Same
+pub mod Unread
+pub mod Lined
 pub mod Correct
 pub mod Files
 pub mod Refusals

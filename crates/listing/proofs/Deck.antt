@@ -1,5 +1,5 @@
 -- The listing of a routine's code, from what the routine promises. Assumes nothing.
-use mathlib.Core.Path.{_≡_, refl, sym, ap, _∙_}
+use mathlib.Core.Path.{_≡_, refl, sym, ap, _∙_, fun-ext}
 use mathlib.Core.Bool.{Bool, true, false}
 use mathlib.Core.List.{List}
 use mathlib.Core.Option.{Option, some, none}
@@ -26,17 +26,22 @@ use Rattle.routine.specs.Answer.{routine-answer}
 use Rattle.routine.specs.declared.RoutineAnswer.{RoutineAnswer}
 use Rattle.routine.specs.declared.RoutineAnswer.the-variants.{Accepted, Refused}
 use Rattle.correctness.proofs.Correct.{program, answered, told, code-left, extent, words-valid}
-use Rattle.print.specs.Text.{Puts, refusal-line}
-use Rattle.print.specs.Listing.{foreign}
+use Rattle.print.specs.Text.{Puts, words-of, refusal-line}
+use Rattle.print.specs.Listing.{foreign, view-lines}
 use Rattle.print.specs.Inner.Text.{word-in}
 use Rattle.print.specs.declared.Text.{Text}
 use Rattle.print.proofs.Short.{refusal-short}
 use Rattle.print.proofs.Brief.{listing-short}
-use Rattle.print.proofs.Listings.{first-from, no-first, first-behind, data-own, instr-own}
+use Rattle.print.proofs.Listings.{first-from, no-first, first-behind, data-own, instr-own, views-length, all-shown}
 use Rattle.listing.specs.Listing.{unless-foreign, listed, text-of, program-listing, deck-listing}
 use Rattle.listing.specs.Never.{NeverRefused, EveryWord}
-use Rattle.listing.specs.Inner.Listing.{summary-listing}
+use Rattle.listing.specs.Views.{hidden-in, program-view, deck-view, Maintained}
+use Rattle.listing.specs.Inner.Listing.{summary-view, Says}
+use Rattle.listing.specs.Inner.Marks.{hidden-by}
+use Rattle.listing.specs.declared.View.{View}
+use Rattle.listing.specs.declared.View.the-variants.{Maintainer}
 use Rattle.listing.proofs.Listed.{fine, lines, whole}
+use Rattle.listing.proofs.Marked.{none-hidden, hidden-same}
 
 -- ---- no word before the constants is foreign
 
@@ -84,33 +89,6 @@ never-refused file buf t after h =
 
 -- ---- a file's listing
 
-module _ (file buf after : List ℕ) (full : length buf ≡ 65536) where
-  program-listed : (t : Answer Summary) → Promise file buf t after → summary-listing t after ≡ program-listing (program-of (length buf) file)
-  program-listed (accepted t) h =
-      let x = program file buf t after h in
-      let p : Program = x .0 in
-      let o : t .offset ≡ constants-offset p = ap (λ (u : Summary). u .offset) (told file buf t after h p (x .1)) in
-      sym (ap text-of (never-refused file buf t after h))
-      ∙ ap (λ (c : List ℕ). text-of (listed c (t .offset))) (code-left file buf t after h p (x .1))
-      ∙ ap (λ (k : ℕ). text-of (listed (bytes (routine-words p)) k)) o
-      ∙ ap program-listing (sym (x .1))
-  program-listed (refused n line) h = by (program-of (length buf) file) (h .0)
-    where
-      by : (a : Answer Program) → refused n line ≡ summary-answer a → refusal-line n line ≡ program-listing a
-      by (accepted p) e = let z : _≡_ {A = ℕ} 0 1 = cc in absurd (omega arith)
-      by (refused m k) e = let q : n ≡ m = cc in let r : line ≡ k = cc in rw (q, r)
-
-  pub deck-listed : (t : Answer Summary) → Promise file buf t after → summary-listing t after ≡ deck-listing file
-  unfolding deck-listing
-  deck-listed t h = program-listed t h ∙ ap (λ (n : ℕ). program-listing (program-of n file)) full
-
-  pub deck-told : (t : Answer Summary) (r : Text) (out left : List ℕ) → length after ≡ length buf → Promise file buf t after
-      → Puts (summary-listing t after) 0 out r left × (length after ≤ 65536 → length (summary-listing t after) ≤ 475136)
-      → Puts (deck-listing file) 0 out r left × (t ≡ summary-answer (program-of 65536 file)) × (length (deck-listing file) ≤ 475136)
-  deck-told t r out left n h q =
-      let e = deck-listed t h in
-      (rw (← e) (q .0), h .0 ∙ ap (λ (k : ℕ). summary-answer (program-of k file)) full, rw (← e) (q .1 (omega arith)))
-
 pub every-word : EveryWord
 unfolding deck-listing
 every-word file p e =
@@ -123,22 +101,58 @@ every-word file p e =
     ∙ ap text-of (never-refused file buf (summary-of p) (buffer-after (accepted p) buf) h)
     ∙ ap (λ (s : List ℕ). lines s (constants-offset p)) c
 
--- ---- the routine's answer
+-- ---- the maintainer's view
 
--- the promise, and the bound
-abbrev pub Says : (text : List ℕ) → (code out : List ℕ) → Text → (after : List ℕ) → Type 0
-Says text code out r after = Puts text 0 out r after × (length code ≤ 65536 → length text ≤ 475136)
+pub maintained : Maintained
+unfolding deck-view deck-listing
+maintained file = by (program-of 65536 file) refl
+  where
+    by : (a : Answer Program) → program-of 65536 file ≡ a → program-view Maintainer a ≡ deck-listing file
+    by (accepted p) e =
+        let ws = words-of (bytes (routine-words p)) in
+        ap (λ (h : ℕ → Bool). view-lines h (constants-offset p) 0 ws) (fun-ext (none-hidden (p .lines))) ∙ all-shown (constants-offset p) 0 ws ∙ sym (every-word file p e)
+    by (refused n line) e = sym (ap program-listing e)
 
-module _ (a : RoutineAnswer) (code out after : List ℕ) (r : Text) where
-  pub part-said : (l o k j : ℕ) (f : Frame) → a ≡ Accepted l o k j f → Puts (lines (take l code) o) 0 out r after → Says (summary-listing (routine-answer a) code) code out r after
-  part-said l o k j f e p =
+-- ---- a view of the routine's answer
+
+module _ (v : View) (file buf after : List ℕ) (full : length buf ≡ 65536) where
+  program-viewed : (t : Answer Summary) → Promise file buf t after → summary-view (hidden-by v file) t after ≡ program-view v (program-of (length buf) file)
+  program-viewed (accepted t) h =
+      let x = program file buf t after h in
+      let p : Program = x .0 in
+      let o : t .offset ≡ constants-offset p = ap (λ (u : Summary). u .offset) (told file buf t after h p (x .1)) in
+      ap (λ (f : ℕ → Bool). view-lines f (t .offset) 0 (words-of (take (t .length) after))) (hidden-same (length buf) file p (x .1) v)
+      ∙ ap (λ (c : List ℕ). view-lines (hidden-in v (p .lines)) (t .offset) 0 (words-of c)) (code-left file buf t after h p (x .1))
+      ∙ ap (λ (k : ℕ). view-lines (hidden-in v (p .lines)) k 0 (words-of (bytes (routine-words p)))) o
+      ∙ ap (program-view v) (sym (x .1))
+  program-viewed (refused n line) h = by (program-of (length buf) file) (h .0)
+    where
+      by : (a : Answer Program) → refused n line ≡ summary-answer a → refusal-line n line ≡ program-view v a
+      by (accepted p) e = let z : _≡_ {A = ℕ} 0 1 = cc in absurd (omega arith)
+      by (refused m k) e = let q : n ≡ m = cc in let r : line ≡ k = cc in rw (q, r)
+
+  deck-viewed : (t : Answer Summary) → Promise file buf t after → summary-view (hidden-by v file) t after ≡ deck-view v file
+  unfolding deck-view
+  deck-viewed t h = program-viewed t h ∙ ap (λ (n : ℕ). program-view v (program-of n file)) full
+
+  pub deck-told : (t : Answer Summary) (r : Text) (out left : List ℕ) → length after ≡ length buf → Promise file buf t after → Says (summary-view (hidden-by v file) t after) after out r left
+      → Puts (deck-view v file) 0 out r left × (t ≡ summary-answer (program-of 65536 file)) × (length (deck-view v file) ≤ 475136)
+  deck-told t r out left n h q =
+      let e = deck-viewed t h in
+      (rw (← e) (q .0), h .0 ∙ ap (λ (k : ℕ). summary-answer (program-of k file)) full, rw (← e) (q .1 (omega arith)))
+
+-- `marks` says of each constant what `hidden` does
+module _ (hidden : ℕ → Bool) (a : RoutineAnswer) (code out after : List ℕ) (r : Text) where
+  pub part-said : (marks : ℕ → Bool) (l o k j : ℕ) (f : Frame) → a ≡ Accepted l o k j f → ((i : ℕ) → marks i ≡ hidden i) → Puts (view-lines marks o 0 (words-of (take l code))) 0 out r after → Says (summary-view hidden (routine-answer a) code) code out r after
+  part-said marks l o k j f e s p =
       let n = length-take l code in
-      rw e (p, λ h. listing-short o (take l code) (omega arith))
+      let m = views-length hidden o 0 (words-of (take l code)) in
+      rw e (rw (← (fun-ext s)) p, λ h. omega (arith, m, listing-short o (take l code) (omega arith)))
 
-  pub all-said : (l o k j : ℕ) (f : Frame) → a ≡ Accepted l o k j f → length code ≤ l → Puts (lines code o) 0 out r after → Says (summary-listing (routine-answer a) code) code out r after
-  all-said l o k j f e h p = part-said l o k j f e (rw (take-all l code h) p)
+  pub all-said : (marks : ℕ → Bool) (l o k j : ℕ) (f : Frame) → a ≡ Accepted l o k j f → ((i : ℕ) → marks i ≡ hidden i) → length code ≤ l → Puts (view-lines marks o 0 (words-of code)) 0 out r after → Says (summary-view hidden (routine-answer a) code) code out r after
+  all-said marks l o k j f e s h p = part-said marks l o k j f e s (rw (take-all l code h) p)
 
-  pub refusal-said : (why : Refusal) (line n : ℕ) → a ≡ Refused why line → n ≡ number-of why → n < 256 → line < 2 ^ 32 → Puts (refusal-line n line) 0 out r after → Says (summary-listing (routine-answer a) code) code out r after
+  pub refusal-said : (why : Refusal) (line n : ℕ) → a ≡ Refused why line → n ≡ number-of why → n < 256 → line < 2 ^ 32 → Puts (refusal-line n line) 0 out r after → Says (summary-view hidden (routine-answer a) code) code out r after
   refusal-said why line n e h x y p =
       let s = refusal-short n line x y in
       rw (e, ← h) (p, λ z. omega arith)

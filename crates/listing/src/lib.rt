@@ -1,4 +1,4 @@
-// The listing (document 02, point 5): code, and a deck file's routine, as text for the screen. It rests on what the routine promises.
+// The listing (document 02, points 5 and 10): code, and a deck file's routine, as text for the screen. It rests on what the routine promises.
 ghost use mathlib.Core.Path.{_≡_};
 ghost use mathlib.Core.Bool.{_&&_};
 ghost use mathlib.Core.Option.{Option·getD};
@@ -11,7 +11,12 @@ ghost use Rattle.print.specs.Listing.{foreign-from};
 ghost use Rattle.routine.specs.Routine.{program-of, summary-answer};
 ghost use Rattle.routine.specs.Answer.{routine-answer};
 ghost use Rattle.listing.specs.Listing.{text-of, listed, Lists, deck-listing};
-ghost use Rattle.listing.specs.Inner.Listing.{summary-listing};
+ghost use Rattle.listing.specs.Views.{deck-view};
+ghost use Rattle.listing.specs.Inner.Listing.{summary-view, Says};
+ghost use Rattle.listing.specs.Inner.Marks.{hidden-by};
+
+mod marks;
+
 use print::First;
 use print::Text;
 use routine::RoutineAnswer;
@@ -35,6 +40,12 @@ pub enum CodeAnswer {
 pub struct CodeListing {
     pub answer: CodeAnswer,
     pub text: Text,
+}
+
+// Who looks at a deck file's listing.
+pub enum View {
+    Maintainer,
+    Attendant,
 }
 
 // The routine's answer to a file, and how long its listing is.
@@ -110,17 +121,18 @@ pub fn code_listing(code: &[u8], constants: usize, out: &mut [u8]) -> CodeListin
 }
 
 // The lines of the routine's code, which stands in the buffer, or the refusal. None of its words is foreign (`NeverRefused`).
-fn answer_text(answer: RoutineAnswer, code: &[u8], out: &mut [u8]) -> Text
-    ensures { λ r. ⌜ Puts (summary-listing (routine-answer answer) (now (code .entry))) 0 (now (out .entry)) r (now (out .exit))
-        × (length (now (code .entry)) ≤ 65536 → length (summary-listing (routine-answer answer) (now (code .entry))) ≤ 475136) ⌝ }
+fn answer_text(view: View, file: &[u8], answer: RoutineAnswer, code: &[u8], out: &mut [u8]) -> Text
+    ensures { λ r. ⌜ Says (summary-view (hidden-by view (now (file .entry))) (routine-answer answer) (now (code .entry)))
+        (now (code .entry)) (now (out .entry)) r (now (out .exit)) ⌝ }
 {
     match answer {
         RoutineAnswer::Accepted(length, constants, _, _, _) => {
+            let hidden = marks::hidden(view, file);
             let n = length as usize;
             if n > code.len() {
-                return print::lines_text(code, constants as usize, out);
+                return print::view_text(code, constants as usize, &hidden, out);
             }
-            print::lines_text(&code[..n], constants as usize, out)
+            print::view_text(&code[..n], constants as usize, &hidden, out)
         }
         RoutineAnswer::Refused(why, line) => print::refusal_line(
             refusal::number(why),
@@ -130,14 +142,23 @@ fn answer_text(answer: RoutineAnswer, code: &[u8], out: &mut [u8]) -> Text
     }
 }
 
-// The listing of a deck file's routine, as its maintainer sees it, or the refusal: whole in `out`, or not at all.
+// What a view shows of a deck file: the listing of its routine, or the refusal; whole in `out`, or not at all.
+pub fn deck_view(file: &[u8], view: View, out: &mut [u8]) -> DeckListing
+    ensures { λ r. ⌜ Puts (deck-view view (now (file .entry))) 0 (now (out .entry)) (r .text) (now (out .exit))
+        × (routine-answer (r .answer) ≡ summary-answer (program-of 65536 (now (file .entry))))
+        × (length (deck-view view (now (file .entry))) ≤ 475136) ⌝ }
+{
+    let mut code = [0u8; ROOM];
+    let answer = routine::routine(file, &mut code);
+    let text = answer_text(view, file, answer, &code, out);
+    DeckListing { answer, text }
+}
+
+// The listing of a deck file's routine, as its maintainer sees it, or the refusal.
 pub fn deck_listing(file: &[u8], out: &mut [u8]) -> DeckListing
     ensures { λ r. ⌜ Puts (deck-listing (now (file .entry))) 0 (now (out .entry)) (r .text) (now (out .exit))
         × (routine-answer (r .answer) ≡ summary-answer (program-of 65536 (now (file .entry))))
         × (length (deck-listing (now (file .entry))) ≤ 475136) ⌝ }
 {
-    let mut code = [0u8; ROOM];
-    let answer = routine::routine(file, &mut code);
-    let text = answer_text(answer, &code, out);
-    DeckListing { answer, text }
+    deck_view(file, View::Maintainer, out)
 }

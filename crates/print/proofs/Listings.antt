@@ -17,7 +17,7 @@ use Rattle.text.specs.Ascii.{bytes}
 use Rattle.text.specs.Digits.{decimal, digits}
 use Rattle.text.proofs.Numerals.{length-digits}
 use Rattle.print.specs.Text.{words-of, hex}
-use Rattle.print.specs.Listing.{name, shown, operands-text, instr-line, data-line, listing-line, listing-lines, hidden-line, hides, view-line, view-lines, marked, foreign, foreign-from}
+use Rattle.print.specs.Listing.{name, shown, operands-text, instr-line, data-line, listing-line, listing-lines, hidden-line, hidden-half, view-line, view-lines, marked, foreign, foreign-from}
 use Rattle.print.specs.Inner.Text.{word-in}
 use Rattle.print.proofs.Lines.{no-words, more-words}
 use Rattle.print.proofs.Stores.{sets-append}
@@ -103,24 +103,24 @@ unfolding hidden-line
 hidden-line-put l l1 l2 at e o p q r = two-then l l1 l2 at e (decimal o) (bytes ",data,--------" ++ (10 ∷ [])) p q r
 
 module _ (hidden : ℕ → Bool) (constants o w : ℕ) where
-  pub view-hidden : hides hidden constants o ≡ true → view-line hidden constants o w ≡ hidden-line o
+  pub view-hidden : hidden-half hidden constants o ≡ true → view-line hidden constants o w ≡ hidden-line o
   unfolding view-line
   view-hidden e = rw e
 
-  pub view-shown : hides hidden constants o ≡ false → view-line hidden constants o w ≡ listing-line constants o w
+  pub view-shown : hidden-half hidden constants o ≡ false → view-line hidden constants o w ≡ listing-line constants o w
   unfolding view-line
   view-shown e = rw e
 
   -- a hidden word is a constant's
-  pub hidden-length : hides hidden constants o ≡ true → length (hidden-line o) ≡ length (listing-line constants o w)
+  pub hidden-length : hidden-half hidden constants o ≡ true → length (hidden-line o) ≡ length (listing-line constants o w)
   hidden-length e =
       let h = leb-true constants o (both (leb constants o) _ e .0) in
       length-hidden-line o ∙ sym (ap length (data-at constants o w h) ∙ length-data-line o w)
 
   pub view-length : length (view-line hidden constants o w) ≡ length (listing-line constants o w)
-  view-length = by (hides hidden constants o) refl
+  view-length = by (hidden-half hidden constants o) refl
     where
-      by : (t : Bool) → hides hidden constants o ≡ t → length (view-line hidden constants o w) ≡ length (listing-line constants o w)
+      by : (t : Bool) → hidden-half hidden constants o ≡ t → length (view-line hidden constants o w) ≡ length (listing-line constants o w)
       by true e = ap length (view-hidden e) ∙ hidden-length e
       by false e = ap length (view-shown e)
 
@@ -141,13 +141,13 @@ all-shown constants o (w ∷ ws) = rw (view-shown (λ k. false) constants o w (a
 -- ---- the marks
 
 module _ (marks : List ℕ) (constants o : ℕ) where
-  pub before-constants : o < constants → hides (marked marks) constants o ≡ false
+  pub before-constants : o < constants → hidden-half (marked marks) constants o ≡ false
   before-constants h = rw (lt-leb constants o h)
 
-  pub marks-end : constants ≤ o → length marks ≤ (o - constants) / 8 → hides (marked marks) constants o ≡ false
+  pub marks-end : constants ≤ o → length marks ≤ (o - constants) / 8 → hidden-half (marked marks) constants o ≡ false
   marks-end h k = rw (le-leb constants o h, List·getD-eq-default marks 0 k)
 
-  pub marks-at : constants ≤ o → hides (marked marks) constants o ≡ marked marks ((o - constants) / 8)
+  pub marks-at : constants ≤ o → hidden-half (marked marks) constants o ≡ marked marks ((o - constants) / 8)
   marks-at h = rw (le-leb constants o h)
 
 -- ---- from byte i on

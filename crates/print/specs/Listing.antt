@@ -156,12 +156,12 @@ unfoldable pub hidden-line : (offset : ℕ) → List ℕ
 hidden-line offset = decimal offset ++ (bytes ",data,--------" ++ (10 ∷ []))
 
 -- the word at this offset is a half of a hidden constant; constant k is the two words from `constants` + 8 × k on
-abbrev pub hides : (hidden : ℕ → Bool) → (constants offset : ℕ) → Bool
-hides hidden constants offset = leb constants offset && hidden ((offset - constants) / 8)
+abbrev pub hidden-half : (hidden : ℕ → Bool) → (constants offset : ℕ) → Bool
+hidden-half hidden constants offset = leb constants offset && hidden ((offset - constants) / 8)
 
 unfoldable pub view-line : (hidden : ℕ → Bool) → (constants offset w : ℕ) → List ℕ
 view-line hidden constants offset w =
-    cond (hides hidden constants offset) (hidden-line offset) (listing-line constants offset w)
+    cond (hidden-half hidden constants offset) (hidden-line offset) (listing-line constants offset w)
 
 unfoldable pub view-lines : (hidden : ℕ → Bool) → (constants offset : ℕ) → List ℕ → List ℕ
 view-lines hidden constants offset [] = []

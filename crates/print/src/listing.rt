@@ -10,7 +10,7 @@ ghost use Rattle.text.specs.Digits.{integer-bytes};
 ghost use Rattle.encoder.specs.Instr.{instr-of};
 ghost use Rattle.print.specs.Text.{words-of, Puts};
 ghost use Rattle.print.specs.Listing.{operands-text, shown, instr-line, data-line, listing-line, listing-lines, foreign};
-ghost use Rattle.print.specs.Listing.{foreign-from, first-answer, hidden-line, hides, view-line, view-lines, marked};
+ghost use Rattle.print.specs.Listing.{foreign-from, first-answer, hidden-line, hidden-half, view-line, view-lines, marked};
 ghost use Rattle.print.specs.Inner.Listing.{names, name-at, lengths, Sound, value-text, values-text};
 use crate::First;
 use crate::Text;
@@ -302,7 +302,7 @@ fn put_line(
 
 // The word at this offset is a half of a constant that has a mark.
 fn is_hidden(marks: &[u8], constants: usize, offset: usize) -> bool
-    ensures { λ r. ⌜ r ≡ hides (marked (now (marks .entry))) constants offset ⌝ }
+    ensures { λ r. ⌜ r ≡ hidden-half (marked (now (marks .entry))) constants offset ⌝ }
 {
     if offset < constants {
         return false;

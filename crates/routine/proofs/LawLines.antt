@@ -52,13 +52,13 @@ lines-last n (k ∷ ls) l =
     ap (λ (ns : List ℕ). replicate (jumps (line-code k)) n ++ ns) (lines-last (suc n) ls l ∙ ap (λ (m : ℕ). body-lines (suc n) ls ++ replicate (jumps (line-code l)) m) z)
     ∙ sym (append-assoc (replicate (jumps (line-code k)) n) (body-lines (suc n) ls) (replicate (jumps (line-code l)) (n + suc (length ls))))
 
-constants-order : (ls : List Line) (o : Order) → constants (ls ++ (order o ∷ [])) ≡ constants ls
+pub constants-order : (ls : List Line) (o : Order) → constants (ls ++ (order o ∷ [])) ≡ constants ls
 unfolding constants
 constants-order [] o = refl
 constants-order (order k ∷ ls) o = constants-order ls o
 constants-order (constant c ∷ ls) o = ap (λ (bs : List ℕ). constant-bits c ∷ bs) (constants-order ls o)
 
-constants-last : (ls : List Line) (c : Constant) → constants (ls ++ (constant c ∷ [])) ≡ constants ls ++ (constant-bits c ∷ [])
+pub constants-last : (ls : List Line) (c : Constant) → constants (ls ++ (constant c ∷ [])) ≡ constants ls ++ (constant-bits c ∷ [])
 unfolding constants
 constants-last [] c = refl
 constants-last (order k ∷ ls) c = constants-last ls c

@@ -1,25 +1,15 @@
 use borrow.Author.Needs.{needs}
-use Prim.Native.Nat.{ℕ}
-use lib.ListN.{replicate, length-replicate}
 use denote.Ref.{now}
-use Rattle.listing.proofs.Deck.{deck-told}
+use Rattle.listing.proofs.Deck.{maintained}
 use Rattle.listing.proofs.deck_listing.Statement.{statement}
 use Rattle.listing.proofs.deck_listing.Tie as tie
 
 returns : tie.Need-returns
 returns c =
-    let e = c .before .before in
-    let r = e .before .before .before .before in
-    let a = r .before .before .before .before .args in
-    deck-told (now (a .file)) (replicate 65536 0) _ (length-replicate {A = ℕ} 65536 0) _ _ (now (a .out)) _ (r .routine .kept .1 .0) (r .routine .ensures) (e .answer-text .ensures)
+    let a = c .before .before .before .before .before .before .args in
+    rw (← (maintained (now (a .file)))) (c .before .before .deck-view .ensures)
 
 pub deck-listing-spec : {M : Type 1} → statement M
 deck-listing-spec =
     tie.close
-    (tie.spec
-    (λ c. search needs)
-    (λ c κs. search needs)
-    (λ c. search needs)
-    (λ c κs. search needs)
-    (λ c. search needs)
-    returns)
+    (tie.spec (λ c κs. search needs) (λ c. search needs) returns)
