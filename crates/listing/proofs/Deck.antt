@@ -27,7 +27,7 @@ use Rattle.routine.specs.declared.RoutineAnswer.{RoutineAnswer}
 use Rattle.routine.specs.declared.RoutineAnswer.the-variants.{Accepted, Refused}
 use Rattle.correctness.proofs.Correct.{program, answered, told, code-left, extent, words-valid}
 use Rattle.print.specs.Text.{Puts, words-of, refusal-line}
-use Rattle.print.specs.Listing.{foreign, view-lines}
+use Rattle.print.specs.Listing.{foreign, listing-lines, view-lines}
 use Rattle.print.specs.Inner.Text.{word-in}
 use Rattle.print.specs.declared.Text.{Text}
 use Rattle.print.proofs.Short.{refusal-short}
@@ -103,14 +103,18 @@ every-word file p e =
 
 -- ---- the maintainer's view
 
+-- it hides nothing
+pub plain-lines : (p : Program) → program-view Maintainer (accepted p) ≡ listing-lines (constants-offset p) 0 (words-of (bytes (routine-words p)))
+plain-lines p =
+    let ws = words-of (bytes (routine-words p)) in
+    ap (λ (h : ℕ → Bool). view-lines h (constants-offset p) 0 ws) (fun-ext (none-hidden (p .lines))) ∙ all-shown (constants-offset p) 0 ws
+
 pub maintained : Maintained
 unfolding deck-view deck-listing
 maintained file = by (program-of 65536 file) refl
   where
     by : (a : Answer Program) → program-of 65536 file ≡ a → program-view Maintainer a ≡ deck-listing file
-    by (accepted p) e =
-        let ws = words-of (bytes (routine-words p)) in
-        ap (λ (h : ℕ → Bool). view-lines h (constants-offset p) 0 ws) (fun-ext (none-hidden (p .lines))) ∙ all-shown (constants-offset p) 0 ws ∙ sym (every-word file p e)
+    by (accepted p) e = plain-lines p ∙ sym (every-word file p e)
     by (refused n line) e = sym (ap program-listing e)
 
 -- ---- a view of the routine's answer

@@ -2,3 +2,5 @@ pub mod Listed
 pub mod Noted
 pub mod Marked
 pub mod Deck
+pub mod Veiled
+pub mod Unseen
