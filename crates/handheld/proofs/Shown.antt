@@ -2,7 +2,7 @@
 use mathlib.Core.Path.{_≡_, refl, sym, ap, _∙_}
 use mathlib.Core.Bool.{Bool, true, false, cond}
 use mathlib.Core.List.{List, [], _∷_}
-use Prim.Native.Nat.{ℕ, _<_, _≤_}
+use Prim.Native.Nat.{ℕ, zero, suc, _<_, _≤_}
 use borrow.Author.Tests.{le-leb, lt-leb}
 use lib.ListN.{length}
 use Rattle.refusal.specs.Answer.{Answer, accepted, refused}
@@ -25,8 +25,9 @@ use Rattle.routine.specs.Routine.{Summary, Promise, program-of, summary-answer}
 use Rattle.routine.specs.Run.{RunOutcome}
 use Rattle.print.specs.Text.{Puts}
 use Rattle.print.specs.declared.Text.{Text}
-use Rattle.listing.specs.Listing.{text-of, code-answer, Lists, deck-listing}
+use Rattle.listing.specs.Listing.{text-of, code-answer, Lists}
 use Rattle.listing.specs.declared.CodeListing.{CodeListing}
+use Rattle.listing.specs.declared.View.the-variants.{Attendant}
 use Rattle.handheld.specs.Numbers.{number, deck-numbers, RunTold}
 use Rattle.handheld.specs.Numbers as Numbers
 use Rattle.handheld.specs.Single.{says, order-put, line-put, as-constant, constant-put, numbers-of, record-after, single, order-result, finish-result, finish-told}
@@ -108,7 +109,11 @@ module _ (a : Answer (List ℕ)) (out after : List ℕ) (l : CodeListing) (h : L
         h .1 .1,
       )
 
-pub listing-told : (file out after : List ℕ) (t : Answer Summary) (x : Text) (n : ℕ) (l : List ℕ) → Puts (deck-listing file) 0 out x after → t ≡ summary-answer (program-of 65536 file)
-    → n ≡ number t → l ≡ Numbers.listing-numbers t (Numbers.text-number x) → Numbers.DeckListed file n l out after
-listing-told file out after t x n l p e g h =
+pub listing-told : (file text out after : List ℕ) (t : Answer Summary) (x : Text) (n : ℕ) (l : List ℕ) → Puts text 0 out x after → t ≡ summary-answer (program-of 65536 file)
+    → n ≡ number t → l ≡ Numbers.listing-numbers t (Numbers.text-number x) → Numbers.DeckListed file text n l out after
+listing-told file text out after t x n l p e g h =
     (rw (g, e) (number-told (program-of 65536 file)), rw (h, e, p .0), p .1)
+
+pub other-view : (n : ℕ) → (n ≡ 0 → ⊥) → Attendant ≡ Numbers.view-of n
+other-view zero h = absurd (h refl)
+other-view (suc n) h = refl

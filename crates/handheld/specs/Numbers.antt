@@ -1,7 +1,7 @@
 -- Answers as the numbers that a caller in C gets.
 use mathlib.Core.Path.{_≡_}
 use mathlib.Core.List.{List, [], _∷_}
-use Prim.Native.Nat.{ℕ}
+use Prim.Native.Nat.{ℕ, zero, suc}
 use denote.Ref.{now}
 use lib.ListN.{length}
 use Rattle.refusal.specs.Answer.{Answer, accepted, refused}
@@ -12,7 +12,9 @@ use Rattle.print.specs.declared.Text.{Text}
 use Rattle.print.specs.declared.Text.the-variants as Text
 use Rattle.routine.specs.Routine.{Summary, program-of, summary-answer, buffer-after}
 use Rattle.assembler.specs.State.{Lent}
-use Rattle.listing.specs.Listing.{text-of, deck-listing}
+use Rattle.listing.specs.Listing.{text-of}
+use Rattle.listing.specs.declared.View.{View}
+use Rattle.listing.specs.declared.View.the-variants.{Maintainer, Attendant}
 use Rattle.routine.specs.Run.{RunOutcome, run}
 
 -- the refusal's number; 0 where the answer is none
@@ -74,9 +76,14 @@ abbrev pub listing-numbers : Answer Summary → (text : ℕ) → List ℕ
 listing-numbers (accepted t) text = 0 ∷ t .length ∷ text ∷ []
 listing-numbers (refused n line) text = line ∷ 0 ∷ text ∷ []
 
--- What `deck_listing` answers and leaves.
-abbrev pub DeckListed : (file : List ℕ) → (answer : ℕ) → (told out after : List ℕ) → Type 0
-DeckListed file answer told out after =
+-- What `deck_listing` and `deck_view` answer and leave of a file, whose text this is.
+abbrev pub DeckListed : (file text : List ℕ) → (answer : ℕ) → (told out after : List ℕ) → Type 0
+DeckListed file text answer told out after =
     (answer ≡ number (program-of 65536 file))
-    × (told ≡ listing-numbers (summary-answer (program-of 65536 file)) (text-number (length-in (deck-listing file) 0 out)))
-    × (after ≡ put-in (deck-listing file) 0 out)
+    × (told ≡ listing-numbers (summary-answer (program-of 65536 file)) (text-number (length-in text 0 out)))
+    × (after ≡ put-in text 0 out)
+
+-- every number but 0 is the attendant's view, so that a wrong one hides
+abbrev pub view-of : ℕ → View
+view-of zero = Maintainer
+view-of (suc n) = Attendant

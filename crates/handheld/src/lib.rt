@@ -12,9 +12,10 @@ ghost use Rattle.routine.specs.Answer.{routine-answer};
 ghost use Rattle.print.specs.Text.{length-in, put-in};
 ghost use Rattle.answer.specs.Answer.{deck-text};
 ghost use Rattle.print.specs.Reason.{refusal-text};
-ghost use Rattle.listing.specs.Listing.{code-answer, listed};
+ghost use Rattle.listing.specs.Listing.{code-answer, listed, deck-listing};
+ghost use Rattle.listing.specs.Views.{deck-view};
 ghost use Rattle.handheld.specs.Numbers.{number, place, frame-number, deck-numbers, Deck, DeckIn, text-number};
-ghost use Rattle.handheld.specs.Numbers.{CodeTold, listing-numbers, DeckListed};
+ghost use Rattle.handheld.specs.Numbers.{CodeTold, listing-numbers, DeckListed, view-of};
 ghost use Rattle.handheld.specs.Single.{constant-of, no-such, line-put, constant-put};
 ghost use Rattle.handheld.specs.Single.{asm-of, numbers-of, record-after, order-outcome, finish-outcome, finish-told};
 ghost use Rattle.handheld.specs.Single.{single-before, single-after, finish-after};
@@ -29,6 +30,7 @@ use ast::Order;
 use deck::Judged;
 use form::Form;
 use listing::CodeAnswer;
+use listing::View;
 use print::Text;
 use refusal::Refusal;
 use routine::RoutineAnswer;
@@ -183,9 +185,32 @@ fn listing_numbers(a: RoutineAnswer, text: Text) -> [u64; 3]
 // The listing of a deck file's routine, as its maintainer sees it: 0, or the number of the refusal.
 #[no_mangle]
 pub extern "C" fn deck_listing(file: &[u8], out: &mut [u8], told: &mut [u64; 3]) -> u32
-    ensures { λ r. ⌜ DeckListed (now (file .entry)) r (now (told .exit)) (now (out .entry)) (now (out .exit)) ⌝ }
+    ensures { λ r. ⌜ DeckListed (now (file .entry)) (deck-listing (now (file .entry))) r (now (told .exit)) (now (out .entry)) (now (out .exit)) ⌝ }
 {
     let l = listing::deck_listing(file, out);
+    let a = l.answer;
+    let t = l.text;
+    *told = listing_numbers(a, t);
+    answer_number(a)
+}
+
+// A wrong number hides.
+fn view_of(n: u32) -> View
+    ensures { λ r. ⌜ r ≡ view-of n ⌝ }
+{
+    if n == 0 {
+        return View::Maintainer;
+    }
+    View::Attendant
+}
+
+// The same in a view: 0 is the maintainer's, any other number the attendant's.
+#[no_mangle]
+pub extern "C" fn deck_view(file: &[u8], view: u32, out: &mut [u8], told: &mut [u64; 3]) -> u32
+    ensures { λ r. ⌜ DeckListed (now (file .entry)) (deck-view (view-of view) (now (file .entry))) r
+        (now (told .exit)) (now (out .entry)) (now (out .exit)) ⌝ }
+{
+    let l = listing::deck_view(file, view_of(view), out);
     let a = l.answer;
     let t = l.text;
     *told = listing_numbers(a, t);

@@ -5,16 +5,16 @@ use denote.Ref.{now}
 use Rattle.print.proofs.Fitting.{text-room}
 use Rattle.routine.specs.Answer.{routine-answer}
 use Rattle.answer.specs.Answer.{reason-of}
-use Rattle.listing.specs.Listing.{deck-listing}
+use Rattle.listing.specs.Views.{deck-view}
 use borrow.Author.Needs.{needs}
-use Rattle.decklist.proofs.print_listing.Statement.{statement}
-use Rattle.decklist.proofs.print_listing.Tie as tie
+use Rattle.decklist.proofs.print_view.Statement.{statement}
+use Rattle.decklist.proofs.print_view.Tie as tie
 
 array-share-prefix-out : tie.Need-array-share-prefix-out
 array-share-prefix-out c =
     let n = c .before in
     let d = n .before .before .before in
-    text-room (deck-listing (now (d .before .before .before .args .file))) (replicate 475136 0) (d .deck-listing .last .1 .0) _ _ (d .deck-listing .ensures .0 .0) (n .text .given .1) (d .deck-listing .kept .1 .0)
+    text-room (deck-view (d .before .before .before .args .view) (now (d .before .before .before .args .file))) (replicate 475136 0) (d .deck-view .last .1 .1 .0) _ _ (d .deck-view .ensures .0 .0) (n .text .given .1) (d .deck-view .kept .1 .1 .0)
 
 slice-aggregate-print-text : tie.Need-slice-aggregate-print-text
 slice-aggregate-print-text c = sym (length-take-le _ _ (array-share-prefix-out (c .before)))
@@ -23,13 +23,13 @@ array-share-prefix-err : tie.Need-array-share-prefix-err
 array-share-prefix-err c =
     let n = c .before in
     let s = n .before .before .before in
-    text-room (reason-of (routine-answer (s .before .before .before .before .deck-listing .result .answer))) (replicate 128 0) (s .reason-text .last .1 .0) _ _ (s .reason-text .ensures .0 .0) (n .n .given .1) (s .reason-text .kept .1 .0)
+    text-room (reason-of (routine-answer (s .before .before .before .before .deck-view .result .answer))) (replicate 128 0) (s .reason-text .last .1 .0) _ _ (s .reason-text .ensures .0 .0) (n .n .given .1) (s .reason-text .kept .1 .0)
 
 slice-aggregate-write-all-2 : tie.Need-slice-aggregate-write-all-2
 slice-aggregate-write-all-2 c = sym (length-take-le _ _ (array-share-prefix-err (c .before)))
 
-pub print-listing-spec : {M : Type 1} → statement M
-print-listing-spec =
+pub print-view-spec : {M : Type 1} → statement M
+print-view-spec =
     tie.close
     (tie.spec
     (λ c. search needs)
