@@ -97,7 +97,7 @@ enum {
 uint32_t code_listing(const uint8_t *code, size_t code_length, size_t offset, uint8_t *out, size_t out_length,
                       uint64_t told[CODE_LISTED]);
 
-/* What deck_listing tells. */
+/* What deck_listing and deck_view tell. */
 enum {
     DECK_LISTED_LINE,   /* of the refusal; 0 where there is none */
     DECK_LISTED_LENGTH, /* of the code, constants included, in bytes; 0 where the file is refused */
@@ -109,6 +109,19 @@ enum {
    the refusal, as deck_text has it. An accepted file's words are never foreign. Answers the number. */
 uint32_t deck_listing(const uint8_t *file, size_t file_length, uint8_t *out, size_t out_length,
                       uint64_t told[DECK_LISTED]);
+
+/* Who looks at a file's listing. */
+enum {
+    DECK_MAINTAINER = 0, /* sees what deck_listing gives */
+    DECK_ATTENDANT = 1   /* any number but 0: sees eight hyphens in place of the digits of each half of a `bits`
+                            constant, and all else the same; the text is as long */
+};
+
+/* The same for the one who looks. What an attendant's call answers, tells and writes is the same for all digits
+   of the file's well-formed `bits` lines (crates/listing/specs/Unseen.antt). The file itself is in the caller's
+   memory as it was: whoever can read that, or the code, sees the digits. */
+uint32_t deck_view(const uint8_t *file, size_t file_length, uint32_t view, uint8_t *out, size_t out_length,
+                   uint64_t told[DECK_LISTED]);
 
 /* A refusal's number in words, into out: one plain sentence of ASCII, as docs/DECK.md's table has it,
    with no zero byte behind it. Answers the sentence's length; 0 where out is too short or there is no

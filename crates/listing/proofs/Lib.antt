@@ -4,3 +4,4 @@ pub mod Marked
 pub mod Deck
 pub mod Veiled
 pub mod Unseen
+pub mod Examples
