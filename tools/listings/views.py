@@ -108,7 +108,7 @@ def with_constants(r, deck):
 
 
 def spoiled(r, deck):
-    """A line more: the file is refused, whatever digits its `bits` lines have."""
+    """Lines more for which nearly every deck is refused, whatever digits its `bits` lines have."""
     raw = some_bits(r).encode()
     broken = r.choice([raw.upper(), raw[:-2] + b"\n", raw[:-1] + b"0\n", raw[:-1], b"bits,\n", b"float,0x3\n", b"label,1024\n"])
     many = b"".join(some_bits(r).encode() for _ in range(1009))
