@@ -1,4 +1,4 @@
-/* Prints a deck file's words, what is told of them and the file's listing, then lists a code and lays a few orders by hand.
+/* Prints a deck file's words, what is told of them and the file's two listings, then lists a code and lays a few orders by hand.
 
    tools/handheld builds and tries this. By hand, from the root of the repository:
 
@@ -41,6 +41,20 @@ static void list_deck(size_t length, size_t code_length, size_t offset) {
     puts(same ? "the code has the same listing" : "the code has another listing");
 }
 
+/* The listing that the attendant sees: what is told of it, and the lines of its constants. */
+static void attend(size_t length) {
+    uint64_t told[DECK_LISTED];
+    uint32_t number = deck_view(file, length, DECK_ATTENDANT, listing, sizeof listing, told);
+    printf("attendant: number %" PRIu32 ", line %" PRIu64 ", length %" PRIu64 ", listing %" PRIu64 "\n", number,
+           told[DECK_LISTED_LINE], told[DECK_LISTED_LENGTH], told[DECK_LISTED_TEXT]);
+    const uint8_t *line = listing, *end = listing + told[DECK_LISTED_TEXT];
+    while (line < end) {
+        const uint8_t *next = (const uint8_t *)memchr(line, '\n', end - line) + 1;
+        if (memcmp(memchr(line, ',', next - line), ",data,", 6) == 0) fwrite(line, 1, next - line, stdout);
+        line = next;
+    }
+}
+
 static void deck(size_t length) {
     uint32_t told[DECK_TOLD];
     uint32_t number = deck_emit(file, length, code, sizeof code, told);
@@ -51,6 +65,7 @@ static void deck(size_t length) {
            told[DECK_TOLD_OFFSET], told[DECK_TOLD_JUMPS], told[DECK_TOLD_FRAME]);
     reason(number);
     list_deck(length, told[DECK_TOLD_LENGTH], told[DECK_TOLD_OFFSET]);
+    attend(length);
 }
 
 /* The listing of an instruction and a word that is none, with constants from the offset on, in so many bytes. */

@@ -1,4 +1,4 @@
-//! Prints a deck file's words, what is told of them and the file's listing, then lists a code and lays a few orders by hand.
+//! Prints a deck file's words, what is told of them and the file's two listings, then lists a code and lays a few orders by hand.
 //!
 //! tools/handheld builds and tries this. By hand, from the root of the repository:
 //!
@@ -14,6 +14,7 @@ mod handheld {
     pub const ROOM: usize = 65536;
     pub const TEXT: usize = 245760;
     pub const LISTING: usize = 475136;
+    pub const ATTENDANT: u32 = 1;
     pub const SENTENCE: usize = 80;
     pub const LABELS: usize = 2039;
     pub const JUMPS: usize = 20480;
@@ -24,6 +25,7 @@ mod handheld {
             pub fn deck_emit(file: *const u8, n: usize, buf: *mut u8, m: usize, told: &mut [u32; 7]) -> u32;
             pub fn deck_text(file: *const u8, n: usize, out: *mut u8, m: usize) -> usize;
             pub fn deck_listing(file: *const u8, n: usize, out: *mut u8, m: usize, told: &mut [u64; 3]) -> u32;
+            pub fn deck_view(file: *const u8, n: usize, view: u32, out: *mut u8, m: usize, told: &mut [u64; 3]) -> u32;
             pub fn code_listing(code: *const u8, n: usize, offset: usize, out: *mut u8, m: usize, told: &mut [u64; 2]) -> u32;
             pub fn refusal_text(number: u32, out: *mut u8, m: usize) -> usize;
             pub fn order_emit(
@@ -75,6 +77,14 @@ mod handheld {
     pub fn deck_listing(file: &[u8]) -> (u32, [u64; 3], Vec<u8>) {
         let (mut told, mut out) = ([0; 3], vec![0; LISTING]);
         let number = unsafe { c::deck_listing(file.as_ptr(), file.len(), out.as_mut_ptr(), out.len(), &mut told) };
+        out.truncate(told[2] as usize);
+        (number, told, out)
+    }
+
+    /// The same as one of the two sees it: 0 is the maintainer.
+    pub fn deck_view(file: &[u8], view: u32) -> (u32, [u64; 3], Vec<u8>) {
+        let (mut told, mut out) = ([0; 3], vec![0; LISTING]);
+        let number = unsafe { c::deck_view(file.as_ptr(), file.len(), view, out.as_mut_ptr(), out.len(), &mut told) };
         out.truncate(told[2] as usize);
         (number, told, out)
     }
@@ -181,6 +191,15 @@ fn list_deck(file: &[u8], code: &[u8], offset: usize) {
     }
 }
 
+/// The listing that the attendant sees: what is told of it, and the lines of its constants.
+fn attend(file: &[u8]) {
+    let (number, [line, length, size], text) = handheld::deck_view(file, handheld::ATTENDANT);
+    println!("attendant: number {number}, line {line}, length {length}, listing {size}");
+    for line in String::from_utf8(text).unwrap().lines().filter(|line| line.contains(",data,")) {
+        println!("{line}");
+    }
+}
+
 fn deck(file: &[u8]) {
     let mut code = vec![0; handheld::ROOM];
     let (number, [_, line, length, offset, constants, jumps, frame]) = handheld::deck_emit(file, &mut code);
@@ -190,6 +209,7 @@ fn deck(file: &[u8]) {
     );
     reason(number);
     list_deck(file, &code[..length as usize], offset as usize);
+    attend(file);
 }
 
 /// The listing of an instruction and a word that is none, with constants from the offset on, in so many bytes.

@@ -1,14 +1,14 @@
-/* Times a deck's text and its listing: tools/bench --listing builds and runs it.
+/* Times a deck's text and its listings: tools/bench --listing builds and runs it.
 
-   Prints the code's length, the lengths of both texts, and in nanoseconds of processor time, the least of so many rounds: deck_emit,
-   deck_text, deck_listing, and code_listing of the same code. */
+   Prints the code's length, the lengths of text and listing, and in nanoseconds of processor time, the least of so many rounds: deck_emit,
+   deck_text, deck_listing, deck_view as the attendant sees it, and code_listing of the same code. */
 #include <inttypes.h>
 #include <stdio.h>
 #include <time.h>
 
 #include "handheld.h"
 
-enum { ROUNDS = 200, TIMES = 4 };
+enum { ROUNDS = 200, TIMES = 5 };
 
 static uint8_t file[DECK_FILE], code[DECK_ROOM], text[DECK_TEXT], listing[DECK_LISTING];
 
@@ -24,7 +24,7 @@ int main(int argc, char **argv) {
     size_t length = fread(file, 1, sizeof file, in), words = 0;
     uint32_t told[DECK_TOLD];
     uint64_t of_deck[DECK_LISTED], of_code[CODE_LISTED];
-    int64_t least[TIMES] = {INT64_MAX, INT64_MAX, INT64_MAX, INT64_MAX};
+    int64_t least[TIMES] = {INT64_MAX, INT64_MAX, INT64_MAX, INT64_MAX, INT64_MAX};
     for (int round = 0; round < ROUNDS; round++) {
         int64_t at[TIMES + 1];
         at[0] = now();
@@ -34,8 +34,10 @@ int main(int argc, char **argv) {
         at[2] = now();
         deck_listing(file, length, listing, sizeof listing, of_deck);
         at[3] = now();
-        code_listing(code, told[DECK_TOLD_LENGTH], told[DECK_TOLD_OFFSET], listing, sizeof listing, of_code);
+        deck_view(file, length, DECK_ATTENDANT, listing, sizeof listing, of_deck);
         at[4] = now();
+        code_listing(code, told[DECK_TOLD_LENGTH], told[DECK_TOLD_OFFSET], listing, sizeof listing, of_code);
+        at[5] = now();
         for (int i = 0; i < TIMES; i++)
             if (at[i + 1] - at[i] < least[i]) least[i] = at[i + 1] - at[i];
     }

@@ -1,10 +1,11 @@
 #!/usr/bin/env python3
 """The listing once more, independent of the proved code and of objdump: a word's line by the ISA Manual, a code's text by document 02.
 
-    reading.py [--data OFFSET] < WORDS      WORDS as `deckwords` prints them; the constants start at OFFSET
+    reading.py [--data OFFSET [--attendant DECK]] < WORDS      WORDS as `deckwords` prints them; the constants start at OFFSET; with the
+                                                               deck file the attendant's text
 
 `line` gives a word's line behind its offset, or None where no accepted instruction has the word; `listing` gives a code's number of
-refusal, its place and its text.
+refusal, its place and its text; `attended` gives the attendant's text from an accepted deck's lines and its listing.
 """
 import argparse
 import sys
@@ -150,12 +151,37 @@ def code_of(words):
     return b"".join(w.to_bytes(4, "little") for w in words)
 
 
+# ---- document 02, point 10: from the deck's own lines, which of its constants came from `bits`
+
+
+def raw_constants(deck):
+    """Of each constant of an accepted deck the digits of its `bits` line, or None for a `float` line."""
+    lines = [told.split(",") for told in deck.decode().splitlines()]
+    return [digits if name == "bits" else None for name, digits, *_ in lines if name in ("float", "bits")]
+
+
+def rewritten(text, at, deck, halves):
+    """An accepted deck's listing, whose constants start at `at`, with these digits for the low and the high half of a `bits` constant."""
+    rows = text.splitlines()
+    for k, digits in enumerate(raw_constants(deck)):
+        for row, half in enumerate(halves(digits) if digits else (), at // 4 + 2 * k):
+            rows[row] = rows[row][:-8] + half
+    return "".join(row + "\n" for row in rows)
+
+
+def attended(text, at, deck):
+    """The listing as the attendant sees it: eight hyphens in place of the digits of each half of a `bits` constant."""
+    return rewritten(text, at, deck, lambda digits: ("-" * 8, "-" * 8))
+
+
 def main():
     parser = argparse.ArgumentParser(description=__doc__, formatter_class=argparse.RawDescriptionHelpFormatter)
     parser.add_argument("--data", type=int, metavar="OFFSET")
-    at = parser.parse_args().data
+    parser.add_argument("--attendant", type=argparse.FileType("rb"), metavar="DECK")
+    given = parser.parse_args()
     code = code_of(int(row.split(",")[1], 16) for row in sys.stdin)
-    sys.stdout.write(listing(code, len(code) if at is None else at)[2])
+    text = listing(code, len(code) if given.data is None else given.data)[2]
+    sys.stdout.write(attended(text, given.data, given.attendant.read()) if given.attendant else text)
 
 
 if __name__ == "__main__":

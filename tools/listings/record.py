@@ -4,7 +4,8 @@
     record.py [--out crates/test_listing] [--check]
 
 Words are those of `test_encoder`'s list and others; their lines come from objdump's output (objdump.py). Refused codes and words come from
-codes.py, with document 02's numbers and places. reading.py, a second writing of document 02, must agree with both.
+codes.py, with document 02's numbers and places. reading.py, a second writing of document 02, must agree with both. Decks come from
+views.py: their words are the reference's (tools/decks/reference.py), and what the attendant doesn't see follows from their lines.
 
 A row has 80 bytes: a letter, numbers of eight hexadecimal digits, text, spaces, byte 10.
     s sentence                      the sentence that the rows behind it rest on
@@ -16,7 +17,11 @@ A row has 80 bytes: a letter, numbers of eight hexadecimal digits, text, spaces,
     r at room number place length   the code's listing, whose constants start at `at`, in a buffer of so many bytes: the number or 0, the
                                     place, the text's length
     x at room number place          the same, but the buffer is too short: it stays as it was
-    t from count text               bytes of the text answered last, from one on; a tilde is a line's end
+    d times count text              count bytes more, so many times: of a deck file; a tilde is a line's end
+    v view room number line length  the file's listing for maintainer (0) or attendant (1), in a buffer of so many bytes: the number or 0,
+                                    the line, the text's length
+    y view room number line         the same, but the buffer is too short: it stays as it was
+    t from count text               bytes of the text answered last, from one on
 --check writes nothing, and fails where the files in --out differ from what is made.
 """
 import argparse
@@ -28,12 +33,14 @@ import objdump
 from codes import ACCEPTED_EXAMPLES, FIRST, OTHERS, accepted, foreign_words, refused
 from compare import differing, filled
 from reading import ROWS, code_of, line, listing, word_at
+from views import by_reference, recorded, seen
 
 ROOT = pathlib.Path(__file__).resolve().parent.parent.parent
 SEED = 20261201
 ROW, TEXT, WORDS = 80, 59, 6
 ROOM = 524288  # bytes of the program's text memory
 WHOLE = 30  # texts of at most so many lines are in the list whole
+DECKS = 40
 
 
 def row(letter, numbers=(), text=""):
@@ -109,22 +116,22 @@ def code_rows(code):
     return rows + [row("b", [b]) for b in code[len(code) // 4 * 4 :]]
 
 
-def shown(text):
+def shown(text, last=8):
     """Parts of a text, each with its place: all of a short one; of a long one its ends, and where offsets get a digit more."""
     lines = text.splitlines(keepends=True)
     place, parts = 0, []
     for i, part in enumerate(lines):
         more = str(4 * i).rstrip("0") in ("", "1") or str(4 * i + 4).rstrip("0") == "1"
-        if len(lines) <= WHOLE or more or i < 2 or i >= len(lines) - 8:
+        if len(lines) <= WHOLE or more or i < 2 or i >= len(lines) - last:
             parts.append((place, part))
         place += len(part)
     return parts
 
 
-def text_rows(text):
+def text_rows(text, last=8):
     """Rows of parts that follow each other are one as far as they fit."""
     joined = []
-    for place, part in shown(text):
+    for place, part in shown(text, last):
         if joined and sum(map(len, joined[-1][1:])) + joined[-1][0] == place and sum(map(len, joined[-1][1:])) + len(part) <= TEXT:
             joined[-1].append(part)
         else:
@@ -165,14 +172,55 @@ def refused_rows():
     return rows
 
 
+# ---- decks
+
+
+def packed(lines):
+    """Lines put together as far as they fit into a row."""
+    texts = [""]
+    for told in lines:
+        texts += [""] if len(texts[-1] + told) > TEXT else []
+        texts[-1] += told
+    return texts
+
+
+def deck_rows(deck):
+    rows = [row("n")]
+    for times, lines in runs(deck.decode().splitlines(keepends=True)):
+        rows += [row("d", [times, len(text)], text.replace("\n", "~")) for text in packed(lines)]
+    return rows
+
+
+def view_rows(deck, turn):
+    """Both views, one of them in the whole memory, the other in a buffer just long enough; and each in one a byte shorter."""
+    words, at, text = by_reference(deck)
+    number, place = (0, 0) if at is not None else map(int, text.split(",")[1:])
+    if at is not None and objdump.listing(words, at) != text:
+        sys.exit(f"reading.py and objdump differ: {text}")
+    last = min(2 * WHOLE, len(words) - (at or 0) // 4)
+    rows = deck_rows(deck)
+    for view, told in enumerate((text, seen(deck, at, text))):
+        room = ROOM if (turn + view) % 2 else len(told)
+        rows += [row("y", [view, len(told) - 1, number, place])]
+        rows += [row("v", [view, room, number, place, len(told)]), *text_rows(told, max(8, last))]
+    return rows
+
+
+def deck_view_rows():
+    rows = [row("s", text="eight hyphens in place of the digits of each half of a `bits`")]
+    for turn, deck in enumerate(recorded(random.Random(SEED), SEED, DECKS)):
+        rows += view_rows(deck, turn)
+    return rows
+
+
 def made():
     """The list, and what is printed."""
-    rows = word_rows() + foreign_rows() + accepted_rows() + refused_rows()
-    words = [r for r in rows if r[0] == "w"]
-    codes = [r for r in rows if r[0] in "rx"]
+    rows = word_rows() + foreign_rows() + accepted_rows() + refused_rows() + deck_view_rows()
+    words, codes, views = ([r for r in rows if r[0] in letters] for letters in ("w", "rx", "vy"))
     good = lambda found, column: sum(r[column : column + 8] == "0" * 8 for r in found)
-    refusals = len(words) + len(codes) - good(words, 11) - good(codes, 20)
-    return "".join(rows), f"{good(words, 11)} words, {refusals} refusals, {good(codes, 20)} codes, 0 mismatches\n"
+    counts = good(words, 11), good(codes, 20), good(views, 20)
+    refusals = len(words) + len(codes) + len(views) - sum(counts)
+    return "".join(rows), f"{counts[0]} words, {refusals} refusals, {counts[1]} codes, {counts[2]} views, 0 mismatches\n"
 
 
 def main():

@@ -1,4 +1,4 @@
-// A code is put together piece by piece: a row's words, so many times, or one byte.
+// A code, or a deck file, is put together piece by piece: a row's words or text, so many times, or one byte.
 
 // Bytes of the code's memory.
 pub const CODE: usize = 131072;
@@ -55,4 +55,45 @@ pub(crate) fn byte(value: u32, n: usize, code: &mut [u8; CODE]) -> usize {
     }
     code[n] = (value % 256) as u8;
     n + 1
+}
+
+// ---- text
+
+// A text of so many bytes has room behind n bytes, so many times.
+pub(crate) fn text_fits(times: u32, count: usize, n: usize) -> bool {
+    if count == 0 {
+        return false;
+    }
+    if n > CODE {
+        return false;
+    }
+    times as usize <= (CODE - n) / count
+}
+
+// The byte that a character stands for: a tilde is a line's end.
+pub(crate) fn plain(b: u8) -> u8 {
+    if b == b'~' { 10 } else { b }
+}
+
+// A text behind n bytes, as far as there is room; how many bytes there are then.
+fn put_text(s: &[u8], n: usize, code: &mut [u8; CODE]) -> usize {
+    let mut at = n;
+    let mut i = 0;
+    while i < s.len() {
+        if at >= CODE {
+            return at;
+        }
+        code[at] = plain(s[i]);
+        at += 1;
+        i += 1;
+    }
+    at
+}
+
+pub(crate) fn text(s: &[u8], times: u32, n: usize, code: &mut [u8; CODE]) -> usize {
+    let mut at = n;
+    for _ in 0..times {
+        at = put_text(s, at, code);
+    }
+    at
 }

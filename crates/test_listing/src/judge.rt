@@ -1,8 +1,11 @@
-// Rows, one by one: a code is put together, listed, and its answer and text compared.
+// Rows, one by one: a code or a deck file is put together, listed, and its answer and text compared.
 use crate::code::CODE;
 use listing::CodeAnswer;
 use listing::CodeListing;
+use listing::DeckListing;
+use listing::View;
 use print::Text;
+use routine::RoutineAnswer;
 use test_rows::Outcome;
 
 // Bytes of the text's memory.
@@ -14,11 +17,15 @@ const ALONE: usize = 64;
 // What stands in a buffer before the listing has it; no text has this byte.
 const MARK: u8 = 165;
 
-// What a row comes to, the bytes of the code at hand, and whether a code was accepted.
+// Where a row's text starts, behind two columns.
+const TEXT: usize = 20;
+
+// What a row comes to, the bytes of the code or file at hand, and whether a code or a file was accepted.
 pub struct Came {
     pub outcome: Outcome,
     pub size: usize,
     pub listed: bool,
+    pub viewed: bool,
 }
 
 // ---- answers as numbers
@@ -47,22 +54,39 @@ fn place(a: CodeAnswer) -> usize {
     }
 }
 
-fn told(l: CodeListing) -> Numbers {
-    let a = l.answer;
-    let t = l.text;
+fn with_text(number: u32, place: usize, t: Text) -> Numbers {
     match t {
         Text::Length(n) => Numbers {
-            number: number(a),
-            place: place(a),
+            number,
+            place,
             fits: true,
             length: n,
         },
         Text::TooLong => Numbers {
-            number: number(a),
-            place: place(a),
+            number,
+            place,
             fits: false,
             length: 0,
         },
+    }
+}
+
+fn told(l: CodeListing) -> Numbers {
+    let a = l.answer;
+    let t = l.text;
+    with_text(number(a), place(a), t)
+}
+
+fn deck_told(l: DeckListing) -> Numbers {
+    let a = l.answer;
+    let t = l.text;
+    match a {
+        RoutineAnswer::Accepted(_, _, _, _, _) => with_text(0, 0, t),
+        RoutineAnswer::Refused(why, line) => with_text(
+            refusal::number(why) as u32,
+            line as usize,
+            t,
+        ),
     }
 }
 
@@ -100,7 +124,13 @@ fn word_answered(s: &[u8]) -> bool {
         && word_stands(s, count, &buf)
 }
 
-// ---- codes
+// ---- codes and files
+
+// What a row asks for: a code's listing, or a deck file's in a view.
+enum Asked {
+    Code,
+    Deck,
+}
 
 // No answer: a row asks for more than there is.
 fn nothing() -> Numbers {
@@ -112,14 +142,26 @@ fn nothing() -> Numbers {
     }
 }
 
-fn handed(code: &[u8], n: usize, at: usize, text: &mut [u8], room: usize) -> Numbers {
+fn view(n: usize) -> View {
+    if n == 0 {
+        View::Maintainer
+    } else {
+        View::Attendant
+    }
+}
+
+// `at` is the constants' offset, or the view.
+fn handed(asked: Asked, code: &[u8], n: usize, at: usize, text: &mut [u8], room: usize) -> Numbers {
     if n > code.len() {
         return nothing();
     }
     if room > text.len() {
         return nothing();
     }
-    told(listing::code_listing(&code[0..n], at, &mut text[0..room]))
+    match asked {
+        Asked::Code => told(listing::code_listing(&code[0..n], at, &mut text[0..room])),
+        Asked::Deck => deck_told(listing::deck_view(&code[0..n], view(at), &mut text[0..room])),
+    }
 }
 
 // The bytes from one on are as they were.
@@ -132,11 +174,18 @@ fn marked(text: &[u8; ROOM], from: usize) -> bool {
 }
 
 // The answer is the row's, and behind the text nothing was written.
-fn answered(s: &[u8], n: usize, fits: bool, code: &[u8; CODE], text: &mut [u8; ROOM]) -> bool {
+fn answered(
+    asked: Asked,
+    s: &[u8],
+    n: usize,
+    fits: bool,
+    code: &[u8; CODE],
+    text: &mut [u8; ROOM],
+) -> bool {
     *text = [MARK; ROOM];
     let at = crate::row::column(s, 0) as usize;
     let room = crate::row::column(s, 1) as usize;
-    let t = handed(code, n, at, text, room);
+    let t = handed(asked, code, n, at, text, room);
     let length = if fits {
         crate::row::column(s, 4) as usize
     } else {
@@ -149,18 +198,13 @@ fn answered(s: &[u8], n: usize, fits: bool, code: &[u8; CODE], text: &mut [u8; R
         && marked(text, length)
 }
 
-// The byte that a character stands for: a tilde is a line's end.
-fn plain(b: u8) -> u8 {
-    if b == b'~' { 10 } else { b }
-}
-
 fn same_text(written: &[u8], text: &[u8]) -> bool {
     if written.len() != text.len() {
         return false;
     }
     let mut i = 0;
     while i < written.len() {
-        if plain(written[i]) != text[i] {
+        if crate::code::plain(written[i]) != text[i] {
             return false;
         }
         i += 1;
@@ -178,11 +222,11 @@ fn stands(s: &[u8], text: &[u8; ROOM]) -> bool {
     if count > ROOM - from {
         return false;
     }
-    if s.len() < 20 + count {
+    if s.len() < TEXT + count {
         return false;
     }
     let b = &text[..];
-    same_text(&s[20..20 + count], &b[from..from + count])
+    same_text(&s[TEXT..TEXT + count], &b[from..from + count])
 }
 
 // ---- rows
@@ -192,6 +236,25 @@ fn came_to(outcome: Outcome, size: usize) -> Came {
         outcome,
         size,
         listed: false,
+        viewed: false,
+    }
+}
+
+// A code or a file that was accepted.
+fn accepted(asked: Asked, size: usize) -> Came {
+    match asked {
+        Asked::Code => Came {
+            outcome: Outcome::Other,
+            size,
+            listed: true,
+            viewed: false,
+        },
+        Asked::Deck => Came {
+            outcome: Outcome::Other,
+            size,
+            listed: false,
+            viewed: true,
+        },
     }
 }
 
@@ -215,22 +278,25 @@ fn word(s: &[u8], n: usize) -> Came {
 }
 
 // An answer's row, judged.
-fn answer(s: &[u8], n: usize, fits: bool, code: &[u8; CODE], text: &mut [u8; ROOM]) -> Came {
+fn answer(
+    asked: Asked,
+    s: &[u8],
+    n: usize,
+    fits: bool,
+    code: &[u8; CODE],
+    text: &mut [u8; ROOM],
+) -> Came {
     let columns = if fits { 5 } else { 4 };
     if !crate::row::readable(s, columns) {
         return came_to(Outcome::Mismatch, n);
     }
-    if !answered(s, n, fits, code, text) {
+    if !answered(asked, s, n, fits, code, text) {
         return came_to(Outcome::Mismatch, n);
     }
     if crate::row::column(s, 2) != 0 {
         return came_to(Outcome::Refused, n);
     }
-    Came {
-        outcome: Outcome::Other,
-        size: n,
-        listed: true,
-    }
+    accepted(asked, n)
 }
 
 // Words more.
@@ -255,7 +321,23 @@ fn byte(s: &[u8], n: usize, code: &mut [u8; CODE]) -> Came {
     came_to(Outcome::Other, crate::code::byte(value, n, code))
 }
 
-// A row, with n bytes of a code at hand.
+// Text more.
+fn deck_text(s: &[u8], n: usize, code: &mut [u8; CODE]) -> Came {
+    let times = crate::row::column(s, 0);
+    let count = crate::row::column(s, 1) as usize;
+    if !crate::row::readable(s, 2) || !crate::code::text_fits(times, count, n) {
+        return came_to(Outcome::Mismatch, n);
+    }
+    if s.len() < TEXT + count {
+        return came_to(Outcome::Mismatch, n);
+    }
+    came_to(
+        Outcome::Other,
+        crate::code::text(&s[TEXT..TEXT + count], times, n, code),
+    )
+}
+
+// A row, with n bytes of a code or file at hand.
 pub(crate) fn row(s: &[u8], n: usize, code: &mut [u8; CODE], text: &mut [u8; ROOM]) -> Came {
     match crate::row::letter(s) {
         b's' => came_to(Outcome::Other, n),
@@ -263,8 +345,11 @@ pub(crate) fn row(s: &[u8], n: usize, code: &mut [u8; CODE], text: &mut [u8; ROO
         b'n' => came_to(Outcome::Other, 0),
         b'c' => words(s, n, code),
         b'b' => byte(s, n, code),
-        b'r' => answer(s, n, true, code, text),
-        b'x' => answer(s, n, false, code, text),
+        b'd' => deck_text(s, n, code),
+        b'r' => answer(Asked::Code, s, n, true, code, text),
+        b'x' => answer(Asked::Code, s, n, false, code, text),
+        b'v' => answer(Asked::Deck, s, n, true, code, text),
+        b'y' => answer(Asked::Deck, s, n, false, code, text),
         b't' => holds(crate::row::readable(s, 2) && stands(s, text), n),
         _ => came_to(Outcome::Mismatch, n),
     }

@@ -7,8 +7,8 @@ pub all-spec : {M : Type 1} → statement M
 all-spec =
     tie.close
     (tie.spec
-    (λ bytes₀ text₀ size₀ codes₀ t₀ counter₀ bytes text size codes t counter. Unit {0})
-    (λ bytes₀ text₀ size₀ codes₀ t₀ counter₀ bytes text size codes t counter. 18446744073709551615 - counter)
+    (λ bytes₀ text₀ size₀ codes₀ views₀ t₀ counter₀ bytes text size codes views t counter. Unit {0})
+    (λ bytes₀ text₀ size₀ codes₀ views₀ t₀ counter₀ bytes text size codes views t counter. 18446744073709551615 - counter)
     (λ c κs. search needs)
     (λ c. search needs)
     (λ c. search needs)
@@ -16,6 +16,7 @@ all-spec =
     (λ c. search needs)
     (λ c. search needs)
     (λ c. search needs)
+    (λ c κs. search needs)
     (λ c κs. search needs)
     (λ c κs. search needs)
     (λ c κs. search needs)
