@@ -90,9 +90,10 @@ enum {
    its byte offset, its instruction's name, and the operands, parted by commas; numbers are decimal, registers
    bare. rd comes first, then rs1, rs2, rs3, then an immediate with its sign, or the rounding field; of a
    store what is stored, the base, the offset; a branch's or jump's offset is in bytes from the word itself.
-   From the constants on: the byte offset, `data` and 8 hexadecimal digits. Or one line, `refused,number,place`, and no line of code, with the first of these
-   that holds: DECK_VALUE, place 0 (offset past the end or at no multiple of 4); DECK_FOREIGN (the first word
-   before the constants that no instruction here has, or else a last word cut short, in the constants too).
+   From the constants on: the byte offset, `data` and 8 hexadecimal digits.
+   Or one line, `refused,number,place`, and no line of code, with the first of these that holds: DECK_VALUE,
+   place 0 (offset past the end or at no multiple of 4); DECK_FOREIGN (the first word before the constants that
+   no instruction here has, or else a last word cut short, in the constants too).
    Any words may stand behind offset. Answers the number. */
 uint32_t code_listing(const uint8_t *code, size_t code_length, size_t offset, uint8_t *out, size_t out_length,
                       uint64_t told[CODE_LISTED]);
@@ -113,13 +114,14 @@ uint32_t deck_listing(const uint8_t *file, size_t file_length, uint8_t *out, siz
 /* Who looks at a file's listing. */
 enum {
     DECK_MAINTAINER = 0, /* sees what deck_listing gives */
-    DECK_ATTENDANT = 1   /* any number but 0: sees eight hyphens in place of the digits of each half of a `bits`
-                            constant, and all else the same; the text is as long */
+    DECK_ATTENDANT = 1   /* sees eight hyphens in place of the digits of each half of a `bits` constant, and all
+                            else the same, in a text as long; so does any other number of 32 bits but 0 */
 };
 
-/* The same for the one who looks. What an attendant's call answers, tells and writes is the same for all digits
-   of the file's well-formed `bits` lines (crates/listing/specs/Unseen.antt). The file itself is in the caller's
-   memory as it was: whoever can read that, or the code, sees the digits. */
+/* As deck_listing, in the view asked for. What an attendant's call answers, tells and writes into out is the
+   same for all digits of the file's well-formed `bits` lines (crates/handheld/specs/Attendant.antt). The digits
+   stand elsewhere: in the file, in what deck_emit and deck_text make of it, and, until it is used again, in the
+   stack below this call. Whoever may not see them may not read these. */
 uint32_t deck_view(const uint8_t *file, size_t file_length, uint32_t view, uint8_t *out, size_t out_length,
                    uint64_t told[DECK_LISTED]);
 

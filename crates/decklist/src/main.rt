@@ -1,6 +1,9 @@
 // Reads a deck file on standard input and prints the listing of its routine, or its refusal (document 02, points 5 and 10):
 // the maintainer's view, or with the argument `attendant` the attendant's. A refusal goes to standard error too, in words.
+// Any other arguments get a usage line on standard error, and nothing on standard output.
 // Where standard input can't be read, or standard output takes less than all, a message goes to standard error.
+ghost use mathlib.Core.Path.{_≡_};
+ghost use Rattle.decklist.specs.Inner.Arguments.{asked-for};
 use input::FILE;
 use input::Input;
 use libc::STDERR_FILENO;
@@ -68,21 +71,26 @@ fn print_input(view: View) {
     }
 }
 
-// One argument at most, and that one known. The program's own name is among them.
-fn arguments() -> Asked {
-    let count = os::arg_count();
+// `count` arguments, the program's own name among them, of which `word` is the first behind it.
+fn asked_for(count: usize, word: &[u8]) -> Asked
+    ensures { λ r. ⌜ r ≡ asked-for count (now (word .entry)) ⌝ }
+{
     if count < 2 {
         return Asked::For(View::Maintainer);
     }
     if count > 2 {
         return Asked::Unknown;
     }
-    let mut word = [0u8; WORD];
-    let n = os::arg(1, &mut word);
-    if text::same(&word[..n], b"attendant") {
+    if text::same(word, b"attendant") {
         return Asked::For(View::Attendant);
     }
     Asked::Unknown
+}
+
+fn arguments() -> Asked {
+    let mut word = [0u8; WORD];
+    let n = os::arg(1, &mut word);
+    asked_for(os::arg_count(), &word[..n])
 }
 
 fn main() {

@@ -1,5 +1,7 @@
 -- answers as the numbers that a caller in C gets
 pub mod Numbers
+-- what a call tells an attendant
+pub mod Attendant
 -- one order, one constant and finishing, on a record of three numbers
 pub mod Single
 -- what only private functions promise

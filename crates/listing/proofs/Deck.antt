@@ -35,7 +35,7 @@ use Rattle.print.proofs.Brief.{listing-short}
 use Rattle.print.proofs.Listings.{first-from, no-first, first-behind, data-own, instr-own, views-length, all-shown}
 use Rattle.listing.specs.Listing.{unless-foreign, listed, text-of, program-listing, deck-listing}
 use Rattle.listing.specs.Never.{NeverRefused, EveryWord}
-use Rattle.listing.specs.Views.{hidden-in, program-view, deck-view, Maintained}
+use Rattle.listing.specs.Views.{hidden-in, program-view, deck-view, MaintainerSees}
 use Rattle.listing.specs.Inner.Listing.{summary-view, Says}
 use Rattle.listing.specs.Inner.Marks.{hidden-by}
 use Rattle.listing.specs.declared.View.{View}
@@ -109,7 +109,7 @@ plain-lines p =
     let ws = words-of (bytes (routine-words p)) in
     ap (λ (h : ℕ → Bool). view-lines h (constants-offset p) 0 ws) (fun-ext (none-hidden (p .lines))) ∙ all-shown (constants-offset p) 0 ws
 
-pub maintained : Maintained
+pub maintained : MaintainerSees
 unfolding deck-view deck-listing
 maintained file = by (program-of 65536 file) refl
   where

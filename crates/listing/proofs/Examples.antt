@@ -31,8 +31,7 @@ use Rattle.routine.specs.Routine.{line-read, lines-read, head-read, closed-off,
 use Rattle.print.specs.Text.{words-of, refusal-line}
 use Rattle.print.specs.Listing.{operands-text, instr-line, data-line, hidden-line, listing-line, view-line, view-lines}
 use Rattle.listing.specs.Views.{hidden-in, deck-view}
-use Rattle.listing.specs.Unseen.{Alike, end}
-use Rattle.listing.specs.Unseen as Unseen
+use Rattle.listing.specs.Unseen.{Alike, end, same-line, other-digits}
 use Rattle.listing.specs.declared.View.the-variants.{Maintainer, Attendant}
 
 -- a deck that has no other line, and the lines of its code, 88 bytes
@@ -82,4 +81,4 @@ examples = (
 -- two files that differ only in digits: what `Unseen` asks for can be met
 pub alike : Alike (lines-of (deck ++ bytes "bits,0000000000000001\nfloat,3\n")) (lines-of (deck ++ bytes "bits,00000000deadbeef\nfloat,3\n"))
 unfolding lines-of text commas word-bytes digits
-alike = Unseen.same deck (Unseen.digits 1 0xdeadbeef (omega arith) (omega arith) (Unseen.same (bytes "float,3\n") end))
+alike = same-line deck (other-digits 1 0xdeadbeef (omega arith) (omega arith) (same-line (bytes "float,3\n") end))

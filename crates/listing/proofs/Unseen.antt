@@ -23,15 +23,15 @@ use Rattle.print.specs.Text.{le-word, words-of}
 use Rattle.print.specs.Listing.{hidden-half, view-line, view-lines}
 use Rattle.print.proofs.Listings.{view-hidden}
 use Rattle.listing.specs.Views.{hidden-in, program-view, deck-view}
-use Rattle.listing.specs.Unseen.{Alike, end, same, digits, Unseen}
+use Rattle.listing.specs.Unseen.{Alike, end, same-line, other-digits, Unseen}
 use Rattle.listing.specs.declared.View.the-variants.{Attendant}
 
 -- ---- the files
 
 pub alike-zeroed : {ts us : List (List ℕ)} → Alike ts us → map zeroed ts ≡ map zeroed us
 alike-zeroed end = refl
-alike-zeroed (same line a) = ap (λ (s : List (List ℕ)). zeroed line ∷ s) (alike-zeroed a)
-alike-zeroed (digits m n h k a) = rw (zeroed-bits m h, zeroed-bits n k, alike-zeroed a)
+alike-zeroed (same-line line a) = ap (λ (s : List (List ℕ)). zeroed line ∷ s) (alike-zeroed a)
+alike-zeroed (other-digits m n h k a) = rw (zeroed-bits m h, zeroed-bits n k, alike-zeroed a)
 
 -- ---- words and their lines, one list behind the other
 

@@ -18,7 +18,7 @@ use Rattle.routine.specs.Routine.{program-of}
 use Rattle.print.specs.Text.{words-of, hex}
 use Rattle.print.specs.Listing.{data-line, listing-line, listing-lines, hidden-line, hidden-half, view-line, view-lines}
 use Rattle.print.proofs.Listings.{data-at, length-data-line, view-hidden, view-shown, views-length}
-use Rattle.listing.specs.Views.{hidden-in, program-view, deck-view, digit-marks, lines-marks, hidden-digits, veiled, SameBut}
+use Rattle.listing.specs.Views.{hidden-in, program-view, deck-view, line-flags, lines-flags, hidden-digits, veiled, SameBut}
 use Rattle.listing.specs.declared.View.the-variants.{Maintainer, Attendant}
 use Rattle.listing.proofs.Deck.{plain-lines}
 
@@ -39,9 +39,9 @@ veiled-append (m ∷ ms) ns (b ∷ bs) cs e = ap (λ (s : List ℕ). cond m 45 b
 
 -- ---- a line
 
-marks-length : (h : Bool) (n : ℕ) → (h ≡ true → 9 ≤ n) → length (digit-marks h n) ≡ n
-marks-length false n f = length-replicate n false
-marks-length true n f = omega (arith, f refl, length-append (replicate (n - 9) false) (replicate 8 true ++ (false ∷ [])), length-replicate (n - 9) false)
+flags-length : (h : Bool) (n : ℕ) → (h ≡ true → 9 ≤ n) → length (line-flags h n) ≡ n
+flags-length false n f = length-replicate n false
+flags-length true n f = omega (arith, f refl, length-append (replicate (n - 9) false) (replicate 8 true ++ (false ∷ [])), length-replicate (n - 9) false)
 
 -- what stands before the digits
 abbrev front : ℕ → List ℕ
@@ -55,7 +55,7 @@ digits-veiled : (w : ℕ) → veiled (replicate 8 true ++ (false ∷ [])) (hex w
 unfolding veiled digits
 digits-veiled w = refl
 
-data-veiled : (o w : ℕ) → veiled (digit-marks true (length (data-line o w))) (data-line o w) ≡ hidden-line o
+data-veiled : (o w : ℕ) → veiled (line-flags true (length (data-line o w))) (data-line o w) ≡ hidden-line o
 unfolding hidden-line
 data-veiled o w =
     let n : length (data-line o w) - 9 ≡ length (front o) = omega (arith, length-data-line o w, length-append (decimal o) (bytes ",data,")) in
@@ -68,24 +68,24 @@ module _ (hidden : ℕ → Bool) (constants o w : ℕ) where
   hidden-data : hidden-half hidden constants o ≡ true → listing-line constants o w ≡ data-line o w
   hidden-data e = data-at constants o w (leb-true constants o (both (leb constants o) _ e .0))
 
-  line-veiled : view-line hidden constants o w ≡ veiled (digit-marks (hidden-half hidden constants o) (length (listing-line constants o w))) (listing-line constants o w)
+  line-veiled : view-line hidden constants o w ≡ veiled (line-flags (hidden-half hidden constants o) (length (listing-line constants o w))) (listing-line constants o w)
   line-veiled = by (hidden-half hidden constants o) refl
     where
-      by : (t : Bool) → hidden-half hidden constants o ≡ t → view-line hidden constants o w ≡ veiled (digit-marks t (length (listing-line constants o w))) (listing-line constants o w)
+      by : (t : Bool) → hidden-half hidden constants o ≡ t → view-line hidden constants o w ≡ veiled (line-flags t (length (listing-line constants o w))) (listing-line constants o w)
       by true e = view-hidden hidden constants o w e ∙ rw (hidden-data e) (sym (data-veiled o w))
       by false e = view-shown hidden constants o w e ∙ sym (none-veiled (length (listing-line constants o w)) (listing-line constants o w))
 
-  line-marked : length (digit-marks (hidden-half hidden constants o) (length (listing-line constants o w))) ≡ length (listing-line constants o w)
-  line-marked = marks-length (hidden-half hidden constants o) (length (listing-line constants o w)) (λ e. omega (arith, ap length (hidden-data e), length-data-line o w))
+  line-flagged : length (line-flags (hidden-half hidden constants o) (length (listing-line constants o w))) ≡ length (listing-line constants o w)
+  line-flagged = flags-length (hidden-half hidden constants o) (length (listing-line constants o w)) (λ e. omega (arith, ap length (hidden-data e), length-data-line o w))
 
 -- ---- all lines
 
-lines-veiled : (hidden : ℕ → Bool) (constants o : ℕ) (ws : List ℕ) → view-lines hidden constants o ws ≡ veiled (lines-marks hidden constants o ws) (listing-lines constants o ws)
-unfolding view-lines listing-lines lines-marks veiled
+lines-veiled : (hidden : ℕ → Bool) (constants o : ℕ) (ws : List ℕ) → view-lines hidden constants o ws ≡ veiled (lines-flags hidden constants o ws) (listing-lines constants o ws)
+unfolding view-lines listing-lines lines-flags veiled
 lines-veiled hidden constants o [] = refl
 lines-veiled hidden constants o (w ∷ ws) =
     rw (line-veiled hidden constants o w, lines-veiled hidden constants (o + 4) ws)
-    (sym (veiled-append (digit-marks (hidden-half hidden constants o) (length (listing-line constants o w))) (lines-marks hidden constants (o + 4) ws) (listing-line constants o w) (listing-lines constants (o + 4) ws) (line-marked hidden constants o w)))
+    (sym (veiled-append (line-flags (hidden-half hidden constants o) (length (listing-line constants o w))) (lines-flags hidden constants (o + 4) ws) (listing-line constants o w) (listing-lines constants (o + 4) ws) (line-flagged hidden constants o w)))
 
 -- ---- a file
 
@@ -99,5 +99,5 @@ same-but file = by (program-of 65536 file)
         let c = constants-offset p in
         let h = hidden-in Attendant (p .lines) in
         let m : program-view Maintainer (accepted p) ≡ listing-lines c 0 ws = plain-lines p in
-        (lines-veiled h c 0 ws ∙ ap (veiled (lines-marks h c 0 ws)) (sym m), views-length h c 0 ws ∙ ap length (sym m))
+        (lines-veiled h c 0 ws ∙ ap (veiled (lines-flags h c 0 ws)) (sym m), views-length h c 0 ws ∙ ap length (sym m))
     by (refused n line) = (refl, refl)

@@ -12,8 +12,8 @@ use Rattle.listing.specs.declared.View.the-variants.{Attendant}
 -- Line by line the same, but for lines that are `bits,` with 16 lowercase hexadecimal digits in both. The other lines may be anything.
 pub data Alike : List (List ℕ) → List (List ℕ) → Type 0 where
   end : Alike [] []
-  same : (line : List ℕ) {ts us : List (List ℕ)} → Alike ts us → Alike (line ∷ ts) (line ∷ us)
-  digits : (m n : ℕ) {ts us : List (List ℕ)} → m < 2 ^ 64 → n < 2 ^ 64
+  same-line : (line : List ℕ) {ts us : List (List ℕ)} → Alike ts us → Alike (line ∷ ts) (line ∷ us)
+  other-digits : (m n : ℕ) {ts us : List (List ℕ)} → m < 2 ^ 64 → n < 2 ^ 64
       → Alike ts us → Alike (text (bits m) ∷ ts) (text (bits n) ∷ us)
 
 -- the same text; and all else that the routine tells: number and line of a refusal, or length, offset, counts and frame

@@ -18,7 +18,8 @@ use Rattle.listing.specs.Listing.{deck-listing}
 use Rattle.listing.specs.declared.View.{View}
 use Rattle.listing.specs.declared.View.the-variants.{Maintainer, Attendant}
 
--- "The maintainer's listing shows them; the attendant's" hides "a `bits` constant"
+-- "The maintainer's listing shows them; the attendant's is the same but for .. each half of a `bits` constant." Nothing else says what is
+-- hidden.
 abbrev pub hides : View → Constant → Bool
 hides Maintainer c = false
 hides Attendant (Float x) = false
@@ -42,31 +43,31 @@ deck-view v file = program-view v (program-of 65536 file)
 -- ---- what follows; proved in `proofs`
 
 -- The maintainer's view is point 5's listing.
-abbrev pub Maintained : Type 0
-Maintained = (file : List ℕ) → deck-view Maintainer file ≡ deck-listing file
+abbrev pub MaintainerSees : Type 0
+MaintainerSees = (file : List ℕ) → deck-view Maintainer file ≡ deck-listing file
 
--- for each byte of a line of so many, whether it is a hidden digit: the eight before the line's end
-abbrev pub digit-marks : (hidden : Bool) → (length : ℕ) → List Bool
-digit-marks false n = replicate n false
-digit-marks true n = replicate (n - 9) false ++ (replicate 8 true ++ (false ∷ []))
+-- for each byte of a line of `length` bytes, whether it is a hidden digit: of a hidden word the eight before the line's end
+abbrev pub line-flags : (hidden : Bool) → (length : ℕ) → List Bool
+line-flags false n = replicate n false
+line-flags true n = replicate (n - 9) false ++ (replicate 8 true ++ (false ∷ []))
 
 -- for each byte of point 5's lines
-unfoldable pub lines-marks : (hidden : ℕ → Bool) → (constants offset : ℕ) → List ℕ → List Bool
-lines-marks hidden constants offset [] = []
-lines-marks hidden constants offset (w ∷ ws) =
-    digit-marks (hidden-half hidden constants offset) (length (listing-line constants offset w))
-    ++ lines-marks hidden constants (offset + 4) ws
+unfoldable pub lines-flags : (hidden : ℕ → Bool) → (constants offset : ℕ) → List ℕ → List Bool
+lines-flags hidden constants offset [] = []
+lines-flags hidden constants offset (w ∷ ws) =
+    line-flags (hidden-half hidden constants offset) (length (listing-line constants offset w))
+    ++ lines-flags hidden constants (offset + 4) ws
 
 -- for each byte of the listing; none of a refusal
 abbrev pub hidden-digits : Answer Program → List Bool
-hidden-digits (accepted p) = lines-marks (hidden-in Attendant (p .lines)) (constants-offset p) 0 (words-of (bytes (routine-words p)))
+hidden-digits (accepted p) = lines-flags (hidden-in Attendant (p .lines)) (constants-offset p) 0 (words-of (bytes (routine-words p)))
 hidden-digits (refused n line) = []
 
--- hyphens (45) where there is a mark
-unfoldable pub veiled : (marks : List Bool) → List ℕ → List ℕ
+-- hyphens (45) in place of the bytes that have a flag
+unfoldable pub veiled : (flags : List Bool) → List ℕ → List ℕ
 veiled [] bs = bs
-veiled (m ∷ ms) [] = []
-veiled (m ∷ ms) (b ∷ bs) = cond m 45 b ∷ veiled ms bs
+veiled (f ∷ fs) [] = []
+veiled (f ∷ fs) (b ∷ bs) = cond f 45 b ∷ veiled fs bs
 
 -- The attendant's text is the maintainer's outside the hidden digits, which are hyphens; and so it is as long.
 abbrev pub SameBut : Type 0

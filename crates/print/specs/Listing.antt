@@ -159,10 +159,12 @@ hidden-line offset = decimal offset ++ (bytes ",data,--------" ++ (10 ∷ []))
 abbrev pub hidden-half : (hidden : ℕ → Bool) → (constants offset : ℕ) → Bool
 hidden-half hidden constants offset = leb constants offset && hidden ((offset - constants) / 8)
 
+-- a word's line in a view: point 5's, "the same but for" a hidden half's
 unfoldable pub view-line : (hidden : ℕ → Bool) → (constants offset w : ℕ) → List ℕ
 view-line hidden constants offset w =
     cond (hidden-half hidden constants offset) (hidden-line offset) (listing-line constants offset w)
 
+-- a line for each word, the first at this offset
 unfoldable pub view-lines : (hidden : ℕ → Bool) → (constants offset : ℕ) → List ℕ → List ℕ
 view-lines hidden constants offset [] = []
 view-lines hidden constants offset (w ∷ ws) =
