@@ -114,8 +114,8 @@ uint32_t deck_listing(const uint8_t *file, size_t file_length, uint8_t *out, siz
 /* Who looks at a file's listing. */
 enum {
     DECK_MAINTAINER = 0, /* sees what deck_listing gives */
-    DECK_ATTENDANT = 1   /* sees eight hyphens in place of the digits of each half of a `bits` constant, and all
-                            else the same, in a text as long; so does any other number of 32 bits but 0 */
+    DECK_ATTENDANT = 1   /* sees hyphens for the eight digits of each of a `bits` constant's two words, and all else
+                            the same, in a text as long; so does any other number of 32 bits but 0 */
 };
 
 /* As deck_listing, in the view asked for. What an attendant's call answers, tells and writes into out is the

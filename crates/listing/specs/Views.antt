@@ -18,8 +18,7 @@ use Rattle.listing.specs.Listing.{deck-listing}
 use Rattle.listing.specs.declared.View.{View}
 use Rattle.listing.specs.declared.View.the-variants.{Maintainer, Attendant}
 
--- "The maintainer's listing shows them; the attendant's is the same but for .. each half of a `bits` constant." Nothing else says what is
--- hidden.
+-- what is "the same but for": "a `bits` constant". Nothing else says what is hidden.
 abbrev pub hides : View → Constant → Bool
 hides Maintainer c = false
 hides Attendant (Float x) = false
