@@ -18,7 +18,7 @@ use Rattle.listing.specs.Listing.{deck-listing}
 use Rattle.listing.specs.declared.View.{View}
 use Rattle.listing.specs.declared.View.the-variants.{Maintainer, Attendant}
 
--- what is "the same but for": "a `bits` constant". Nothing else says what is hidden.
+-- which constants a view hides: from the attendant each `bits` one, from the maintainer none. Nothing else says what is hidden.
 abbrev pub hides : View → Constant → Bool
 hides Maintainer c = false
 hides Attendant (Float x) = false
@@ -31,6 +31,7 @@ hidden-in v (order o ∷ ls) k = hidden-in v ls k
 hidden-in v (constant c ∷ ls) zero = hides v c
 hidden-in v (constant c ∷ ls) (suc k) = hidden-in v ls k
 
+-- the lines of a program's words, with what the view hides; or the routine's refusal
 abbrev pub program-view : View → Answer Program → List ℕ
 program-view v (accepted p) = view-lines (hidden-in v (p .lines)) (constants-offset p) 0 (words-of (bytes (routine-words p)))
 program-view v (refused n line) = refusal-line n line
