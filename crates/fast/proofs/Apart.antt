@@ -1,11 +1,11 @@
 -- An order's number taken apart is the order. Assumes nothing.
 use mathlib.Core.Path.{_≡_, refl, sym, ap, subst, _∙_}
-use mathlib.Core.Bool.{Bool, true, false, cond, Bool·beq}
+use mathlib.Core.Bool.{Bool, true, false, Bool·beq}
 use mathlib.Core.Option.{Option, some, none, Option·map, Option·some-injective, Option·none-ne-some}
 use mathlib.Core.List.{List, [], _∷_}
 use Prim.Native.Nat.{ℕ, zero, suc, _*_, _/_, _%_, _+_, _-_, _<_, _≤_}
 use native.Mathlib.Omega.{arith}
-use borrow.Author.Tests.{ne-eqb, ltb-true, ltb-false}
+use borrow.Author.Tests.{ne-eqb, ltb-true, ltb-false, leb-true}
 use lib.Dec.{eqb, ltb, leb}
 use lib.Ieee.{ofInt, binary64}
 use lib.IntN.{natAbs}
@@ -30,7 +30,7 @@ use Rattle.form.specs.Text.{DeckLine}
 use Rattle.form.specs.Text as Text
 use Rattle.form.specs.Grammar.{said}
 use Rattle.deck.specs.Judge.{Content, head, order, constant, demand, operand-judged, judged, is-head, line-judged}
-use Rattle.fast.specs.Inner.Fast.{small, small-order, order-said}
+use Rattle.fast.specs.Inner.Fast.{only-order, order-said}
 use Rattle.form.specs.Inner.Names.{unary-number, scratched-number, binary-number, fused-number, unary-at, scratched-at, binary-at, fused-at}
 use Rattle.form.proofs.Names.{unary-back, scratched-back, binary-back, fused-back}
 use Rattle.fast.specs.Inner.Packed.{place-number, flag-number, place-at, below, pack, no-order, number, order-at, unpacked}
@@ -97,19 +97,19 @@ flag-back : (e : Bool) → (flag-number e < 16) × (eqb (flag-number e) 1 ≡ e)
 flag-back true = (omega arith, refl)
 flag-back false = (omega arith, refl)
 
--- ---- an order with registers below 32 and other numbers below 1,000
+-- ---- an order with registers below 32 and other numbers below 4,096
 
 abbrev pub Fits : Order → Type 0
 Fits (Unary k d s) = (d < 32) × (s < 32)
 Fits (Scratched k d s t) = (d < 32) × (s < 32) × (t < 32)
 Fits (Binary k d a b) = (d < 32) × (a < 32) × (b < 32)
 Fits (Fused k d a b c) = (d < 32) × (a < 32) × (b < 32) × (c < 32)
-Fits (Ifelse d a b i) = (d < 32) × (a < 32) × (b < 32) × (i < 1000)
-Fits (LoadConst d k) = (d < 32) × (k < 1000)
-Fits (Load d p i) = (d < 32) × (i < 1000)
-Fits (Save s p i) = (s < 32) × (i < 1000)
-Fits (BranchIf c l e) = (c < 32) × (l < 1000)
-Fits (SetLabel l) = l < 1000
+Fits (Ifelse d a b i) = (d < 32) × (a < 32) × (b < 32) × (i < 4096)
+Fits (LoadConst d k) = (d < 32) × (k < 4096)
+Fits (Load d p i) = (d < 32) × (i < 4096)
+Fits (Save s p i) = (s < 32) × (i < 4096)
+Fits (BranchIf c l e) = (c < 32) × (l < 4096)
+Fits (SetLabel l) = l < 4096
 
 -- the digits of a number
 module _ (k n x : ℕ) (hk : k < 16) (hn : n < 16) where
@@ -131,7 +131,7 @@ first r x h = omega arith
 rest : (r x : ℕ) → r < 32 → below r x / 32 ≡ x
 rest r x h = omega arith
 
-same-index : (i : ℕ) → i < 1000 → i % 4096 ≡ i
+same-index : (i : ℕ) → i < 4096 → i % 4096 ≡ i
 same-index i h = omega arith
 
 same-register : (r : ℕ) → r < 32 → r % 32 ≡ r
@@ -188,21 +188,26 @@ pack-small (SetLabel l) h = omega (arith, h)
 -- ---- what a line says is such an order
 
 -- a demand that was met
-met : (t : Bool) (r : Refusal) (a : Answer Content) (o : Order) → small-order (demand t r a) ≡ some o → (t ≡ true) × (small-order a ≡ some o)
+met : (t : Bool) (r : Refusal) (a : Answer Content) (o : Order) → only-order (demand t r a) ≡ some o → (t ≡ true) × (only-order a ≡ some o)
 met true r a o e = (refl, e)
 met false r a o e = absurd (Option·none-ne-some o e)
 
-operand-met : (x : Operand) (a : Answer Content) (o : Order) → small-order (operand-judged x a) ≡ some o → small-order a ≡ some o
-operand-met Operand.Nothing a o e = e
-operand-met (Operand.Loaded p i) a o e = met (ltb i 4096) Refusal.Count a o e .1
-operand-met (Operand.Stored p i) a o e = met (ltb i 4096) Refusal.Count a o e .1
-operand-met (Operand.Constant k) a o e = met (ltb k 1008) Refusal.Count a o e .1
-operand-met (Operand.GoneTo l) a o e = met (leb l 1023) Refusal.Label a o e .1
-operand-met (Operand.Set l) a o e = met (leb l 1023) Refusal.Label a o e .1
+-- what an operand's demand shows
+abbrev Met : Operand → Type 0
+Met Operand.Nothing = Unit {0}
+Met (Operand.Loaded p i) = i < 4096
+Met (Operand.Stored p i) = i < 4096
+Met (Operand.Constant k) = k < 4096
+Met (Operand.GoneTo l) = l < 4096
+Met (Operand.Set l) = l < 4096
 
-is-small : (t : Bool) (p o : Order) → cond t (some p) none ≡ some o → (t ≡ true) × (p ≡ o)
-is-small true p o e = (refl, Option·some-injective p o e)
-is-small false p o e = absurd (Option·none-ne-some o e)
+operand-met : (x : Operand) (a : Answer Content) (o : Order) → only-order (operand-judged x a) ≡ some o → Met x × (only-order a ≡ some o)
+operand-met Operand.Nothing a o e = (tt, e)
+operand-met (Operand.Loaded p i) a o e = let m = met (ltb i 4096) Refusal.Count a o e in (ltb-true i 4096 (m .0), m .1)
+operand-met (Operand.Stored p i) a o e = let m = met (ltb i 4096) Refusal.Count a o e in (ltb-true i 4096 (m .0), m .1)
+operand-met (Operand.Constant k) a o e = let m = met (ltb k 1008) Refusal.Count a o e in (omega (arith, ltb-true k 1008 (m .0)), m .1)
+operand-met (Operand.GoneTo l) a o e = let m = met (leb l 1023) Refusal.Label a o e in (omega (arith, leb-true l 1023 (m .0)), m .1)
+operand-met (Operand.Set l) a o e = let m = met (leb l 1023) Refusal.Label a o e in (omega (arith, leb-true l 1023 (m .0)), m .1)
 
 -- registers below 32
 one : (a : ℕ) → registers-fit (a ∷ []) ≡ true → a < 32
@@ -214,27 +219,27 @@ two a b e = let g = both (ltb a 32) (registers-fit (b ∷ [])) e in (ltb-true a 
 three : (a b c : ℕ) → registers-fit (a ∷ b ∷ c ∷ []) ≡ true → (a < 32) × (b < 32) × (c < 32)
 three a b c e = let g = both (ltb a 32) (registers-fit (b ∷ c ∷ [])) e in let h = two b c (g .1) in (ltb-true a 32 (g .0), h .0, h .1)
 
-order-fits : (p : Order) → registers-fit (uses p .registers) ≡ true → small p ≡ true → Fits p
+order-fits : (p : Order) → registers-fit (uses p .registers) ≡ true → Met (uses p .operand) → Fits p
 order-fits (Unary k d s) e m = two d s e
 order-fits (Scratched k d s t) e m = three d s t e
 order-fits (Binary k d a b) e m = three d a b e
 order-fits (Fused k d a b c) e m = let g = both (ltb d 32) (registers-fit (a ∷ b ∷ c ∷ [])) e in let h = three a b c (g .1) in (ltb-true d 32 (g .0), h .0, h .1, h .2)
-order-fits (Ifelse d a b i) e m = let h = three d a b e in (h .0, h .1, h .2, ltb-true i 1000 m)
-order-fits (LoadConst d k) e m = (one d e, ltb-true k 1000 m)
-order-fits (Load d p i) e m = (one d e, ltb-true i 1000 m)
-order-fits (Save s p i) e m = (one s e, ltb-true i 1000 m)
-order-fits (BranchIf c l b) e m = (one c e, ltb-true l 1000 m)
-order-fits (SetLabel l) e m = ltb-true l 1000 m
+order-fits (Ifelse d a b i) e m = let h = three d a b e in (h .0, h .1, h .2, m)
+order-fits (LoadConst d k) e m = (one d e, m)
+order-fits (Load d p i) e m = (one d e, m)
+order-fits (Save s p i) e m = (one s e, m)
+order-fits (BranchIf c l b) e m = (one c e, m)
+order-fits (SetLabel l) e m = m
 
-line-fits : (l : DeckLine) (o : Order) → small-order (judged l) ≡ some o → Fits o
+line-fits : (l : DeckLine) (o : Order) → only-order (judged l) ≡ some o → Fits o
 unfolding judged
 line-fits (Text.head H) o e =
     let m = met (ltb (H .mask) 4294967296) Refusal.Value _ o e in
     absurd (Option·none-ne-some o (met (counts-hold H) Refusal.Count (accepted (head H)) o (m .1) .1))
 line-fits (Text.order p) o e =
     let m = met (registers-fit (uses p .registers)) Refusal.Register _ o e in
-    let k = is-small (small p) p o (operand-met (uses p .operand) (accepted (order p)) o (m .1)) in
-    subst Fits (k .1) (order-fits p (m .0) (k .0))
+    let k = operand-met (uses p .operand) (accepted (order p)) o (m .1) in
+    subst Fits (Option·some-injective p o (k .1)) (order-fits p (m .0) (k .0))
 line-fits (Text.float z) o e = absurd (Option·none-ne-some o (met (leb (natAbs z) 9007199254740992) Refusal.Value (accepted (constant (Constant.Float (ofInt binary64 z)))) o e .1))
 line-fits (Text.bits n) o e = absurd (Option·none-ne-some o e)
 
@@ -242,7 +247,7 @@ pub said-fits : (l : List ℕ) (o : Order) → order-said l ≡ some o → Fits 
 unfolding line-judged
 said-fits l o e = by (said l) e
   where
-    by : (x : Option DeckLine) → small-order (line-judged false x) ≡ some o → Fits o
+    by : (x : Option DeckLine) → only-order (line-judged false x) ≡ some o → Fits o
     by none e = absurd (Option·none-ne-some o e)
     by (some m) e = line-fits m o (met (Bool·beq (is-head m) false) Refusal.Line (judged m) o e .1)
 

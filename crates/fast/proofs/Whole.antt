@@ -24,7 +24,7 @@ use Rattle.form.proofs.Names.{named-is}
 use Rattle.form.proofs.Shapes.{line-is, line-bad, no-line, no-newline, newline}
 use Rattle.deck.specs.Inner.Forms.{form-judged}
 use Rattle.deck.proofs.Forms.{form-line-judged, line-law}
-use Rattle.fast.specs.Inner.Fast.{small-order, order-said}
+use Rattle.fast.specs.Inner.Fast.{only-order, order-said}
 use Rattle.fast.specs.Inner.Packed.{no-order, number as number-of, pack}
 use Rattle.form.specs.Inner.Names.{kind-code, coded}
 use Rattle.fast.specs.Inner.Fields.{numeric, registers-of, bound-of, fields-packed}
@@ -32,11 +32,11 @@ use Rattle.fast.proofs.Fields.{none-left}
 use Rattle.fast.proofs.Said.{says, nothing}
 
 -- what a line says, by its form
-by-form : (l : List ℕ) → order-said l ≡ small-order (form-line-judged false (form-of l))
-by-form l = ap small-order (sym (line-law false l))
+by-form : (l : List ℕ) → order-said l ≡ only-order (form-line-judged false (form-of l))
+by-form l = ap only-order (sym (line-law false l))
 
 -- nothing is said
-malformed : small-order (form-line-judged false Form.Malformed) ≡ none
+malformed : only-order (form-line-judged false Form.Malformed) ≡ none
 unfolding form-line-judged form-judged
 malformed = refl
 
@@ -82,10 +82,10 @@ module _ (l : List ℕ) (m e : ℕ) (he : e ≡ end-from l 0) where
       sym (far l m (omega arith)) ∙ sym (first-end (take m l))
 
 module _ (s : List ℕ) (e : ℕ) (he : e ≡ end-from s 0) where
-  pub body-said : fields-packed (coded (kind-of (take e s))) (fields-from s (e + 1)) ≡ Option·map pack (small-order (form-line-judged false (formed (fields-say (split s)))))
+  pub body-said : fields-packed (coded (kind-of (take e s))) (fields-from s (e + 1)) ≡ Option·map pack (only-order (form-line-judged false (formed (fields-say (split s)))))
   body-said = go (kind-of (take e s)) refl
     where
-      go : (o : Option Kind) → kind-of (take e s) ≡ o → fields-packed (coded o) (fields-from s (e + 1)) ≡ Option·map pack (small-order (form-line-judged false (formed (fields-say (split s)))))
+      go : (o : Option Kind) → kind-of (take e s) ≡ o → fields-packed (coded o) (fields-from s (e + 1)) ≡ Option·map pack (only-order (form-line-judged false (formed (fields-say (split s)))))
       go none eo = rw (← line-bad s e he (ap named eo), malformed) (nothing (fields-from s (e + 1)) 255 (omega arith))
       go (some q) eo = rw (← line-is s e he q (ap named eo)) (says (fields-from s (e + 1)) q)
 
@@ -145,7 +145,7 @@ module _ (s : List ℕ) (h : length s < 7) where
   unfolding shaped
   short-kind q e = by (leb 7 (length first-word + 2 * length (sorts q))) refl (named-is (λ t k. leb 7 (length t + 2 * length (sorts k)) || ltb 9 (kind-code k % 16)) first-word names q seven e)
     where
-      go : (o : Option (Values (sorts q))) → 7 ≤ length first-word + 2 * length (sorts q) → read-values (sorts q) rest ≡ o → Option·map pack (small-order (form-line-judged false (shaped′ q o))) ≡ none
+      go : (o : Option (Values (sorts q))) → 7 ≤ length first-word + 2 * length (sorts q) → read-values (sorts q) rest ≡ o → Option·map pack (only-order (form-line-judged false (shaped′ q o))) ≡ none
       go none g f = ap (Option·map pack) malformed
       go (some vs) g f = absurd (too-short q g vs f)
 
@@ -153,7 +153,7 @@ module _ (s : List ℕ) (h : length s < 7) where
       by true f g = says rest q ∙ go (read-values (sorts q) rest) (leb-true 7 (length first-word + 2 * length (sorts q)) f) refl
       by false f g = nothing rest (kind-code q) (ltb-true 9 (kind-code q % 16) g)
 
-  short-body : Option·map pack (small-order (form-line-judged false (formed (fields-say (split s))))) ≡ none
+  short-body : Option·map pack (only-order (form-line-judged false (formed (fields-say (split s))))) ≡ none
   short-body = sym (body-said s (upto s) (sym (first-end s))) ∙ go (kind-of (take (upto s) s)) refl
     where
       go : (o : Option Kind) → kind-of (take (upto s) s) ≡ o → fields-packed (coded o) rest ≡ none

@@ -1,5 +1,5 @@
 // The fast path through one line of a deck, by numbers that stay in registers.
-// It takes an order whose numbers are below 1,000, where the longest order has room; all other lines go the general way.
+// It takes an accepted order where the longest order would have room; all other lines go the general way.
 ghost use mathlib.Core.Path.{_≡_};
 ghost use mathlib.Core.Bool.{true};
 ghost use mathlib.Core.Option.{Option·map};
@@ -101,12 +101,9 @@ fn index(x: u64) -> u32
 
 // The last field, a number below the bound.
 fn last_below(s: &[u8], a: usize, bound: u64) -> u64
-    requires { ⌜ bound ≤ 1000 ⌝ }
+    requires { ⌜ (bound ≤ 10000) × (a ≤ length (now s)) ⌝ }
     ensures { λ r. ⌜ r ≡ number (operands 0 bound (fields-from (now (s .entry)) a)) ⌝ }
 {
-    if s.len() < a {
-        return NONE;
-    }
     let x = text::short_number(&s[a..]);
     if x < bound { x } else { NONE }
 }
@@ -129,16 +126,19 @@ fn registers(shape: u64) -> u64
     h % 4
 }
 
-// The bound of the last operand; 1,000 stands for any above.
+// The bound of the last operand: 32 doubled as often as its shape's four bits say; 16 less for a constant.
 fn last_bound(shape: u64) -> u64
-    ensures { λ r. ⌜ (r ≡ bound-of shape) × (r ≤ 1000) ⌝ }
+    requires { ⌜ shape < 16 ⌝ }
+    ensures { λ r. ⌜ (r ≡ bound-of shape) × (r ≤ 4096) ⌝ }
 {
-    if shape < 4 { 32 } else { 1000 }
+    let e = 0x5555555557770000u64 >> (4 * shape);
+    let h = 32u64 << (e % 16);
+    if shape == LOAD_CONST { h - 16 } else { h }
 }
 
 // An order of numbers alone: some registers, and the last field.
 fn numbers(k: u64, s: &[u8], a: usize) -> u64
-    requires { ⌜ k < 256 ⌝ }
+    requires { ⌜ (k < 256) × (a ≤ length (now s)) ⌝ }
     ensures { λ r. ⌜ r ≡ number (behind k (numbers-packed (k % 16) (fields-from (now (s .entry)) a))) ⌝ }
 {
     let mut at = a;
@@ -146,17 +146,14 @@ fn numbers(k: u64, s: &[u8], a: usize) -> u64
     let mut scale = 1;
     let mut sum = 0;
     while left > 0 {
-        let e = text::field_end(s, at);
-        if e >= s.len() {
-            return NONE;
-        }
-        let x = text::short_number(&s[at..e]);
+        let f = text::near_field(s, at);
+        let x = f.number;
         if x >= 32 {
             return NONE;
         }
         sum += scale * x;
         scale *= 32;
-        at = e + 1;
+        at = f.stop + 1;
         left -= 1;
     }
     let y = last_below(s, at, last_bound(k % 16));
@@ -195,12 +192,12 @@ fn cell(k: u64, s: &[u8], a: usize) -> u64
     requires { ⌜ k < 256 ⌝ }
     ensures { λ r. ⌜ r ≡ number (cell-packed k (fields-from (now (s .entry)) a)) ⌝ }
 {
-    let e = text::field_end(s, a);
-    if e >= s.len() {
+    let g = text::near_field(s, a);
+    let x = g.number;
+    if x >= 32 {
         return NONE;
     }
-    let x = text::short_number(&s[a..e]);
-    let b = e + 1;
+    let b = g.stop + 1;
     let f = text::field_end(s, b);
     if f >= s.len() {
         return NONE;
@@ -208,7 +205,7 @@ fn cell(k: u64, s: &[u8], a: usize) -> u64
     let Where::Is(p) = form::read_place(&s[b..f]) else {
         return NONE;
     };
-    let y = last_below(s, f + 1, 1000);
+    let y = last_below(s, f + 1, 4096);
     with_code(k + 16 * place_number(p), join(x, y))
 }
 
@@ -217,21 +214,18 @@ fn branch(k: u64, s: &[u8], a: usize) -> u64
     requires { ⌜ k < 256 ⌝ }
     ensures { λ r. ⌜ r ≡ number (branch-packed k (fields-from (now (s .entry)) a)) ⌝ }
 {
-    let e = text::field_end(s, a);
-    if e >= s.len() {
+    let g = text::near_field(s, a);
+    let x = g.number;
+    if x >= 32 {
         return NONE;
     }
-    let x = text::short_number(&s[a..e]);
-    let b = e + 1;
-    let f = text::field_end(s, b);
-    if f >= s.len() {
+    let b = g.stop + 1;
+    let h = text::short_field(&s[b..]);
+    let y = h.number;
+    if y >= 1024 {
         return NONE;
     }
-    let y = text::short_number(&s[b..f]);
-    if y >= 1000 {
-        return NONE;
-    }
-    let Flag::Is(other) = form::last_flag(s, f + 1) else {
+    let Flag::Is(other) = form::last_flag(s, b + h.stop + 1) else {
         return NONE;
     };
     with_code(k + 16 * flag_number(other), join(x, y))
@@ -239,7 +233,7 @@ fn branch(k: u64, s: &[u8], a: usize) -> u64
 
 // The order of a kind; its fields start at a.
 fn order_of(k: u64, s: &[u8], a: usize) -> u64
-    requires { ⌜ k < 256 ⌝ }
+    requires { ⌜ (k < 256) × (a ≤ length (now s)) ⌝ }
     ensures { λ r. ⌜ r ≡ number (fields-packed k (fields-from (now (s .entry)) a)) ⌝ }
 {
     let shape = k % 16;

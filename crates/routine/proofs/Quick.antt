@@ -16,7 +16,7 @@ use Rattle.assembler.specs.declared.Asm.{Asm}
 use Rattle.assembler.specs.State.{State, Outcome, state}
 use Rattle.orders.specs.Wrote.{roomy}
 use Rattle.orders.specs.Emitted.{emitted-in}
-use Rattle.fast.specs.Inner.Fast.{small, small-order, if-accepted, taken, placed-in, fast-line, not-mine, asm-of, left}
+use Rattle.fast.specs.Inner.Fast.{only-order, if-accepted, taken, placed-in, fast-line, not-mine, asm-of, left}
 use Rattle.routine.specs.Run.{says, lines-run}
 use Rattle.routine.proofs.Lined.{order-passes}
 
@@ -41,21 +41,20 @@ taken-is (accepted x) s u e = let z : s ≡ u = cc in rw z
 taken-is (refused n place) s u e = no-state u e
 
 module _ (H : Head) (n : ℕ) (cs : List Constant) (l ts : List (List ℕ)) (t : List ℕ) (s u : State) (i : l ≡ t ∷ ts) where
-  small-passes : (o : Order) → says t ≡ accepted (Deck.order o) → (b c : Bool) → placed-in H (n + 1) (cond b (some o) none) s ≡ some u → lines-run H n cs l s ≡ lines-run H (n + 1) cs ts u
-  small-passes o j true c e = by (roomy (s .asm .len) (s .buf)) e
+  placed-passes : (o : Order) → says t ≡ accepted (Deck.order o) → placed-in H (n + 1) (some o) s ≡ some u → lines-run H n cs l s ≡ lines-run H (n + 1) cs ts u
+  placed-passes o j e = by (roomy (s .asm .len) (s .buf)) e
     where
       by : (b : Bool) → cond b (taken (emitted-in H (n + 1) o s)) none ≡ some u → lines-run H n cs l s ≡ lines-run H (n + 1) cs ts u
       by true f = order-passes H n cs l ts t s u o i j (taken-is _ _ u f)
       by false f = no-state u f
-  small-passes o j false c e = no-state u e
 
   -- the state that it leaves is the run's
   pub fast-passes : fast-line H (n + 1) t s ≡ some u → lines-run H n cs l s ≡ lines-run H (n + 1) cs ts u
   unfolding fast-line
   fast-passes e = by (says t) refl e
     where
-      by : (x : Answer Content) → says t ≡ x → placed-in H (n + 1) (small-order x) s ≡ some u → lines-run H n cs l s ≡ lines-run H (n + 1) cs ts u
-      by (accepted (Deck.order o)) j f = small-passes o j (small o) true f
+      by : (x : Answer Content) → says t ≡ x → placed-in H (n + 1) (only-order x) s ≡ some u → lines-run H n cs l s ≡ lines-run H (n + 1) cs ts u
+      by (accepted (Deck.order o)) j f = placed-passes o j f
       by (accepted (Deck.head h)) j f = no-state u f
       by (accepted (Deck.constant c)) j f = no-state u f
       by (refused k place) j f = no-state u f

@@ -3,14 +3,15 @@ use mathlib.Core.Path.{_≡_, refl, sym, ap, _∙_}
 use mathlib.Core.Bool.{Bool, true, false, cond, _&&_}
 use mathlib.Core.Option.{Option, some, none, Option·map}
 use mathlib.Core.List.{List, [], _∷_}
-use Prim.Native.Nat.{ℕ, zero, suc, _+_, _-_, _<_, _≤_}
+use Prim.Native.Nat.{ℕ, zero, suc, _+_, _*_, _-_, _^_, _<_, _≤_}
+use native.Mathlib.Nat.{pow-succ', pow-le-pow-right}
 use native.Mathlib.Omega.{arith}
 use borrow.Author.Tests.{lt-ltb, le-ltb, ltb-false, ltb-true, eq-eqb, ne-eqb}
 use lib.Dec.{eqb, ltb}
 use lib.IntN.{pos}
-use lib.ListN.{length, getD, take, drop, length-drop}
+use lib.ListN.{length, getD, take, drop, length-drop, drop-of-length-le}
 use lib.Seq.{drop-drop, take-all}
-use Rattle.text.specs.Readers.{read-from, read-decimal, read-integer, read-word, sized, numeral, negative, integer, word}
+use Rattle.text.specs.Readers.{digit-value, read-from, read-decimal, read-integer, read-word, sized, numeral, negative, integer, word}
 use Rattle.text.specs.Readers.{upto, end-from, next-from, split, fields-from}
 use Rattle.text.specs.Fields.{onto}
 use Rattle.text.specs.declared.Number.{Number}
@@ -19,7 +20,7 @@ use Rattle.text.specs.declared.Numeral.{Numeral}
 use Rattle.text.specs.declared.Numeral.the-variants as Numeral
 use Rattle.text.specs.declared.Integer.the-variants as Integer
 use Rattle.text.specs.declared.Word.the-variants as Word
-use Rattle.text.proofs.Numerals.{word-read}
+use Rattle.text.proofs.Steps.{at, off}
 
 -- ---- a decimal number
 
@@ -27,10 +28,6 @@ pub empty : (s : List ℕ) → length s ≡ 0 → read-decimal s ≡ none
 unfolding read-decimal
 empty [] h = refl
 empty (c ∷ cs) h = absurd (omega arith)
-
-off : (t : Bool) → t && false ≡ false
-off true = refl
-off false = refl
 
 pub alone : (s : List ℕ) → length s ≡ 1 → read-decimal s ≡ read-from 10 0 s
 unfolding read-decimal
@@ -106,7 +103,7 @@ value-is n v e = go (ltb n 18446744073709551616) e
     go true f = cc
     go false f = absurd (let z : _≡_ {A = ℕ} 0 1 = cc in omega arith)
 
-some-is : (o : Option ℕ) (v : ℕ) → numeral o ≡ Numeral.Is (Value v) → o ≡ some v
+pub some-is : (o : Option ℕ) (v : ℕ) → numeral o ≡ Numeral.Is (Value v) → o ≡ some v
 some-is none v e = absurd (let z : _≡_ {A = ℕ} 0 1 = cc in omega arith)
 some-is (some n) v e = ap some (value-is n v (cc))
 
@@ -120,31 +117,41 @@ module _ (s : List ℕ) where
   unfolding read-word
   not-16 h = rw (ne-eqb (length s) 16 h)
 
+  -- the loop: i digits gave v, and the others are left
+  abbrev pub Wording : (v i : ℕ) → Type 0
+  Wording v i = (i ≤ 16) × (v < 16 ^ i) × (read-from 16 0 s ≡ read-from 16 v (drop i s))
+
+  pub word-starts : Wording 0 0
+  word-starts = (omega arith, omega arith, refl)
+
   module _ (h : length s ≡ 16) where
     has-16 : read-word s ≡ read-from 16 0 s
     unfolding read-word
     has-16 = rw (eq-eqb (length s) 16 h)
 
-    pub word-bad : numeral (read-from 16 0 s) ≡ Numeral.Malformed → Word.Malformed ≡ word (read-word s)
-    word-bad e = rw has-16 (go (read-from 16 0 s) e)
-      where
-        go : (o : Option ℕ) → numeral o ≡ Numeral.Malformed → Word.Malformed ≡ word o
-        go none e = refl
-        go (some n) e = absurd (let z : _≡_ {A = ℕ} 0 1 = cc in omega arith)
+    module _ (v i : ℕ) (b : Wording v i) where
+      pub word-ends : 16 ≤ i → Word.Is v ≡ word (read-word s)
+      unfolding read-from
+      word-ends g = let ended : length s ≤ i = omega arith in rw (has-16, b .2, drop-of-length-le s ended)
 
-    pub word-is : (v : ℕ) → numeral (read-from 16 0 s) ≡ Numeral.Is (Value v) → Word.Is v ≡ word (read-word s)
-    word-is v e = rw (has-16, some-is (read-from 16 0 s) v e)
+      module _ (g : i < 16) where
+        left : drop i s ≡ getD s i 0 ∷ drop (i + 1) s
+        left = at s i (omega arith)
 
-    -- 16 digits are never too big
-    pub word-fits : numeral (read-from 16 0 s) ≡ Numeral.Is TooBig → ⊥
-    word-fits e = go (read-from 16 0 s) refl e
-      where
-        go : (o : Option ℕ) → read-from 16 0 s ≡ o → numeral o ≡ Numeral.Is TooBig → ⊥
-        go none f e = let z : _≡_ {A = ℕ} 0 1 = cc in omega arith
-        go (some n) f e =
-            let l = word-read s n (has-16 ∙ f) .0 in
-            let g : sized n ≡ Value n = rw (lt-ltb n 18446744073709551616 l) in
-            let z : _≡_ {A = ℕ} 0 1 = cc in omega arith
+        pub word-bad : 15 < digit-value (getD s i 0) → Word.Malformed ≡ word (read-word s)
+        unfolding read-from
+        word-bad d = rw (has-16, b .2, left, le-ltb (digit-value (getD s i 0)) 16 (omega arith))
+
+        module _ (d : ℕ) (e : d ≡ digit-value (getD s i 0)) (k : d ≤ 15) where
+          more : v * 16 + d < 16 ^ (i + 1)
+          more = let j : i + 1 ≡ suc i = omega arith in rw (j, pow-succ' 16 i) (omega (arith, b .1))
+
+          pub word-room : v * 16 + d < 2 ^ 64
+          word-room = let within : i + 1 ≤ 16 = omega arith in let m : 16 ^ (i + 1) ≤ 16 ^ 16 = pow-le-pow-right (omega arith) within in omega (arith, more, m)
+
+          pub word-more : Wording (v * 16 + d) (i + 1)
+          unfolding read-from
+          word-more = (omega arith, more, b .2 ∙ rw (left, ← e, lt-ltb d 16 (omega arith)))
 
 -- ---- fields
 

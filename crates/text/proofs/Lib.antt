@@ -4,6 +4,9 @@ pub mod Numerals
 pub mod Answers
 pub mod Joined
 pub mod Short
+pub mod Near
 pub mod Marks
 pub mod Eights
 pub mod Words
+pub mod Once
+pub mod Examples

@@ -12,6 +12,7 @@ use lib.IntN.{ℤ, pos, negsuc}
 use lib.ListN.{length}
 use Rattle.text.specs.Digits.{digit-byte, digits, above, decimal, integer-bytes, word-bytes}
 use Rattle.text.specs.Readers.{digit-value, read-from, read-decimal, negative, read-integer, read-word}
+use Rattle.text.proofs.Steps.{off}
 
 -- ---- one digit
 
@@ -129,10 +130,6 @@ leads n q g h e =
     let d : digit-byte (x % 10) ≡ 48 + x = rw (mod-eq-of-lt u, lt-ltb x 10 u) in
     omega (arith, e, d)
 
-off : (t : Bool) → t && false ≡ false
-off true = refl
-off false = refl
-
 read-digits-10 : (n p : ℕ) → n < 10 ^ p → read-from 10 0 (digits 10 p n) ≡ some n
 read-digits-10 n p h = read-digits 10 (omega arith) (omega arith) p n 0 (div-eq-of-lt h)
 
@@ -162,7 +159,7 @@ not-led c cs n e h z = go (ne-eqb (length cs) 0 (λ y. omega arith)) (eq-eqb c 4
     go : eqb (length cs) 0 ≡ false → eqb c 48 ≡ true → ⊥
     go f g = Option·none-ne-some n (rw (g, f) at e)
 
-digit-0 : (c : ℕ) → digit-value c ≡ 0 → c ≡ 48
+pub digit-0 : (c : ℕ) → digit-value c ≡ 0 → c ≡ 48
 digit-0 c e = sym (value-byte c (omega arith)) ∙ rw e
 
 module _ (c : ℕ) (cs : List ℕ) (n : ℕ) (e : read-from 10 0 (c ∷ cs) ≡ some n) where
@@ -190,6 +187,10 @@ module _ (c : ℕ) (cs : List ℕ) (n : ℕ) (e : read-from 10 0 (c ∷ cs) ≡ 
           let w = eqb-false (digit-value c) 0 h in
           let g : 1 ≤ n / 10 ^ k = omega (arith, high) in
           omega (arith, le-div-iff-mul-le (power k) .0 g)
+
+-- a number of more digits than one has no 0 in front, so it is large
+pub decimal-high : (c : ℕ) (cs : List ℕ) (n : ℕ) → read-decimal (c ∷ cs) ≡ some n → 0 < length cs → 10 ^ length cs ≤ n
+decimal-high c cs n e h = let f = not-led c cs n e in count c cs n (sym (led c cs f) ∙ e) f .1 h
 
 pub decimal-read : (s : List ℕ) (n : ℕ) → read-decimal s ≡ some n → decimal n ≡ s
 unfolding decimal read-decimal

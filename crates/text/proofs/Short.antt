@@ -1,18 +1,20 @@
--- Numbers of at most three digits.
-use mathlib.Core.Path.{_≡_, refl, ap, _∙_}
+-- Numbers below 10,000.
+use mathlib.Core.Path.{_≡_, refl, sym, ap, _∙_}
 use mathlib.Core.Bool.{Bool, true, false, cond, _&&_, not}
 use mathlib.Core.Option.{Option, some, none}
-use mathlib.Core.List.{List, [], _∷_, _++_, append-nil}
-use Prim.Native.Nat.{ℕ, zero, suc, _+_, _*_, _-_, _<_, _≤_}
+use mathlib.Core.List.{List, [], _∷_, append-nil}
+use Prim.Native.Nat.{ℕ, zero, suc, _+_, _*_, _-_, _^_, _<_, _≤_}
+use native.Mathlib.Nat.{pow-le-pow-right}
 use native.Mathlib.Omega.{arith}
-use borrow.Author.Tests.{lt-ltb, le-ltb, lt-leb, le-leb, ltb-true, ltb-false, leb-true}
-use lib.Dec.{eqb, ltb, leb}
+use borrow.Author.Tests.{lt-ltb, le-ltb, ltb-true, ltb-false}
+use lib.Dec.{eqb, ltb}
 use lib.ListN.{length, getD}
 use Rattle.text.specs.Readers.{digit-value, read-from, read-decimal, split}
-use Rattle.text.specs.Inner.Parts.{or-1000, short-of}
+use Rattle.text.specs.Inner.Parts.{Decimal}
+use Rattle.text.specs.Inner.Short.{capped, short-of}
 use Rattle.text.specs.Fields.{commas}
 use Rattle.text.proofs.Answers.{empty, alone, leading, led}
-use Rattle.text.proofs.Numerals.{decimal-read}
+use Rattle.text.proofs.Numerals.{digit-0, decimal-high, decimal-read}
 use Rattle.text.proofs.Joined.{free, split-join, free-decimal}
 
 -- ---- what is read
@@ -24,24 +26,59 @@ one-field t v e =
     let f : free t ≡ true = rw (decimal-read t v e) at (free-decimal v) in
     rw (append-nil t) at (split-join t [] f refl)
 
-pub short-read : (t : List ℕ) → short-of t < 1000 → read-decimal t ≡ some (short-of t)
+pub short-read : (t : List ℕ) → short-of t < 10000 → read-decimal t ≡ some (short-of t)
 unfolding short-of
-short-read t h = go (leb (length t) 3) (read-decimal t) h
+short-read t h = go (read-decimal t) h
   where
-    go : (b : Bool) (o : Option ℕ) → cond b (or-1000 o) 1000 < 1000 → o ≡ some (cond b (or-1000 o) 1000)
-    go true none h = absurd (omega arith)
-    go true (some n) h = refl
-    go false o h = absurd (omega arith)
+    by : (n : ℕ) (b : Bool) → cond b n 10000 < 10000 → some n ≡ some (cond b n 10000)
+    by n true h = refl
+    by n false h = absurd (omega arith)
 
--- ---- what is 1000
+    go : (o : Option ℕ) → capped o < 10000 → o ≡ some (capped o)
+    go none h = absurd (omega arith)
+    go (some n) h = by n (ltb n 10000) h
 
-no-number : (s : List ℕ) → read-decimal s ≡ none → 1000 ≡ short-of s
+is-short : (s : List ℕ) (n : ℕ) → n < 10000 → read-decimal s ≡ some n → n ≡ short-of s
 unfolding short-of
-no-number s e = rw e (go (leb (length s) 3))
+is-short s n h e = rw (e, lt-ltb n 10000 h)
+
+no-number : (s : List ℕ) → read-decimal s ≡ none → 10000 ≡ short-of s
+unfolding short-of
+no-number s e = rw e
+
+-- ---- a number has as many digits as it needs
+
+from-power : (s : List ℕ) (n k : ℕ) → read-decimal s ≡ some n → 0 < k → k < length s → 10 ^ k ≤ n
+from-power [] n k e z h = absurd (omega arith)
+from-power (c ∷ cs) n k e z h =
+    let p : 10 ^ k ≤ 10 ^ length cs = pow-le-pow-right (omega arith) (omega arith) in
+    omega (arith, decimal-high c cs n e (omega arith), p)
+
+-- a field of more than k bytes is no number below 10 ^ k
+pub long-field : (s : List ℕ) (k : ℕ) → 0 < k → k ≤ 4 → k < length s → 10 ^ k ≤ short-of s
+unfolding short-of
+long-field s k z m h = go (read-decimal s) refl
   where
-    go : (b : Bool) → 1000 ≡ cond b (or-1000 none) 1000
-    go true = refl
-    go false = refl
+    most : 10 ^ k ≤ 10 ^ 4
+    most = pow-le-pow-right (omega arith) m
+
+    by : (n : ℕ) (b : Bool) → 10 ^ k ≤ n → 10 ^ k ≤ cond b n 10000
+    by n true g = g
+    by n false g = omega (arith, most)
+
+    go : (o : Option ℕ) → read-decimal s ≡ o → 10 ^ k ≤ capped o
+    go none e = omega (arith, most)
+    go (some n) e = by n (ltb n 10000) (from-power s n k e z h)
+
+pub long-number : (s : List ℕ) → 4 < length s → 10000 ≡ short-of s
+unfolding short-of
+long-number s h = go (read-decimal s) refl
+  where
+    go : (o : Option ℕ) → read-decimal s ≡ o → 10000 ≡ capped o
+    go none e = refl
+    go (some n) e = rw (le-ltb n 10000 (omega (arith, from-power s n 4 e (omega arith) h)))
+
+-- ---- what is no number
 
 none-from : (v : ℕ) (s : List ℕ) (i : ℕ) → i < length s → 10 ≤ digit-value (getD s i 0) → read-from 10 v s ≡ none
 unfolding read-from
@@ -53,7 +90,7 @@ none-from v (c ∷ cs) (suc i) h e = go (ltb (digit-value c) 10) (none-from (v *
     go true f = f
     go false f = refl
 
-none-in : (s : List ℕ) (i : ℕ) → i < length s → 10 ≤ digit-value (getD s i 0) → read-decimal s ≡ none
+pub none-in : (s : List ℕ) (i : ℕ) → i < length s → 10 ≤ digit-value (getD s i 0) → read-decimal s ≡ none
 unfolding read-decimal
 none-in [] i h e = absurd (omega arith)
 none-in (c ∷ cs) i h e = rw (none-from 0 (c ∷ cs) i h e) (go (eqb c 48 && not (eqb (length cs) 0)))
@@ -63,118 +100,93 @@ none-in (c ∷ cs) i h e = rw (none-from 0 (c ∷ cs) i h e) (go (eqb c 48 && no
     go false = refl
 
 module _ (s : List ℕ) where
-  pub no-digit : (i : ℕ) → i < length s → 10 ≤ digit-value (getD s i 0) → 1000 ≡ short-of s
-  no-digit i h e = no-number s (none-in s i h e)
+  pub no-bytes : length s ≡ 0 → 10000 ≡ short-of s
+  no-bytes h = no-number s (empty s h)
 
-  zero-led : 1 < length s → getD s 0 0 ≡ 48 → 1000 ≡ short-of s
-  zero-led h e = no-number s (leading s (λ z. omega arith) (λ z. omega arith) e)
+  pub no-digit : (i x : ℕ) → i < length s → Decimal (getD s i 0) x → 9 < x → 10000 ≡ short-of s
+  no-digit i x h d e = no-number s (none-in s i h (d .1 e))
 
-  pub other-length : (length s ≡ 1 → ⊥) → (length s ≡ 2 → ⊥) → (length s ≡ 3 → ⊥) → 1000 ≡ short-of s
-  unfolding short-of
-  other-length f g h = go (leb (length s) 3) refl
-    where
-      go : (t : Bool) → leb (length s) 3 ≡ t → 1000 ≡ cond t (or-1000 (read-decimal s)) 1000
-      go true e = let k = leb-true (length s) 3 e in rw (empty s (omega arith))
-      go false e = refl
+  pub zero-led : (x : ℕ) → 1 < length s → Decimal (getD s 0 0) x → x ≡ 0 → 10000 ≡ short-of s
+  zero-led x h d e =
+      let z : digit-value (getD s 0 0) ≡ 0 = sym (d .0 (omega arith)) ∙ e in
+      no-number s (leading s (λ k. omega arith) (λ k. omega arith) (digit-0 (getD s 0 0) z))
 
--- ---- digits by their bytes
+  -- of two bytes, the first a 0
+  pub first-low : (x : ℕ) → length s ≤ 2 → Decimal (getD s 0 0) x → x < length s - 1 → 10000 ≡ short-of s
+  first-low x m d h = zero-led x (omega arith) d (omega arith)
 
-module _ (c : ℕ) where
-  pub below : c < 48 → 10 ≤ digit-value c
-  below h = rw (lt-leb 48 c h, lt-leb 97 c (omega arith)) (omega arith)
+-- ---- digits
 
-  pub above : 57 < c → 10 ≤ digit-value c
-  above h = rw (le-leb 48 c (omega arith), lt-leb c 57 h) (go (leb 97 c) (leb c 102) refl)
-    where
-      go : (t u : Bool) → leb 97 c ≡ t → 10 ≤ cond (t && u) (c - 87) 16
-      go true true e = let g = leb-true 97 c e in omega arith
-      go true false e = omega arith
-      go false u e = omega arith
-
-  pub within : 48 ≤ c → c ≤ 57 → c - 48 ≡ digit-value c
-  within h k = rw (le-leb 48 c h, le-leb c 57 k)
-
-pub first-below : (s : List ℕ) → 1 < length s → getD s 0 0 < 49 → 1000 ≡ short-of s
-first-below s h e = go (ltb (getD s 0 0) 48) refl
-  where
-    go : (t : Bool) → ltb (getD s 0 0) 48 ≡ t → 1000 ≡ short-of s
-    go true f = no-digit s 0 (omega arith) (below (getD s 0 0) (ltb-true (getD s 0 0) 48 f))
-    go false f = let g = ltb-false (getD s 0 0) 48 f in zero-led s h (omega arith)
-
--- the first or the last of some bytes is none
-module _ (s : List ℕ) (n : ℕ) (h : n ≡ length s) (z : n ≡ 0 → ⊥) where
-  pub first-high : (a : ℕ) → a ≡ getD s 0 0 → 57 < a → 1000 ≡ short-of s
-  first-high a e f = no-digit s 0 (omega (arith, z)) (rw e at (above a f))
-
-  pub last-low : (b : ℕ) → b ≡ getD s (n - 1) 0 → b < 48 → 1000 ≡ short-of s
-  last-low b e f = no-digit s (n - 1) (omega (arith, z)) (rw e at (below b f))
-
-  pub last-high : (b : ℕ) → b ≡ getD s (n - 1) 0 → 57 < b → 1000 ≡ short-of s
-  last-high b e f = no-digit s (n - 1) (omega (arith, z)) (rw e at (above b f))
-
--- with one digit or two
-pub first-low : (s : List ℕ) (n a : ℕ) → n ≡ length s → a ≡ getD s 0 0 → (n ≡ 0 → ⊥) → n ≤ 2 → a < 47 + n → 1000 ≡ short-of s
-first-low s n a h e z m f = go (ltb 1 n) refl
-  where
-    go : (t : Bool) → ltb 1 n ≡ t → 1000 ≡ short-of s
-    go true q = let g = ltb-true 1 n q in first-below s (omega arith) (omega (arith, e))
-    go false q = let g = ltb-false 1 n q in no-digit s 0 (omega (arith, z)) (below (getD s 0 0) (omega (arith, e, z)))
-
--- ---- one, two and three digits
-
-is-short : (s : List ℕ) (n : ℕ) → length s ≤ 3 → read-decimal s ≡ some n → n ≡ short-of s
-unfolding short-of
-is-short s n h e = rw (e, le-leb (length s) 3 h)
-
-not-zero : (a x : ℕ) → x ≡ digit-value a → (x ≡ 0 → ⊥) → a ≡ 48 → ⊥
-not-zero a x e h k = h (rw k at e)
-
-pub one-digit : (s : List ℕ) (x : ℕ) → length s ≡ 1 → x ≡ digit-value (getD s 0 0) → x < 10 → x ≡ short-of s
+one-more : (v c x : ℕ) (cs : List ℕ) → Decimal c x → x < 10 → read-from 10 v (c ∷ cs) ≡ read-from 10 (v * 10 + x) cs
 unfolding read-from
-one-digit [] x h e f = absurd (omega arith)
-one-digit (a ∷ []) x h e f = is-short (a ∷ []) x (omega arith) (alone (a ∷ []) refl ∙ rw (← e, lt-ltb x 10 f) (ap some (omega arith)))
-one-digit (a ∷ b ∷ s) x h e f = absurd (omega arith)
+one-more v c x cs d h = rw (← (d .0 h), lt-ltb x 10 h)
 
-two-values : (s : List ℕ) (x y : ℕ) → length s ≡ 2 → x ≡ digit-value (getD s 0 0) → y ≡ digit-value (getD s 1 0) → (x ≡ 0 → ⊥) → x < 10 → y < 10 → 10 * x + y ≡ short-of s
+ends-in : (v n : ℕ) → v ≡ n → read-from 10 v [] ≡ some n
 unfolding read-from
-two-values [] x y h ex ey k f g = absurd (omega arith)
-two-values (a ∷ []) x y h ex ey k f g = absurd (omega arith)
-two-values (a ∷ b ∷ []) x y h ex ey k f g =
-    let n : (0 * 10 + x) * 10 + y ≡ 10 * x + y = omega arith in
-    is-short (a ∷ b ∷ []) (10 * x + y) (omega arith) (led (a ∷ b ∷ []) (λ e. omega arith) (λ e. omega arith) (not-zero a x ex k) ∙ rw (← ex, ← ey, lt-ltb x 10 f, lt-ltb y 10 g) (ap some n))
-two-values (a ∷ b ∷ c ∷ s) x y h ex ey k f g = absurd (omega arith)
+ends-in v n e = ap some e
 
-pub times-few : (x n : ℕ) → x ≤ 90 → n ≤ 2 → x * (n - 1) ≤ 90
-times-few x zero h k = omega arith
-times-few x (suc zero) h k = omega arith
-times-few x (suc (suc zero)) h k = omega arith
-times-few x (suc (suc (suc n))) h k = absurd (omega arith)
+not-zero : (c x : ℕ) → Decimal c x → (x ≡ 0 → ⊥) → x < 10 → c ≡ 48 → ⊥
+not-zero c x d z h e = z (rw e at (d .0 h))
+
+one-value : (a x : ℕ) → Decimal a x → x < 10 → x ≡ short-of (a ∷ [])
+one-value a x d h = is-short (a ∷ []) x (omega arith) (alone (a ∷ []) refl ∙ one-more 0 a x [] d h ∙ ends-in _ _ (omega arith))
+
+module _ (a b x y : ℕ) (da : Decimal a x) (db : Decimal b y) (z : x ≡ 0 → ⊥) (hx : x < 10) (hy : y < 10) where
+  first-led : (s : List ℕ) → read-decimal (a ∷ b ∷ s) ≡ read-from 10 ((0 * 10 + x) * 10 + y) s
+  first-led s =
+      led (a ∷ b ∷ s) (λ e. omega arith) (λ e. omega arith) (not-zero a x da z hx)
+      ∙ one-more 0 a x (b ∷ s) da hx ∙ one-more (0 * 10 + x) b y s db hy
+
+  two-values : x * 10 + y ≡ short-of (a ∷ b ∷ [])
+  two-values = is-short (a ∷ b ∷ []) (x * 10 + y) (omega arith) (first-led [] ∙ ends-in _ _ (omega arith))
+
+  module _ (c w : ℕ) (dc : Decimal c w) (hw : w < 10) where
+    three-values : x * 100 + y * 10 + w ≡ short-of (a ∷ b ∷ c ∷ [])
+    three-values = is-short (a ∷ b ∷ c ∷ []) (x * 100 + y * 10 + w) (omega arith) (first-led (c ∷ []) ∙ one-more _ c w [] dc hw ∙ ends-in _ _ (omega arith))
+
+    four-values : (d u : ℕ) → Decimal d u → u < 10 → x * 1000 + y * 100 + w * 10 + u ≡ short-of (a ∷ b ∷ c ∷ d ∷ [])
+    four-values d u dd hu = is-short (a ∷ b ∷ c ∷ d ∷ []) (x * 1000 + y * 100 + w * 10 + u) (omega arith) (first-led (c ∷ d ∷ []) ∙ one-more _ c w (d ∷ []) dc hw ∙ one-more _ d u [] dd hu ∙ ends-in _ _ (omega arith))
+
+-- the first digit's part, where there may be one
+pub times-few : (x n m : ℕ) → x ≤ m → n ≤ 1 → x * n ≤ m
+times-few x zero m h k = omega arith
+times-few x (suc zero) m h k = omega arith
+times-few x (suc (suc n)) m h k = absurd (omega arith)
+
+-- the same byte has the same digit
+same-digit : (c x y : ℕ) → Decimal c x → Decimal c y → y ≤ 9 → x ≤ 9
+same-digit c x y dx dy h = go (ltb 9 x) refl
+  where
+    go : (t : Bool) → ltb 9 x ≡ t → x ≤ 9
+    go true e = absurd (omega (arith, dx .1 (ltb-true 9 x e), dy .0 (omega arith)))
+    go false e = ltb-false 9 x e
+
+-- n + 1 digits that make a number below 100
+pub few-below : (c d x y n : ℕ) → n ≤ 1 → (n ≡ 0 → d ≡ c) → Decimal c x → Decimal d y → y ≤ 9 → x * 10 * n + y ≤ 99 → x ≤ 9
+few-below c d x y zero m e dx dy h l = same-digit c x y dx (rw (e refl) at dy) h
+few-below c d x y (suc zero) m e dx dy h l = omega arith
+few-below c d x y (suc (suc n)) m e dx dy h l = absurd (omega arith)
 
 -- one or two digits, which are first and last
-pub few-digits : (s : List ℕ) (n a b : ℕ) → n ≡ length s → a ≡ getD s 0 0 → b ≡ getD s (n - 1) 0 → (n ≡ 0 → ⊥) → n ≤ 2 → 47 + n ≤ a → a ≤ 57 → 48 ≤ b → b ≤ 57 → (a - 48) * 10 * (n - 1) + (b - 48) ≡ short-of s
-few-digits [] n a b h ea eb z m f g k l = absurd (z h)
-few-digits (x ∷ []) n a b h ea eb z m f g k l = by-one h eb
-  where
-    by-one : n ≡ 1 → b ≡ getD (x ∷ []) (n - 1) 0 → (a - 48) * 10 * (n - 1) + (b - 48) ≡ short-of (x ∷ [])
-    by-one e q = rw (e) (sum ∙ one-digit (x ∷ []) (b - 48) refl ((within b k l) ∙ ap digit-value (rw e at q)) (omega arith))
-      where
-        sum : (a - 48) * 10 * (1 - 1) + (b - 48) ≡ b - 48
-        sum = omega arith
-few-digits (x ∷ y ∷ []) n a b h ea eb z m f g k l = by-two h eb
-  where
-    by-two : n ≡ 2 → b ≡ getD (x ∷ y ∷ []) (n - 1) 0 → (a - 48) * 10 * (n - 1) + (b - 48) ≡ short-of (x ∷ y ∷ [])
-    by-two e q = rw (e) (sum ∙ two-values (x ∷ y ∷ []) (a - 48) (b - 48) refl (within a (omega arith) g ∙ ap digit-value ea) (within b k l ∙ ap digit-value (rw e at q)) (λ v. omega (arith, e, f, v)) (omega arith) (omega arith))
-      where
-        sum : (a - 48) * 10 * (2 - 1) + (b - 48) ≡ 10 * (a - 48) + (b - 48)
-        sum = omega arith
-few-digits (x ∷ y ∷ c ∷ s) n a b h ea eb z m f g k l = absurd (omega arith)
+module _ (x y : ℕ) where
+  pub few-digits : (s : List ℕ) → 0 < length s → length s ≤ 2 → Decimal (getD s 0 0) x → Decimal (getD s (length s - 1) 0) y → length s - 1 ≤ x → x ≤ 9 → y ≤ 9 → x * 10 * (length s - 1) + y ≡ short-of s
+  few-digits [] z m dx dy f g h = absurd (omega arith)
+  few-digits (a ∷ []) z m dx dy f g h = omega arith ∙ one-value a y dy (omega arith)
+  few-digits (a ∷ b ∷ []) z m dx dy f g h = omega arith ∙ two-values a b x y dx dy (λ e. omega arith) (omega arith) (omega arith)
+  few-digits (a ∷ b ∷ c ∷ s) z m dx dy f g h = absurd (omega arith)
 
-pub three-values : (s : List ℕ) (x y z : ℕ) → length s ≡ 3 → x ≡ digit-value (getD s 0 0) → y ≡ digit-value (getD s 1 0) → z ≡ digit-value (getD s 2 0) → (x ≡ 0 → ⊥) → x < 10 → y < 10 → z < 10 → 100 * x + 10 * y + z ≡ short-of s
-unfolding read-from
-three-values [] x y z h ex ey ez k f g i = absurd (omega arith)
-three-values (a ∷ []) x y z h ex ey ez k f g i = absurd (omega arith)
-three-values (a ∷ b ∷ []) x y z h ex ey ez k f g i = absurd (omega arith)
-three-values (a ∷ b ∷ c ∷ []) x y z h ex ey ez k f g i =
-    let n : ((0 * 10 + x) * 10 + y) * 10 + z ≡ 100 * x + 10 * y + z = omega arith in
-    is-short (a ∷ b ∷ c ∷ []) (100 * x + 10 * y + z) (omega arith) (led (a ∷ b ∷ c ∷ []) (λ e. omega arith) (λ e. omega arith) (not-zero a x ex k) ∙ rw (← ex, ← ey, ← ez, lt-ltb x 10 f, lt-ltb y 10 g, lt-ltb z 10 i) (ap some n))
-three-values (a ∷ b ∷ c ∷ d ∷ s) x y z h ex ey ez k f g i = absurd (omega arith)
+-- three or four, of which the last three are named
+module _ (x y w u : ℕ) where
+  pub more-values : (s : List ℕ) → 2 < length s → length s ≤ 4 → Decimal (getD s 0 0) x → Decimal (getD s (length s - 3) 0) y → Decimal (getD s (length s - 2) 0) w → Decimal (getD s (length s - 1) 0) u → (x ≡ 0 → ⊥) → x ≤ 9 → y ≤ 9 → w ≤ 9 → u ≤ 9
+      → x * 1000 * (length s - 3) + y * 100 + w * 10 + u ≡ short-of s
+  more-values [] l m dx dy dw du z hx hy hw hu = absurd (omega arith)
+  more-values (a ∷ []) l m dx dy dw du z hx hy hw hu = absurd (omega arith)
+  more-values (a ∷ b ∷ []) l m dx dy dw du z hx hy hw hu = absurd (omega arith)
+  more-values (a ∷ b ∷ c ∷ []) l m dx dy dw du z hx hy hw hu =
+      omega arith ∙ three-values a b y w dy dw (λ e. z (same-zero e)) (omega arith) (omega arith) c u du (omega arith)
+    where
+      same-zero : y ≡ 0 → x ≡ 0
+      same-zero e = dx .0 (omega arith) ∙ sym (dy .0 (omega arith)) ∙ e
+  more-values (a ∷ b ∷ c ∷ d ∷ []) l m dx dy dw du z hx hy hw hu =
+      omega arith ∙ four-values a b x y dx dy z (omega arith) (omega arith) c w dw (omega arith) d u du (omega arith)
+  more-values (a ∷ b ∷ c ∷ d ∷ e ∷ s) l m dx dy dw du z hx hy hw hu = absurd (omega arith)

@@ -12,7 +12,6 @@ use lib.Dec.{eqb, ltb}
 use lib.ListN.{length, getD, drop, drop-of-length-le}
 use lib.Seq.{drop-cons}
 use Rattle.text.specs.Readers.{digit-value, read-from, sized, numeral, upto, end-from, same}
-use Rattle.text.specs.Inner.Parts.{further}
 use Rattle.text.specs.declared.Number.{Number}
 use Rattle.text.specs.declared.Number.the-variants.{Value, TooBig}
 use Rattle.text.specs.declared.Numeral.{Numeral}
@@ -20,53 +19,6 @@ use Rattle.text.specs.declared.Numeral.the-variants.{Is, Malformed}
 
 pub at : (s : List ℕ) (i : ℕ) → i < length s → drop i s ≡ getD s i 0 ∷ drop (i + 1) s
 at s i h = rw (add-one, drop-cons s i 0)
-
--- ---- digits
-
--- the digits behind a number already cut to its size
-unfoldable pub cut-from : (b : ℕ) → Number → List ℕ → Numeral
-cut-from b n [] = Is n
-cut-from b n (c ∷ cs) = cond (ltb (digit-value c) b) (cut-from b (further b n (digit-value c)) cs) Malformed
-
-further-big : (b v d : ℕ) → 0 < b → 2 ^ 64 ≤ v → TooBig ≡ sized (v * b + d)
-further-big b v d p h = simp (le-ltb (v * b + d) 18446744073709551616 (omega (arith, le-mul-of-pos-right v p)))
-
-further-sized′ : (b v d : ℕ) (t : Bool) → 0 < b → ltb v 18446744073709551616 ≡ t → further b (cond t (Value v) TooBig) d ≡ sized (v * b + d)
-further-sized′ b v d true p e = refl
-further-sized′ b v d false p e = further-big b v d p (ltb-false v 18446744073709551616 e)
-
-further-sized : (b v d : ℕ) → 0 < b → further b (sized v) d ≡ sized (v * b + d)
-further-sized b v d p = further-sized′ b v d (ltb v 18446744073709551616) p refl
-
-pub cut-read : (b v : ℕ) (s : List ℕ) → 0 < b → cut-from b (sized v) s ≡ numeral (read-from b v s)
-unfolding cut-from read-from
-cut-read b v [] p = refl
-cut-read b v (c ∷ cs) p = go (ltb (digit-value c) b) (cut-read b (v * b + digit-value c) cs p)
-  where
-    go : (t : Bool) → cut-from b (sized (v * b + digit-value c)) cs ≡ numeral (read-from b (v * b + digit-value c) cs) → cond t (cut-from b (further b (sized v) (digit-value c)) cs) Malformed ≡ numeral (cond t (read-from b (v * b + digit-value c) cs) none)
-    go true e = ap (λ (n : Number). cut-from b n cs) (further-sized b v (digit-value c) p) ∙ e
-    go false e = refl
-
-module _ (b : ℕ) (n : Number) (s : List ℕ) (i d : ℕ) (h : i < length s) (e : d ≡ digit-value (getD s i 0)) where
-  pub no-digit : b ≤ d → cut-from b n (drop i s) ≡ Malformed
-  unfolding cut-from
-  no-digit g = rw (at s i h, ← e, le-ltb d b g)
-
-  pub one-digit : d < b → cut-from b n (drop i s) ≡ cut-from b (further b n d) (drop (i + 1) s)
-  unfolding cut-from
-  one-digit g = rw (at s i h, ← e, lt-ltb d b g)
-
-pub no-digits : (b : ℕ) (n : Number) (s : List ℕ) (i : ℕ) → length s ≤ i → cut-from b n (drop i s) ≡ Is n
-unfolding cut-from
-no-digits b n s i h = rw (drop-of-length-le s h)
-
--- the test in front of the sum
-module _ (b v d : ℕ) (p : 0 < b) (f : d < b) where
-  pub over : (18446744073709551615 - d) / b < v → TooBig ≡ sized (v * b + d)
-  over g = simp (le-ltb (v * b + d) 18446744073709551616 (omega (arith, div-lt-iff-lt-mul p .0 g)))
-
-  pub under : v ≤ (18446744073709551615 - d) / b → v * b ≤ 18446744073709551615 - d
-  under g = le-div-iff-mul-le p .0 g
 
 -- ---- fields
 
@@ -111,7 +63,7 @@ pub same-end : (s w : List ℕ) (i : ℕ) → length s ≤ i → length w ≤ i 
 unfolding same
 same-end s w i h k = rw (drop-of-length-le s h, drop-of-length-le w k)
 
-off : (t : Bool) → t && false ≡ false
+pub off : (t : Bool) → t && false ≡ false
 off true = refl
 off false = refl
 

@@ -8,6 +8,8 @@ pub mod Fields
 pub mod Lines
 -- what the readers answer
 pub mod Readers
+-- what the number reader answers, and that no byte behind the comma alters it
+pub mod Once
 -- bytes as one number
 pub mod Bytes
 -- what only private functions and the fast path's promise

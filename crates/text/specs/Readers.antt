@@ -5,7 +5,7 @@ use mathlib.Core.List.{List, [], _∷_}
 use Prim.Native.Nat.{ℕ, zero, suc, _+_, _*_, _-_, _^_}
 use lib.Dec.{eqb, ltb, leb}
 use lib.IntN.{ℤ, pos, negsuc}
-use lib.ListN.{length, drop}
+use lib.ListN.{length, take, drop}
 use Rattle.text.specs.Fields.{onto}
 use Rattle.text.specs.declared.Number.{Number}
 use Rattle.text.specs.declared.Number.the-variants as Number
@@ -58,6 +58,10 @@ fields-from s a = cond (ltb (length s) a) [] (split (drop a s))
 unfoldable pub upto : List ℕ → ℕ
 upto [] = 0
 upto (c ∷ cs) = cond (eqb c 44) 0 (suc (upto cs))
+
+-- the first field
+abbrev pub field : List ℕ → List ℕ
+field s = take (upto s) s
 
 -- where the field that starts at place a ends, and where the next one starts
 unfoldable pub end-from : List ℕ → ℕ → ℕ

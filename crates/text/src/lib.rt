@@ -1,14 +1,16 @@
 // Document 01, "The deck file": numbers, fields and lines as bytes.
 ghost use mathlib.Core.Path.{_≡_};
-ghost use mathlib.Core.Bool.{true, cond};
-ghost use Prim.Native.Nat.{_+_, _/_, _≤_, _<_};
+ghost use mathlib.Core.Bool.{true, cond, _&&_};
+ghost use Prim.Native.Nat.{_+_, _*_, _/_, _^_, _≤_, _<_};
 ghost use lib.Count.{trailingZeros};
-ghost use lib.Dec.{eqb};
-ghost use lib.ListN.{length, getD, take};
+ghost use lib.Dec.{eqb, ltb, leb};
+ghost use lib.ListN.{length, getD, take, drop};
 ghost use lib.Pow.{areBytes};
-ghost use Rattle.text.specs.Readers.{negative, digit-value, read-from, read-decimal, read-integer, read-word, numeral, integer, word};
-ghost use Rattle.text.specs.Inner.Parts.{short-of, further, four-are, each, marks};
-ghost use Rattle.text.specs.Readers.{same, fields-from, end-from, next-from, first-decimal};
+ghost use Rattle.text.specs.Readers.{negative, digit-value, read-decimal, read-integer, read-word, numeral, integer, word};
+ghost use Rattle.text.specs.Once.{reads};
+ghost use Rattle.text.specs.Inner.Parts.{Decimal, numeral-of, Scans, stays-big, four-are, each, marks};
+ghost use Rattle.text.specs.Inner.Short.{short-of, short, near};
+ghost use Rattle.text.specs.Readers.{same, fields-from, upto, field, end-from, next-from, first-decimal};
 ghost use Rattle.text.specs.Lines.{Ends};
 ghost use Rattle.text.specs.Bytes.{joined-eight, word-to};
 
@@ -34,11 +36,220 @@ pub enum Word {
     Malformed,
 }
 
+// What a number field says, and how many bytes of the line it has: a comma or the line's end stopped the reader there.
+pub struct Stopped {
+    pub numeral: Numeral,
+    pub stop: usize,
+}
+
+// The same as plain numbers, which cost less to hand on: one of three kinds, and the value of the first.
+struct Scan {
+    kind: u64,
+    value: u64,
+    stop: usize,
+}
+
+const VALUE: u64 = 0;
+
+const TOO_BIG: u64 = 1;
+
+const MALFORMED: u64 = 2;
+
+// A number of the fast path, and a place: where its field ends, counted as each function says.
+pub struct ShortField {
+    pub number: u64,
+    pub stop: usize,
+}
+
 // What a number field says, and where the next field starts.
 pub struct Field {
     pub numeral: Numeral,
     pub next: usize,
 }
+
+// ---- decimal numbers
+
+// The value of a decimal digit's byte; above 9 for any other byte.
+fn decimal(c: u8) -> u64
+    ensures { λ r. ⌜ Decimal c r ⌝ }
+{
+    wide(c) ^ 48
+}
+
+// Whether v with the digit d behind it has more than 64 bits.
+fn is_big(v: u64, d: u64) -> bool
+    requires { ⌜ d < 10 ⌝ }
+    ensures { λ r. ⌜ r ≡ leb (2 ^ 64) (v * 10 + d) ⌝ }
+{
+    if v < 1844674407370955161 {
+        return false;
+    }
+    if v > 1844674407370955161 {
+        return true;
+    }
+    5 < d
+}
+
+// A field that is no number, whatever stands from place a on.
+fn malformed(s: &[u8], a: usize) -> Scan
+    requires { ⌜ a ≤ length (now s) ⌝ }
+    ensures { λ r. ⌜ (r .kind ≡ 2) × (r .stop ≡ a + upto (drop a (now (s .entry)))) ⌝ }
+{
+    Scan {
+        kind: MALFORMED,
+        value: 0,
+        stop: field_end_bytewise(s, a),
+    }
+}
+
+// A number of more than 64 bits goes on at place a.
+fn big_number(s: &[u8], a: usize) -> Scan
+    requires { ⌜ a ≤ length (now s) ⌝ }
+    ensures { λ r. ⌜ Scans (stays-big (field (drop a (now (s .entry))))) (a + upto (drop a (now (s .entry)))) (r .kind) (r .value) (r .stop) ⌝ }
+{
+    let mut i = a;
+    while i < s.len() {
+        let c = s[i];
+        if c == 44 {
+            break;
+        }
+        if decimal(c) > 9 {
+            return malformed(s, i + 1);
+        }
+        i += 1;
+    }
+    Scan {
+        kind: TOO_BIG,
+        value: 0,
+        stop: i,
+    }
+}
+
+// Whether the i digits that gave v are a 0 alone: no digit may follow it.
+fn is_zero(v: u64, i: usize) -> bool
+    ensures { λ r. ⌜ r ≡ eqb v 0 && ltb 0 i ⌝ }
+{
+    if v != 0 {
+        return false;
+    }
+    0 < i
+}
+
+// The number that i digits gave; none is malformed.
+fn scanned(v: u64, i: usize) -> Scan
+    ensures { λ r. ⌜ Scans (numeral-of (cond (eqb i 0) 2 0) v) i (r .kind) (r .value) (r .stop) ⌝ }
+{
+    if i == 0 {
+        return Scan {
+            kind: MALFORMED,
+            value: 0,
+            stop: 0,
+        };
+    }
+    Scan {
+        kind: VALUE,
+        value: v,
+        stop: i,
+    }
+}
+
+// A decimal number; s is the line from the field's first byte on. Each byte up to the comma is looked at once.
+fn scan_number(s: &[u8]) -> Scan
+    ensures { λ r. ⌜ Scans (numeral (read-decimal (field (now (s .entry))))) (upto (now (s .entry))) (r .kind) (r .value) (r .stop) ⌝ }
+{
+    let mut v = 0;
+    let mut i = 0;
+    while i < s.len() {
+        let c = s[i];
+        if c == 44 {
+            return scanned(v, i);
+        }
+        let d = decimal(c);
+        if d > 9 {
+            return malformed(s, i + 1);
+        }
+        if is_zero(v, i) {
+            return malformed(s, i + 1);
+        }
+        if is_big(v, d) {
+            return big_number(s, i + 1);
+        }
+        v = v * 10 + d;
+        i += 1;
+    }
+    scanned(v, i)
+}
+
+// The numeral of a kind and a value.
+fn numeral_of(kind: u64, value: u64) -> Numeral
+    ensures { λ r. ⌜ r ≡ numeral-of kind value ⌝ }
+{
+    if kind == VALUE {
+        return Numeral::Is(Number::Value(value));
+    }
+    if kind == TOO_BIG {
+        return Numeral::Is(Number::TooBig);
+    }
+    Numeral::Malformed
+}
+
+// A decimal number; s is the line from the field's first byte on.
+pub fn read_number(s: &[u8]) -> Stopped
+    ensures { λ r. ⌜ r ≡ reads (now (s .entry)) ⌝ }
+{
+    let f = scan_number(s);
+    let n = numeral_of(f.kind, f.value);
+    Stopped {
+        numeral: n,
+        stop: f.stop,
+    }
+}
+
+// A decimal number that is all of s: no comma stands behind it.
+fn whole_number(s: &[u8]) -> Numeral
+    ensures { λ r. ⌜ r ≡ numeral (read-decimal (now (s .entry))) ⌝ }
+{
+    let f = read_number(s);
+    if f.stop < s.len() {
+        return Numeral::Malformed;
+    }
+    f.numeral
+}
+
+// A decimal number that may have a minus.
+pub fn read_integer(s: &[u8]) -> Integer
+    ensures { λ r. ⌜ r ≡ integer (read-integer (now (s .entry))) ⌝ }
+{
+    if s.len() == 0 {
+        return Integer::Malformed;
+    }
+    if s[0] == 45 {
+        return read_negative(&s[1..]);
+    }
+    match whole_number(s) {
+        Numeral::Is(n) => Integer::Is(false, n),
+        Numeral::Malformed => Integer::Malformed,
+    }
+}
+
+// What stands behind a minus: no zero.
+fn read_negative(s: &[u8]) -> Integer
+    ensures { λ r. ⌜ r ≡ integer (negative (read-decimal (now (s .entry)))) ⌝ }
+{
+    let Numeral::Is(n) = whole_number(s) else {
+        return Integer::Malformed;
+    };
+    let Number::Value(v) = n else {
+        return Integer::Is(true, n);
+    };
+    if v == 0 {
+        Integer::Malformed
+    } else {
+        Integer::Is(true, n)
+    }
+}
+
+// ---- hexadecimal numbers
 
 fn digit(c: u8) -> u64
     ensures { λ r. ⌜ r ≡ digit-value c ⌝ }
@@ -55,147 +266,6 @@ fn digit(c: u8) -> u64
     if c <= 102 { c as u64 - 87 } else { 16 }
 }
 
-// One digit more.
-fn further_by(n: Number, base: u64, d: u64) -> Number
-    requires { ⌜ (0 < base) × (d < base) ⌝ }
-    ensures { λ r. ⌜ r ≡ further base n d ⌝ }
-{
-    let Number::Value(v) = n else {
-        return Number::TooBig;
-    };
-    if v > (u64::MAX - d) / base {
-        Number::TooBig
-    } else {
-        Number::Value(v * base + d)
-    }
-}
-
-fn digits(s: &[u8], base: u64) -> Numeral
-    requires { ⌜ 0 < base ⌝ }
-    ensures { λ r. ⌜ r ≡ numeral (read-from base 0 (now (s .entry))) ⌝ }
-{
-    let mut n = Number::Value(0);
-    let mut i = 0;
-    while i < s.len() {
-        let d = digit(s[i]);
-        if d >= base {
-            return Numeral::Malformed;
-        }
-        n = further_by(n, base, d);
-        i += 1;
-    }
-    Numeral::Is(n)
-}
-
-// A decimal number; s is its field from comma to comma.
-pub fn read_number(s: &[u8]) -> Numeral
-    ensures { λ r. ⌜ r ≡ numeral (read-decimal (now (s .entry))) ⌝ }
-{
-    if s.len() == 0 {
-        return Numeral::Malformed;
-    }
-    if s.len() == 1 {
-        return digits(s, 10);
-    }
-    if s[0] == 48 {
-        return Numeral::Malformed;
-    }
-    digits(s, 10)
-}
-
-// A decimal number of three digits, else 1000.
-fn three_digits(s: &[u8]) -> u64
-    requires { ⌜ 2 < length (now s) ⌝ }
-    ensures { λ r. ⌜ r ≡ short-of (now (s .entry)) ⌝ }
-{
-    if s.len() != 3 {
-        return 1000;
-    }
-    let a = s[0];
-    let b = s[1];
-    let c = s[2];
-    if a < 49 {
-        return 1000;
-    }
-    if a > 57 {
-        return 1000;
-    }
-    if b < 48 {
-        return 1000;
-    }
-    if b > 57 {
-        return 1000;
-    }
-    if c < 48 {
-        return 1000;
-    }
-    if c > 57 {
-        return 1000;
-    }
-    100 * (a - 48) as u64 + 10 * (b - 48) as u64 + (c - 48) as u64
-}
-
-// A decimal number of one, two or three digits, else 1000. One and two take the same way.
-pub fn short_number(s: &[u8]) -> u64
-    ensures { λ r. ⌜ r ≡ short-of (now (s .entry)) ⌝ }
-{
-    let n = s.len();
-    if n == 0 {
-        return 1000;
-    }
-    if n > 2 {
-        return three_digits(s);
-    }
-    let a = wide(s[0]);
-    let b = wide(s[n - 1]);
-    if a < 47 + n as u64 {
-        return 1000;
-    }
-    if a > 57 {
-        return 1000;
-    }
-    if b < 48 {
-        return 1000;
-    }
-    if b > 57 {
-        return 1000;
-    }
-    (a - 48) * 10 * (n as u64 - 1) + (b - 48)
-}
-
-// A decimal number that may have a minus.
-pub fn read_integer(s: &[u8]) -> Integer
-    ensures { λ r. ⌜ r ≡ integer (read-integer (now (s .entry))) ⌝ }
-{
-    if s.len() == 0 {
-        return Integer::Malformed;
-    }
-    if s[0] == 45 {
-        return read_negative(&s[1..]);
-    }
-    match read_number(s) {
-        Numeral::Is(n) => Integer::Is(false, n),
-        Numeral::Malformed => Integer::Malformed,
-    }
-}
-
-// What stands behind a minus: no zero.
-fn read_negative(s: &[u8]) -> Integer
-    ensures { λ r. ⌜ r ≡ integer (negative (read-decimal (now (s .entry)))) ⌝ }
-{
-    let Numeral::Is(n) = read_number(s) else {
-        return Integer::Malformed;
-    };
-    let Number::Value(v) = n else {
-        return Integer::Is(true, n);
-    };
-    if v == 0 {
-        Integer::Malformed
-    } else {
-        Integer::Is(true, n)
-    }
-}
-
 // 16 lowercase hexadecimal digits.
 pub fn read_word(s: &[u8]) -> Word
     ensures { λ r. ⌜ r ≡ word (read-word (now (s .entry))) ⌝ }
@@ -203,14 +273,20 @@ pub fn read_word(s: &[u8]) -> Word
     if s.len() != 16 {
         return Word::Malformed;
     }
-    let Numeral::Is(n) = digits(s, 16) else {
-        return Word::Malformed;
-    };
-    match n {
-        Number::Value(v) => Word::Is(v),
-        Number::TooBig => Word::Malformed,
+    let mut v = 0;
+    let mut i = 0;
+    while i < 16 {
+        let d = digit(s[i]);
+        if d > 15 {
+            return Word::Malformed;
+        }
+        v = v * 16 + d;
+        i += 1;
     }
+    Word::Is(v)
 }
+
+// ---- fields
 
 // Where the field that starts at a ends, byte by byte.
 fn field_end_bytewise(s: &[u8], a: usize) -> usize
@@ -234,7 +310,7 @@ fn near_end(s: &[u8], a: usize) -> usize
     if s[a + 1] == 44 { a + 1 } else { a + 2 }
 }
 
-// Where the field that starts at a ends: at a comma, or with s. A field of one or two bytes, as most are, takes no loop.
+// Where the field that starts at a ends: at a comma, or with s. A field of one or two bytes takes no loop.
 pub fn field_end(s: &[u8], a: usize) -> usize
     ensures { λ r. ⌜ (r ≡ end-from (now (s .entry)) a) × (a ≤ r) × (a ≤ length (now (s .entry)) → r ≤ length (now (s .entry))) ⌝ }
 {
@@ -265,11 +341,11 @@ pub fn number_at(s: &[u8], a: usize) -> Field
             next: a,
         };
     }
-    let e = field_end(s, a);
-    let n = read_number(&s[a..e]);
+    let f = read_number(&s[a..]);
+    let n = f.numeral;
     Field {
         numeral: n,
-        next: e + 1,
+        next: a + f.stop + 1,
     }
 }
 
@@ -288,6 +364,120 @@ pub fn same(s: &[u8], w: &[u8]) -> bool
         i += 1;
     }
     true
+}
+
+// ---- the fast path's numbers
+
+// A number below 10,000, else 10,000; s is the line from the field's first byte on.
+pub fn short_field(s: &[u8]) -> ShortField
+    ensures { λ r. ⌜ r ≡ short (now (s .entry)) ⌝ }
+{
+    let f = scan_number(s);
+    let stop = f.stop;
+    if f.kind == VALUE {
+        if f.value < 10000 {
+            return ShortField {
+                number: f.value,
+                stop,
+            };
+        }
+    }
+    ShortField {
+        number: 10000,
+        stop,
+    }
+}
+
+// A number of one or two digits that a comma ends, in the field that starts at a, and where it ends; both take the same way.
+// It declines, by 100 and a, anything else, and fields that start fewer than three bytes before the end.
+pub fn near_field(s: &[u8], a: usize) -> ShortField
+    ensures { λ r. ⌜ r ≡ near (now (s .entry)) a ⌝ }
+{
+    let none = ShortField {
+        number: 100,
+        stop: a,
+    };
+    let n = s.len();
+    if n < 3 {
+        return none;
+    }
+    if a > n - 3 {
+        return none;
+    }
+    let e = near_end(s, a);
+    if s[e] != 44 {
+        return none;
+    }
+    let w = (e - a) as u64;
+    let x = decimal(s[a]);
+    let y = decimal(s[e - 1]);
+    if x < w - 1 {
+        return none;
+    }
+    if y > 9 {
+        return none;
+    }
+    let v = x * 10 * (w - 1) + y;
+    if v > 99 {
+        return none;
+    }
+    ShortField { number: v, stop: e }
+}
+
+// Three or four digits, which take the same way; else 10,000.
+fn more_digits(s: &[u8]) -> u64
+    requires { ⌜ 2 < length (now s) ⌝ }
+    ensures { λ r. ⌜ r ≡ short-of (now (s .entry)) ⌝ }
+{
+    let n = s.len();
+    if n > 4 {
+        return 10000;
+    }
+    let a = decimal(s[0]);
+    let b = decimal(s[n - 3]);
+    let c = decimal(s[n - 2]);
+    let d = decimal(s[n - 1]);
+    if a == 0 {
+        return 10000;
+    }
+    if a > 9 {
+        return 10000;
+    }
+    if b > 9 {
+        return 10000;
+    }
+    if c > 9 {
+        return 10000;
+    }
+    if d > 9 {
+        return 10000;
+    }
+    a * 1000 * (n as u64 - 3) + b * 100 + c * 10 + d
+}
+
+// A number below 10,000 that is all of s, else 10,000. One and two digits take the same way.
+pub fn short_number(s: &[u8]) -> u64
+    ensures { λ r. ⌜ r ≡ short-of (now (s .entry)) ⌝ }
+{
+    let n = s.len();
+    if n == 0 {
+        return 10000;
+    }
+    if n > 2 {
+        return more_digits(s);
+    }
+    let a = decimal(s[0]);
+    let b = decimal(s[n - 1]);
+    if a < n as u64 - 1 {
+        return 10000;
+    }
+    if a > 9 {
+        return 10000;
+    }
+    if b > 9 {
+        return 10000;
+    }
+    a * 10 * (n as u64 - 1) + b
 }
 
 // ---- eight bytes at a time

@@ -1,13 +1,16 @@
-use native.Mathlib.Omega.{arith}
-use borrow.Author.Tests.{lt-ltb, le-ltb}
+use borrow.Author.Needs.{needs}
+use Rattle.fast.proofs.Fields.{doubled-seven, constant-bound, other-bound}
 use Rattle.fast.proofs.last_bound.Statement.{statement}
 use Rattle.fast.proofs.last_bound.Tie as tie
 
+sub-result : tie.Need-sub-result
+sub-result c = doubled-seven (c .before .args .shape) (c .if1 .taken)
+
 returns : tie.Need-returns
-returns c = (rw (lt-ltb (c .before .args .shape) 4 (c .if1 .taken)), omega arith)
+returns c = constant-bound (c .before .args .shape) (c .before .pre) (c .if1 .taken)
 
 returns-2 : tie.Need-returns-2
-returns-2 c = (rw (le-ltb (c .before .args .shape) 4 (c .if1 .left)), omega arith)
+returns-2 c = other-bound (c .before .args .shape) (c .before .pre) (c .if1 .left)
 
 pub last-bound-spec : {M : Type 1} → statement M
-last-bound-spec = tie.close (tie.spec returns returns-2)
+last-bound-spec = tie.close (tie.spec (λ c. search needs) (λ c. search needs) (λ c. search needs) sub-result returns returns-2)

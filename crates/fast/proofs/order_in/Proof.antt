@@ -43,7 +43,11 @@ slice-aggregate-order-of : tie.Need-slice-aggregate-order-of
 slice-aggregate-order-of c = sym (length-take-le _ _ (omega arith))
 
 order-of-requires : tie.Need-order-of-requires
-order-of-requires c κs = rw (read (named c .before) .read-name .ensures .2) (few-coded (kind-of _))
+order-of-requires c κs =
+    let n = read (named c .before) in
+    let l = now (eight (ended n) .before .before .args .line) in
+    let t = length-take-le (length l - 1) l (omega arith) in
+    (rw (n .read-name .ensures .2) (few-coded (kind-of _)), omega (arith, t, named c .if3 .left))
 
 returns-4 : tie.Need-returns-4
 returns-4 c =

@@ -1,7 +1,7 @@
 -- The fast path through one line behind line 1: which lines it takes, and the state that it leaves. The state is that of the general path
--- (document 01, "The deck file" and "Numbers of refusal"): a line that is refused, or whose numbers are large, is not taken.
+-- (document 01, "The deck file" and "Numbers of refusal"): a line that is refused is not taken.
 use mathlib.Core.Path.{_≡_}
-use mathlib.Core.Bool.{Bool, true, false, cond}
+use mathlib.Core.Bool.{false, cond}
 use mathlib.Core.Option.{Option, some, none}
 use mathlib.Core.List.{List}
 use denote.Ref.{now}
@@ -10,9 +10,6 @@ use lib.Dec.{ltb}
 use Rattle.refusal.specs.Answer.{Answer, accepted, refused}
 use Rattle.ast.specs.declared.Head.{Head}
 use Rattle.ast.specs.declared.Order.{Order}
-use Rattle.ast.specs.declared.Operand.{Operand}
-use Rattle.ast.specs.declared.Operand.the-variants.{Nothing, Loaded, Stored, Constant, GoneTo, Set}
-use Rattle.ast.specs.Uses.{uses}
 use Rattle.assembler.specs.declared.Asm.{Asm}
 use Rattle.assembler.specs.State.{State, Outcome, state, Lent, before}
 use Rattle.orders.specs.Emitted.{emitted-in}
@@ -22,27 +19,16 @@ use Rattle.deck.specs.Judge.{Content, head, order, constant, line-judged}
 
 -- ---- the lines that it takes
 
--- an operand that is no register, as an index, a constant's number or a label, is below 1,000
-abbrev pub small-operand : Operand → Bool
-small-operand Nothing = true
-small-operand (Loaded p i) = ltb i 1000
-small-operand (Stored p i) = ltb i 1000
-small-operand (Constant k) = ltb k 1000
-small-operand (GoneTo l) = ltb l 1000
-small-operand (Set l) = ltb l 1000
+-- an order that is accepted
+abbrev pub only-order : Answer Content → Option Order
+only-order (accepted (order o)) = some o
+only-order (accepted (head h)) = none
+only-order (accepted (constant c)) = none
+only-order (refused n place) = none
 
-abbrev pub small : Order → Bool
-small o = small-operand (uses o .operand)
-
--- the order that a line says, if it has such numbers alone
-abbrev pub small-order : Answer Content → Option Order
-small-order (accepted (order o)) = cond (small o) (some o) none
-small-order (accepted (head h)) = none
-small-order (accepted (constant c)) = none
-small-order (refused n place) = none
-
+-- the order that a line says
 abbrev pub order-said : (line : List ℕ) → Option Order
-order-said line = small-order (line-judged false (said line))
+order-said line = only-order (line-judged false (said line))
 
 -- ---- the state that it leaves
 

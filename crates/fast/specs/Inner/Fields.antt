@@ -6,7 +6,7 @@ use Prim.Native.Nat.{ℕ, zero, suc, _+_, _*_, _%_}
 use lib.Dec.{eqb, ltb}
 use lib.ListN.{getD}
 use Rattle.base.specs.Tests.{member}
-use Rattle.text.specs.Inner.Parts.{short-of}
+use Rattle.text.specs.Inner.Short.{short-of}
 use Rattle.ast.specs.declared.Place.{Place}
 use Rattle.form.specs.Inner.Syntax.{flag}
 use Rattle.form.specs.Text.{place-name}
@@ -42,12 +42,12 @@ operands (suc k) b (f ∷ fs) = onto (short-of f) (operands k b fs)
 abbrev pub numeric : (shape : ℕ) → Bool
 numeric k = member k (0 ∷ 1 ∷ 2 ∷ 3 ∷ 4 ∷ 7 ∷ 9 ∷ [])
 
--- how many registers stand before the last operand, and that one's bound; only numbers below 1,000 are packed
+-- how many registers stand before the last operand, and that one's bound
 abbrev pub registers-of : (shape : ℕ) → ℕ
 registers-of k = getD (1 ∷ 2 ∷ 2 ∷ 3 ∷ 3 ∷ 0 ∷ 0 ∷ 1 ∷ 0 ∷ 0 ∷ []) k 0
 
 abbrev pub bound-of : (shape : ℕ) → ℕ
-bound-of k = cond (ltb k 4) 32 1000
+bound-of k = cond (ltb k 7) (cond (ltb k 4) 32 4096) (cond (eqb k 7) 1008 1024)
 
 -- the fields of such an order
 abbrev pub numbers-packed : (shape : ℕ) → List (List ℕ) → Option ℕ
@@ -65,7 +65,7 @@ with-place c (some p) o = behind (c + 16 * place-number p) o
 abbrev pub cell : (code : ℕ) → List (List ℕ) → Option ℕ
 cell c [] = none
 cell c (f ∷ []) = none
-cell c (f ∷ g ∷ fs) = with-place c (first place-name g all-places) (onto (short-of f) (last 1000 fs))
+cell c (f ∷ g ∷ fs) = with-place c (first place-name g all-places) (onto (short-of f) (last 4096 fs))
 
 -- a register, a label and 0 or 1
 abbrev pub with-flag : (code : ℕ) → Option Bool → Option ℕ → Option ℕ
@@ -75,7 +75,7 @@ with-flag c (some e) o = behind (c + 16 * flag-number e) o
 abbrev pub branch : (code : ℕ) → List (List ℕ) → Option ℕ
 branch c [] = none
 branch c (f ∷ []) = none
-branch c (f ∷ g ∷ fs) = with-flag c (only flag fs) (onto (short-of f) (bounded 1000 (short-of g)))
+branch c (f ∷ g ∷ fs) = with-flag c (only flag fs) (onto (short-of f) (bounded 1024 (short-of g)))
 
 -- a line with this code and these fields behind the name
 unfoldable pub fields-packed : (code : ℕ) → List (List ℕ) → Option ℕ

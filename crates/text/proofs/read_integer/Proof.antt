@@ -20,14 +20,14 @@ returns-3 c =
     let n = c .before in
     let i = n .before .before .before in
     let s = now (i .before .before .before .before .args .s) in
-    rw (plain s (i .before .before .if1 .left) (i .if2 .left)) (plain-is (read-decimal s) _ (sym (n .before .before .read-number .ensures) ∙ n .n .given .1))
+    rw (plain s (i .before .before .if1 .left) (i .if2 .left)) (plain-is (read-decimal s) _ (sym (n .before .before .whole-number .ensures) ∙ n .n .given .1))
 
 returns-4 : tie.Need-returns-4
 returns-4 c =
     let n = c .before .before in
     let i = n .before in
     let s = now (i .before .before .before .before .args .s) in
-    rw (plain s (i .before .before .if1 .left) (i .if2 .left)) (plain-bad (read-decimal s) (sym (n .read-number .ensures) ∙ c .enum-told .given .1))
+    rw (plain s (i .before .before .if1 .left) (i .if2 .left)) (plain-bad (read-decimal s) (sym (n .whole-number .ensures) ∙ c .enum-told .given .1))
 
 pub read-integer-spec : {M : Type 1} → statement M
 read-integer-spec =

@@ -1,38 +1,70 @@
-use mathlib.Core.Path.{sym, ap, _∙_}
-use Rattle.text.specs.declared.Numeral.the-variants as Numeral
-use Rattle.text.proofs.Answers.{not-16, word-bad, word-is, word-fits}
+use Prim.Native.Nat.{_+_, _*_, _-_, _^_, _<_}
+use denote.Ref.{now}
+use lib.ListN.{length}
+use native.Mathlib.Omega.{arith}
 use borrow.Author.Needs.{needs}
+use Rattle.text.proofs.Answers.{not-16, Wording, word-starts, word-ends, word-bad, word-room, word-more}
 use Rattle.text.proofs.read_word.Statement.{statement}
 use Rattle.text.proofs.read_word.Tie as tie
 
-returns : tie.Need-returns
+abbrev Inv-loop : tie.InvT-loop
+Inv-loop s v₀ i₀ v i = Wording s v i
+
+abbrev μ-loop : tie.MeasureT-loop
+μ-loop s v₀ i₀ v i = 16 - i
+
+-- the place where a digit is read, in the loop
+abbrev looped : tie.After-digit Inv-loop μ-loop → tie.At-loop Inv-loop μ-loop
+looped c = c .before .before .before
+
+returns : tie.Need-returns Inv-loop μ-loop
 returns c = not-16 _ (c .if1 .taken)
 
-returns-2 : tie.Need-returns-2
+loop-holds : tie.Need-loop-holds Inv-loop μ-loop
+loop-holds c = word-starts _
+
+shared-slice-read-digit : tie.Need-shared-slice-read-digit Inv-loop μ-loop
+shared-slice-read-digit c = omega (arith, c .before .loop-test .taken, c .before .before .before .if1 .left)
+
+returns-2 : tie.Need-returns-2 Inv-loop μ-loop
 returns-2 c =
-    let n = c .before .before in
-    word-bad _ (n .before .if1 .left) (sym (n .digits .ensures) ∙ c .enum-told .given .1)
+    let d = c .before in
+    word-bad _ (looped d .before .if1 .left) _ _ (looped d .loop .inv) (d .before .before .loop-test .taken) (rw (d .digit .ensures) at (c .if2 .taken))
 
-returns-3 : tie.Need-returns-3
-returns-3 c =
-    let n = c .before .before .before .before in
-    word-is _ (n .before .before .before .if1 .left) _ (sym (n .before .before .digits .ensures) ∙ n .n .given .1 ∙ ap Numeral.Is (c .before .n2 .given .1))
+-- one digit more has room
+room : (c : tie.Else2 Inv-loop μ-loop) → looped (c .before) .loop .v * 16 + c .before .digit .result < 2 ^ 64
+room c =
+    let d = c .before in
+    word-room _ (looped d .before .if1 .left) _ _ (looped d .loop .inv) (d .before .before .loop-test .taken) (d .digit .result) (d .digit .ensures) (c .if2 .left)
 
-returns-4 : tie.Need-returns-4
-returns-4 c =
-    let n = c .before .before .before in
-    absurd (word-fits _ (n .before .before .before .if1 .left) (sym (n .before .before .digits .ensures) ∙ n .n .given .1 ∙ ap Numeral.Is (c .enum-told2 .given .1)))
+mul-v : tie.Need-mul-v Inv-loop μ-loop
+mul-v c = record { fits = omega (arith, room c) }
+
+add-v : tie.Need-add-v Inv-loop μ-loop
+add-v c = record { fits = room c }
+
+loop-again : tie.Need-loop-again Inv-loop μ-loop
+loop-again c =
+    let d = c .before in
+    word-more _ (looped d .before .if1 .left) _ _ (looped d .loop .inv) (d .before .before .loop-test .taken) (d .digit .result) (d .digit .ensures) (c .if2 .left)
+
+returns-3 : tie.Need-returns-3 Inv-loop μ-loop
+returns-3 c = word-ends _ (c .before .before .if1 .left) _ _ (c .before .loop .inv) (c .loop-test .left)
 
 pub read-word-spec : {M : Type 1} → statement M
 read-word-spec =
     tie.close
     (tie.spec
+    Inv-loop
+    μ-loop
     returns
+    loop-holds
+    shared-slice-read-digit
     (λ c κs. search needs)
-    (λ c. search needs)
-    (λ c. search needs)
     returns-2
+    mul-v
+    add-v
     (λ c. search needs)
     (λ c. search needs)
-    returns-3
-    returns-4)
+    loop-again
+    returns-3)

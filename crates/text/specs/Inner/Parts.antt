@@ -1,14 +1,14 @@
 -- The parts of the readers: what only their own functions promise.
 use mathlib.Core.Path.{_≡_}
 use mathlib.Core.Bool.{cond}
-use mathlib.Core.Option.{Option, some, none}
 use mathlib.Core.List.{List}
-use Prim.Native.Nat.{ℕ, zero, suc, _+_, _*_, _/_, _%_}
-use lib.Dec.{eqb, leb}
-use lib.ListN.{length, getD}
-use Rattle.text.specs.Readers.{read-decimal, sized}
-use Rattle.text.specs.declared.Number.{Number}
+use Prim.Native.Nat.{ℕ, zero, suc, _+_, _*_, _/_, _%_, _^_, _<_, _≤_}
+use lib.Dec.{eqb}
+use lib.ListN.{getD}
+use Rattle.text.specs.Readers.{digit-value, read-from, numeral}
 use Rattle.text.specs.declared.Number.the-variants as Number
+use Rattle.text.specs.declared.Numeral.{Numeral}
+use Rattle.text.specs.declared.Numeral.the-variants as Numeral
 
 -- the four lowest bytes of x are those of f from i on
 abbrev pub four-are : List ℕ → ℕ → ℕ → Type 0
@@ -28,17 +28,20 @@ unfoldable pub marks : (c k x : ℕ) → ℕ
 marks c zero x = 0
 marks c (suc k) x = marks c k (x / 256) * 256 + cond (eqb (x % 256) c) 128 0
 
--- one digit more; what is too big stays so
-abbrev pub further : (b : ℕ) → Number → (d : ℕ) → Number
-further b (Number.Value v) d = sized (v * b + d)
-further b Number.TooBig d = Number.TooBig
+-- ---- a number's field
 
--- ---- the fast path's numbers
+-- r is the value of the decimal digit whose byte is c, and above 9 for any other byte; it has a byte's size
+abbrev pub Decimal : (c r : ℕ) → Type 0
+Decimal c r = (r < 10 → r ≡ digit-value c) × (10 ≤ r → 10 ≤ digit-value c) × (r < 256)
 
--- a number of at most three digits, 1000 for everything else
-abbrev pub or-1000 : Option ℕ → ℕ
-or-1000 none = 1000
-or-1000 (some n) = n
+-- the number reader's answer as numbers: 0 is a value, 1 too big, 2 malformed
+abbrev pub numeral-of : (kind value : ℕ) → Numeral
+numeral-of k v = cond (eqb k 0) (Numeral.Is (Number.Value v)) (cond (eqb k 1) (Numeral.Is Number.TooBig) Numeral.Malformed)
 
-unfoldable pub short-of : List ℕ → ℕ
-short-of s = cond (leb (length s) 3) (or-1000 (read-decimal s)) 1000
+-- kind and value are this numeral, and the reader stopped at e
+abbrev pub Scans : Numeral → (e : ℕ) → (kind value stop : ℕ) → Type 0
+Scans n e k v stop = (numeral-of k v ≡ n) × (stop ≡ e)
+
+-- a number of more than 64 bits, with these bytes behind it
+abbrev pub stays-big : List ℕ → Numeral
+stays-big t = numeral (read-from 10 (2 ^ 64) t)
