@@ -12,6 +12,7 @@ Tags: 0 refused, 1 head, 2 to 11 the orders by their shape, 12 float, 13 bits, 1
 The first number of an order of registers alone is its place among those of its shape.
 """
 import argparse
+import itertools
 import pathlib
 import random
 import re
@@ -172,6 +173,38 @@ def lines(r):
             yield line_of("indirect", ["16", str(states), str(obs), str(last), "0"])
 
 
+# Corners of the number reader (document 02, point 3), as lines.
+ONCE = ["fmov,5,7", "fmov,5", "fmov,", "fmov,,5", "fmov,5,", "fmov,0,1", "fmov,00,1", "fmov,1,01", "fmov,01", "fmov,1x,2",
+        "fmov,12 ,3", "fmov,-1,2", "fmov,7\n,1", "fmov,0x1f,", "fmov,18446744073709551615,x", "fmov,18446744073709551616,x",
+        "fmov,99999999999999999999999", "get,31,mem,4", "get,31,", "get,31,,,x", "get,5,mem,4096", "get,32,mem,",
+        "branch,0,1024,0", "branch,0,18446744073709551616,0", "label,7", "label,31", "label,255", "label,1000", "label,07",
+        "label,", "label,,", "label,7,", "float,-9007199254740992", "float,-9007199254740993", "float,-0", "float,-", "float,--1",
+        "float,1,", "float,-1,2"]
+# and numbers of four digits, at the fields' limits
+FOUR = ["get,1,mem,999", "get,1,stack,1000", "put,1,param,4095", "put,1,mem,9999", "put,1,mem,10000", "ifelse,1,2,3,1000",
+        "ifelse,1,2,3,4095", "ifelse,1,2,3,4096", "load_const,1,1000", "load_const,1,1007", "load_const,1,1008", "label,999",
+        "label,1023", "label,1024", "branch,1,999,0", "branch,1,1000,1", "branch,1,1023,0", "branch,1,1024,1"]
+
+
+def long_numbers(r):
+    """A number of 19 to 25 digits in each number's field, and one with another byte in front or at its end."""
+    for name in FIELDS:
+        for at, kind in enumerate(FIELDS[name]):
+            if PATTERN[kind] != NUMBER and kind != "z":
+                continue
+            for count in range(19, 26):
+                digits = str(r.randint(1, 9)) + "".join(r.choice("0123456789") for _ in range(count - 1))
+                for word in (digits, r.choice(["0" + digits[1:], digits[:-1] + "x", digits[:-1] + " ", "-" + digits[1:]])):
+                    fields = good_fields(r, FIELDS[name])
+                    fields[at] = word
+                    yield line_of(name, fields)
+
+
+def once(r):
+    yield from ((line + "\n").encode("latin-1") for line in ONCE + FOUR)
+    yield from long_numbers(r)
+
+
 def pairs():
     heads = [b"fast,16,8,2,0,0\n", b"fast,0,1,0,0,0\n", b"indirect,7,3,4,5,0\n", b"indirect,0,0,0,0,0\n", b"indirect,4096,4000,96,4096,0\n"]
     for first in heads:
@@ -190,7 +223,7 @@ def main():
     r = random.Random(SEED)
     seen, rows = set(), []
     tally = {"accepted": 0, "refused": 0, "cells": 0}
-    for line in lines(r):
+    for line in itertools.chain(lines(r), once(r)):
         if line not in seen and len(escaped(line)) <= ROOM:
             seen.add(line)
             want = expected(line)
