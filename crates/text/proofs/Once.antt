@@ -1,7 +1,7 @@
 -- The number reader, byte by byte up to the comma.
 use mathlib.Core.Path.{_≡_, refl, sym, ap, _∙_}
 use mathlib.Core.Bool.{Bool, true, false, cond, _&&_, not}
-use mathlib.Core.Option.{Option, some, none}
+use mathlib.Core.Option.{Option, none}
 use mathlib.Core.List.{List, [], _∷_, _++_}
 use Prim.Native.Nat.{ℕ, zero, suc, _+_, _*_, _-_, _^_, _<_, _≤_}
 use native.Mathlib.Omega.{arith}
@@ -12,7 +12,7 @@ use lib.ListN.{length, getD, take, drop, drop-of-length-le, length-drop}
 use lib.Seq.{take-all}
 use Rattle.base.proofs.Bools.{both}
 use Rattle.base.proofs.Tested.{tested}
-use Rattle.text.specs.Readers.{digit-value, read-from, read-decimal, sized, numeral, upto, field, end-from, next-from, fields-from, first-decimal}
+use Rattle.text.specs.Readers.{digit-value, read-from, read-decimal, numeral, upto, field, end-from, next-from, fields-from, first-decimal}
 use Rattle.text.specs.Once.{reads, CommaEnds}
 use Rattle.text.specs.Inner.Parts.{Decimal, numeral-of, stays-big}
 use Rattle.text.specs.declared.Stopped.{Stopped}

@@ -1,8 +1,7 @@
 use mathlib.Core.Path.{refl}
-use Prim.Native.Nat.{_-_, _≤_}
+use Prim.Native.Nat.{_-_}
 use denote.Ref.{now}
 use lib.ListN.{length, getD}
-use native.Mathlib.Omega.{arith}
 use borrow.Author.Needs.{needs}
 use Rattle.text.proofs.Once.{is-digit, at-end, at-comma, Bigger, big-ends, big-stops, big-goes-on}
 use Rattle.text.proofs.big_number.Statement.{statement}

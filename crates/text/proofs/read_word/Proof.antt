@@ -1,6 +1,4 @@
 use Prim.Native.Nat.{_+_, _*_, _-_, _^_, _<_}
-use denote.Ref.{now}
-use lib.ListN.{length}
 use native.Mathlib.Omega.{arith}
 use borrow.Author.Needs.{needs}
 use Rattle.text.proofs.Answers.{not-16, Wording, word-starts, word-ends, word-bad, word-room, word-more}
