@@ -134,7 +134,9 @@ size_t refusal_text(uint32_t number, uint8_t *out, size_t out_length);
    memory may hold anything.
 
    An entry of label memory: its low half is 0 while the label has no place, else the place + 1; its high
-   half is 0. What order_finish refuses of it stands there.
+   half is the number of jumps made to the label, at most 4,096. An order that jumps looks at its own label's
+   number: above 4,096 it is DECK_VALUE, and one that the order's jumps would bring above is DECK_FULL. What
+   order_finish and label_unused refuse of all entries is said with each.
 
    A record is DECK_VALUE too where its length exceeds the buffer or DECK_ROOM, or is no multiple of 4, or
    where there are more than 4,096 jumps. */
@@ -164,13 +166,22 @@ uint32_t order_constant(const uint8_t *line, size_t line_length, uint32_t k, uin
                         uint64_t labels[DECK_LABELS], uint32_t jumps[DECK_JUMPS], uint64_t record[ORDER_RECORD]);
 
 /* Every jump's word, and the record closed. Refused with the first of these that holds, which changes
-   nothing: DECK_CLOSED; DECK_VALUE (the record; a label entry whose high half is not 0, or whose place is
+   nothing: DECK_CLOSED; DECK_VALUE (the record; a label entry whose number is above 4,096, or whose place is
    beyond the length or at no multiple of 4; a jump whose word is not in the code or at no multiple of 4,
    whose register is above 31, whose label is above 2,038 or whose kind is none); DECK_UNSET for the first
    jump whose label has no place; DECK_FAR. told: for DECK_UNSET and DECK_FAR the byte offset of the
    jump's word and its tag, else 0 and 0. Answers the number. */
 uint32_t order_finish(uint8_t *buf, size_t buf_length, const uint64_t labels[DECK_LABELS],
                       const uint32_t jumps[DECK_JUMPS], uint64_t record[ORDER_RECORD], uint32_t told[2]);
+
+/* The labels that have a place and that no jump was made to, in rising order, into out from its first entry on;
+   the entries behind them stay. All labels count: a deck's own up to 1,023, 1,024 + k of constant k, and those of
+   the frames from 2,032 on. told: how many. Of use behind an accepted order_finish, or with the record {length,
+   jumps, 1} of what an accepted deck_emit_in told. Where a place lies isn't looked at. DECK_VALUE where the record
+   is not closed, its length exceeds DECK_ROOM or is no multiple of 4, it has more than 4,096 jumps, or a label's
+   number is above 4,096: out and told are then as they were. Answers the number. */
+uint32_t label_unused(const uint64_t labels[DECK_LABELS], const uint64_t record[ORDER_RECORD],
+                      uint32_t out[DECK_LABELS], uint32_t told[1]);
 
 #ifdef __cplusplus
 }

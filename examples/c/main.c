@@ -1,4 +1,5 @@
-/* Prints a deck file's words, what is told of them and the file's two listings, then lists a code and lays a few orders by hand.
+/* Prints a deck file's words, what is told of them, the file's two listings and its unused labels, then lists a code and lays a few
+   orders by hand.
 
    tools/handheld builds and tries this. By hand, from the root of the repository:
 
@@ -55,6 +56,23 @@ static void attend(size_t length) {
     }
 }
 
+/* The labels that nobody jumps to, behind a finish that left this record. */
+static void unused(const uint64_t record[ORDER_RECORD]) {
+    uint32_t list[DECK_LABELS], told[1] = {0};
+    uint32_t number = label_unused(labels, record, list, told);
+    printf("%" PRIu32 " unused labels:", number);
+    for (uint32_t i = 0; i < told[0]; i++) printf(" %" PRIu32, list[i]);
+    puts("");
+    reason(number);
+}
+
+/* Those of the file, where it is accepted. */
+static void unused_in(size_t length) {
+    uint32_t told[DECK_TOLD];
+    if (deck_emit_in(file, length, code, sizeof code, labels, jumps, told)) return;
+    unused((const uint64_t[]){told[DECK_TOLD_LENGTH], told[DECK_TOLD_JUMPS], 1});
+}
+
 static void deck(size_t length) {
     uint32_t told[DECK_TOLD];
     uint32_t number = deck_emit(file, length, code, sizeof code, told);
@@ -66,6 +84,7 @@ static void deck(size_t length) {
     reason(number);
     list_deck(length, told[DECK_TOLD_LENGTH], told[DECK_TOLD_OFFSET]);
     attend(length);
+    unused_in(length);
 }
 
 /* The listing of an instruction and a word that is none, with constants from the offset on, in so many bytes. */
@@ -111,6 +130,7 @@ static void by_hand(const char *const *lines, uint32_t count, const char *const 
     printf("%" PRIu32 " finish: place %" PRIu32 ", tag %" PRIu32 ", length %" PRIu64 ", jumps %" PRIu64 ", closed %" PRIu64 "\n",
            number, told[0], told[1], record[ORDER_LENGTH], record[ORDER_JUMPS], record[ORDER_CLOSED]);
     reason(number);
+    unused(record);
     lay(lines[0], 0, record);
     words(code, record[ORDER_LENGTH]);
 }

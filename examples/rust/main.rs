@@ -1,4 +1,5 @@
-//! Prints a deck file's words, what is told of them and the file's two listings, then lists a code and lays a few orders by hand.
+//! Prints a deck file's words, what is told of them, the file's two listings and its unused labels, then lists a code and lays a few
+//! orders by hand.
 //!
 //! tools/handheld builds and tries this. By hand, from the root of the repository:
 //!
@@ -23,6 +24,15 @@ mod handheld {
         use super::{JUMPS, LABELS};
         extern "C" {
             pub fn deck_emit(file: *const u8, n: usize, buf: *mut u8, m: usize, told: &mut [u32; 7]) -> u32;
+            pub fn deck_emit_in(
+                file: *const u8,
+                n: usize,
+                buf: *mut u8,
+                m: usize,
+                labels: &mut [u64; LABELS],
+                jumps: &mut [u32; JUMPS],
+                told: &mut [u32; 7],
+            ) -> u32;
             pub fn deck_text(file: *const u8, n: usize, out: *mut u8, m: usize) -> usize;
             pub fn deck_listing(file: *const u8, n: usize, out: *mut u8, m: usize, told: &mut [u64; 3]) -> u32;
             pub fn deck_view(file: *const u8, n: usize, view: u32, out: *mut u8, m: usize, told: &mut [u64; 3]) -> u32;
@@ -56,6 +66,7 @@ mod handheld {
                 record: &mut [u64; 3],
                 told: &mut [u32; 2],
             ) -> u32;
+            pub fn label_unused(labels: &[u64; LABELS], record: &[u64; 3], out: &mut [u32; LABELS], told: &mut [u32; 1]) -> u32;
         }
     }
 
@@ -64,6 +75,22 @@ mod handheld {
         let mut told = [0; 7];
         let number = unsafe { c::deck_emit(file.as_ptr(), file.len(), buf.as_mut_ptr(), buf.len(), &mut told) };
         (number, told)
+    }
+
+    /// The number, all that is told, and the label memory.
+    pub fn deck_emit_in(file: &[u8], buf: &mut [u8]) -> (u32, [u32; 7], Box<[u64; LABELS]>) {
+        let (mut told, mut labels, mut jumps) = ([0; 7], Box::new([0; LABELS]), Box::new([0; JUMPS]));
+        let number = unsafe {
+            c::deck_emit_in(file.as_ptr(), file.len(), buf.as_mut_ptr(), buf.len(), &mut labels, &mut jumps, &mut told)
+        };
+        (number, told, labels)
+    }
+
+    /// The number, and the labels that nobody jumps to; none where it is refused.
+    pub fn label_unused(labels: &[u64; LABELS], record: &[u64; 3]) -> (u32, Vec<u32>) {
+        let (mut told, mut out) = ([0; 1], [0; LABELS]);
+        let number = unsafe { c::label_unused(labels, record, &mut out, &mut told) };
+        (number, out[..told[0] as usize].to_vec())
     }
 
     pub fn deck_text(file: &[u8]) -> Vec<u8> {
@@ -169,6 +196,10 @@ mod handheld {
             };
             (number, told)
         }
+
+        pub fn unused(&self) -> (u32, Vec<u32>) {
+            label_unused(&self.labels, &self.record)
+        }
     }
 }
 
@@ -200,6 +231,21 @@ fn attend(file: &[u8]) {
     }
 }
 
+/// The labels that nobody jumps to.
+fn unused((number, labels): (u32, Vec<u32>)) {
+    let list: String = labels.iter().map(|label| format!(" {label}")).collect();
+    println!("{number} unused labels:{list}");
+    reason(number);
+}
+
+/// Those of the file, where it is accepted.
+fn unused_in(file: &[u8]) {
+    let (number, [_, _, length, _, _, jumps, _], labels) = handheld::deck_emit_in(file, &mut vec![0; handheld::ROOM]);
+    if number == 0 {
+        unused(handheld::label_unused(&labels, &[length as u64, jumps as u64, 1]));
+    }
+}
+
 fn deck(file: &[u8]) {
     let mut code = vec![0; handheld::ROOM];
     let (number, [_, line, length, offset, constants, jumps, frame]) = handheld::deck_emit(file, &mut code);
@@ -210,6 +256,7 @@ fn deck(file: &[u8]) {
     reason(number);
     list_deck(file, &code[..length as usize], offset as usize);
     attend(file);
+    unused_in(file);
 }
 
 /// The listing of an instruction and a word that is none, with constants from the offset on, in so many bytes.
@@ -247,6 +294,7 @@ fn by_hand(lines: &[&str], constants: &[&str]) {
     let [length, jumps, closed] = orders.record;
     println!("{number} finish: place {place}, tag {tag}, length {length}, jumps {jumps}, closed {closed}");
     reason(number);
+    unused(orders.unused());
     lay(&mut orders, lines[0], 0);
     for (i, word) in orders.buf[..orders.record[0] as usize].chunks(4).enumerate() {
         println!("{},{:08x}", 4 * i, u32::from_le_bytes(word.try_into().unwrap()));

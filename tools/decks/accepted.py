@@ -3,7 +3,7 @@
 `accepted()` gives (bytes, size of the buffer). The scratch of `frac` and `sign` is f11, the one that the Rust has."""
 import random
 
-from generate import CELL, full, good, jumpy, large, line, long_file, text
+from generate import CELL, full, good, jumpy, large, line, long_file, rich, text
 from reference import CODE, orders, routine
 
 SEED = 20261115
@@ -95,6 +95,24 @@ def buffers(r):
         yield lines, 4 * len(routine(text(lines)).words)
 
 
+def labels():
+    """Labels that nobody jumps to (document 02, point 2): none, one, some, all."""
+    fast, table = "fast,0,1,0,0,0\n", "indirect,0,17,17,0,0\n"
+    yield from ([head] for head in (fast, table, "indirect,0,0,0,0,0\n"))
+    yield [fast, "label,3\n", "branch,0,5,0\n", "label,5\n", "float,1\n"]
+    for head, pairs in (fast, 2048), (table, 2046):
+        yield [head, *(line("label", n) for n in range(1024))]
+        yield [head, *(line("label", n) for n in reversed(range(1024))), "branch,0,0,0\n", "branch,0,1023,1\n"]
+        yield [head, *(line("branch", 0, n, n % 2) for n in range(1024) if n != 511), *(line("label", n) for n in range(1024))]
+        yield [head, *(line("label", n) + line("branch", 0, n, 1) for n in range(1024)), "float,1\n"]
+        yield [head, *["float,1\n"] * 1008]
+        yield [head, *(line("load_const", 1, k) for k in range(0, 1008, 2)), *["bits,0000000000000001\n"] * 1008]
+        # with the frame's, 4,096 jumps
+        yield [head, *["branch,0,9,0\n"] * pairs, "label,9\n", "label,8\n"]
+    r = random.Random(f"{SEED} labels")
+    yield from (rich(r) for _ in range(20))
+
+
 def accepted():
     r, rows = random.Random(SEED), []
     for head in HEADS:
@@ -103,6 +121,7 @@ def accepted():
     rows += buffers(r)
     for i in range(160):
         rows.append((good(r, scratch=11, without=("sign",) if i % 4 else (), count=r.choice([5, 15, 30]), backward=True), CODE))
+    rows += [(lines, CODE) for lines in labels()]
     seen, told = set(), []
     for lines, size in rows:
         deck = text(lines)

@@ -177,6 +177,23 @@ def good(r, scratch=None, without=(), frame=None, count=None, backward=False, ne
     return maker.deck(r.choice([0, 1, 3, 10, 25, 60]) if count is None else count, names)
 
 
+def rich(r, count=None):
+    """A deck with many labels: stale ones, and ones jumped to before they are set, behind that, or both; and constants, loaded or not."""
+    timed = []
+    for label in r.sample(range(1024), r.choice([1, 3, 10, 40, 200, 1024]) if count is None else count):
+        at = r.random()
+        timed.append((at, line("label", label)))
+        before, behind = r.choice([(0, 0), (0, 0), (1, 0), (0, 1), (1, 1), (r.randint(0, 2), r.randint(0, 2))])
+        times = [at * r.random() for _ in range(before)] + [at + (1 - at) * r.random() for _ in range(behind)]
+        timed += [(t, line("branch", r.randint(0, 31), label, r.randint(0, 1))) for t in times]
+    for k in range(r.choice([0, 0, 1, 5, 60])):
+        timed.append((r.random(), r.choice(["float,1\n", "bits,0000000000000001\n"])))
+        if r.random() < 0.5:
+            timed.append((r.random(), line("load_const", r.randint(0, 7), k)))
+    timed += [(r.random(), line("minus", 1, 2, 3)) for _ in range(r.choice([0, 5, 30]))]
+    return [line(*some_head(r)), *(told for _, told in sorted(timed))]
+
+
 def ends(head):
     """Words and jumps that a head's frame has before and behind the body."""
     h = head_of(head[0], head[1:])
@@ -309,9 +326,9 @@ def wild_head(r):
             r.choice([0, 1 << 8, 1 << 27, 1 << 28, 2**32 - 1, 2**32, 2**64, r.getrandbits(32)]))
 
 
-def bad(r):
-    """A deck with a fault of some kind; a few come out good."""
-    lines = good(r, count=r.choice([0, 1, 4, 12]), backward=True)
+def bad(r, lines=None):
+    """A deck, or these lines, with a fault of some kind; a few come out good."""
+    lines = lines or good(r, count=r.choice([0, 1, 4, 12]), backward=True)
     at = r.randrange(len(lines))
     kind = r.choice(["field", "field", "shape", "line", "line", "line", "head", "byte", "cut", "drop", "twice", "swap", "join", "none",
                      "relabel", "unset", "unsaved"])

@@ -13,11 +13,14 @@ A row has 128 bytes: a letter, numbers of eight hexadecimal digits, text, spaces
     b times value                   one byte more, so many times: those that a text can't have
     s sentence                      the sentence that the refusal in the next row rests on
     r size 0 number line 0 0 hash   the deck, in a buffer of so many bytes, is refused
-    r size frame length offset constants jumps hash
+    r size frame length offset constants jumps hash count hash
                                     the deck is accepted: frame is 1 fast or 2 indirect; length, the constants' offset and count, the
-                                    count of jumps; behind the numbers `sign` where document 01's words for it are among them
+                                    count of jumps; the labels that are set and never jumped to (document 02, point 2): how many, and
+                                    the hash of their numbers, two bytes each, the high one first; behind the numbers `sign` where
+                                    document 01's words for it are among them
     w offset count words            words of the deck accepted last, from that offset on: for all decks of at most 120 words
-A hash has two columns: a polynomial of the code's bytes, each one more, at 257 modulo the prime 2^54 - 33.
+A hash has two columns: a polynomial of the bytes, each one more, at 257 modulo the prime 2^54 - 33. The first one is of the code.
+The list of labels is the reference's; behind a refused deck it must be refused with 2, place 0. Label and jump memory are lent spoiled.
 --check writes nothing, and fails where the files in --out differ from what is made.
 """
 import argparse
@@ -78,20 +81,23 @@ def deck_rows(deck):
     return rows
 
 
-def hashed(words):
+def hashed(data):
     h = 0
-    for b in b"".join(w.to_bytes(4, "little") for w in words):
+    for b in data:
         h = (h * 257 + b + 1) % PRIME
     return [h >> 32, h % 2**32]
 
 
 def accepted_row(told, size, note=""):
     frame = 1 if told.head.frame == "fast" else 2
-    return row("r", [size, frame, 4 * len(told.words), told.offset, told.constants, told.jumps, *hashed(told.words)], note)
+    code = b"".join(w.to_bytes(4, "little") for w in told.words)
+    labels = b"".join(label.to_bytes(2, "big") for label in told.unused)
+    counts = [4 * len(told.words), told.offset, told.constants, told.jumps]
+    return row("r", [size, frame, *counts, *hashed(code), len(told.unused), *hashed(labels)], note)
 
 
 def refused_row(number, line, size):
-    return row("r", [size, 0, number, line, 0, 0, *hashed([])])
+    return row("r", [size, 0, number, line, 0, 0, *hashed(b"")])
 
 
 def accepted_rows(deck, size, words, told, signs):

@@ -1,13 +1,16 @@
 #!/usr/bin/env python3
-"""Document 01 once more, independent of the proved code: from a deck file's bytes to its words, or to number and line of its refusal.
+"""Document 01 once more, independent of the proved code: from a deck file's bytes to its words, or to number and line of its refusal; and
+of document 02's point 2 the labels that nobody jumps to.
 
     reference.py [--buffer BYTES] < FILE        prints what `deckwords` prints
+    reference.py --labels < FILE                prints what `decklabels` prints
 
 Encodings are laid out by the ISA Manual's formats; refusals, their order and the deck's grammar are document 01's, with the points that
 docs/DECISIONS.md decides. Which instructions a frame has is the Rust's, since the bytes of accepted inputs are those of the
 Rust; tools/orders.py has the orders.
 """
 import argparse
+import collections
 import pathlib
 import re
 import struct
@@ -62,6 +65,8 @@ class Accepted(NamedTuple):
     head: Head
     lines: list  # the parsed lines from line 2 on
     labels: dict  # a label's line
+    numbers: dict  # how many jumps are made to each label that has one
+    unused: list  # the set labels that have none, rising: users', constants' and frames'
 
 
 # ---- frames
@@ -234,6 +239,10 @@ class Code:
         for at, kind, r, label, _ in self.jumps:
             self.words[at // 4] = self.jump(kind, r, self.labels[label] - at)
 
+    def numbers(self):
+        """How many jumps are made to each label: a pair is two."""
+        return collections.Counter(label for _, _, _, label, _ in self.jumps)
+
     @staticmethod
     def jump(kind, r, n):
         if kind == "auipc":
@@ -280,7 +289,13 @@ def close(code, h, constants, last, body, at):
     for k, c in enumerate(constants):
         code.place([("label", CONST + k), c % 2**32, c >> 32], last)
     code.finish()
-    return Accepted(code.words, offset, len(constants), len(code.jumps), h, body, at)
+    numbers = code.numbers()
+    unused = [label for label in sorted(code.labels) if label not in numbers]
+    return Accepted(code.words, offset, len(constants), len(code.jumps), h, body, at, numbers, unused)
+
+
+def refusal(r):
+    return f"refused,{r.number},{r.line}\n"
 
 
 def answer(file, size=CODE):
@@ -288,14 +303,25 @@ def answer(file, size=CODE):
     try:
         words = routine(file, size).words
     except Refused as r:
-        return f"refused,{r.number},{r.line}\n"
+        return refusal(r)
     return "".join(f"{4 * i},{w:08x}\n" for i, w in enumerate(words))
+
+
+def stale(file):
+    """What `decklabels` prints: each user's label that is set and never jumped to, rising, with the line that sets it."""
+    try:
+        told = routine(file)
+    except Refused as r:
+        return refusal(r)
+    return "".join(f"{label},{told.labels[label]}\n" for label in told.unused if label < CONST)
 
 
 def main():
     parser = argparse.ArgumentParser(description=__doc__, formatter_class=argparse.RawDescriptionHelpFormatter)
     parser.add_argument("--buffer", type=int, default=CODE)
-    sys.stdout.write(answer(sys.stdin.buffer.read(), parser.parse_args().buffer))
+    parser.add_argument("--labels", action="store_true")
+    given, file = parser.parse_args(), sys.stdin.buffer.read()
+    sys.stdout.write(stale(file) if given.labels else answer(file, given.buffer))
 
 
 if __name__ == "__main__":

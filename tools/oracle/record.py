@@ -7,16 +7,21 @@ program must print.
 RUSTDIR has the Rust's files as they are (riscv64/mod.rs, riscv64/macros.rs, assembler.rs, utils.rs, config.rs, symbol.rs, code.rs). They
 are compiled unchanged with rustc (the list was made with 1.95.0) behind the driver in this folder, twice: with overflow checks and
 optimized. Cases come from cases.py, with a fixed seed; both programs must give the same answer to each. What is refused comes from
-refusals.py, with the numbers of documents 01 and 02. The Rust's `sign` is not asked for, since document 01's words differ: the driver has
-those. Nor is the family `top`, document 02's point 6, whose words are GNU as's (top.py).
+refusals.py, with the numbers of documents 01 and 02, and the family `made`, document 02's point 2, from made.py. The Rust's `sign` is not
+asked for, since document 01's words differ: the driver has those. Nor is the family `top`, document 02's point 6, whose words are GNU as's
+(top.py).
 
 A row of the list has a kind (two hexadecimal digits) and four numbers (eight each; negative ones in two's complement):
-    00  a name of 16 bytes     the family of what follows, by its name in cases.FAMILIES, or `refusals`
+    00  a name of 16 bytes     the family of what follows, by its name in cases.FAMILIES, or `refusals`, or `made`
     01  four words             that stand next in the code
     02  n                      n zero words stand next
     03 to 07                   0 to 4 words stand next, and nothing behind them: the answer agrees
     08  n                      the last call answered this number
-    09  number place           the last call was refused and left the record as it was
+    09  number place           the last call was refused and left the record as it was; 0 and 0: it was accepted
+    0a  label number low       so many jumps were made to the label; low is its place plus 1, or 0 where it is unset
+    0b  length jumps closed    the record is this, and behind its length stand zeros, 1,024 bytes or to the end
+    0c  n and three labels     n labels are set and never jumped to, these first; ffffffff is memory that the list leaves as it was
+    0d  number place           the list of those labels is refused
     10 and above: operands     a call, by its number in CALLS; the first one behind an answer starts on fresh memory
 
 --check writes nothing, and fails where the files in --out differ from what is made.
@@ -30,6 +35,7 @@ import tempfile
 
 import build
 import cases
+import made
 import refusals
 import top
 from orders import names
@@ -39,15 +45,18 @@ ROW = 39
 LISTED = 18
 
 FAMILY, WORDS, ZEROS, LAST, VALUE, REFUSED = 0x00, 0x01, 0x02, 0x03, 0x08, 0x09
+# made.py's checks of what a call left.
+CHECKS = {"entry": 0x0A, "is": 0x0B, "listed": 0x0C, "unlisted": 0x0D}
 # The first number of each block of calls. Orders of registers have 16 numbers a shape, so that a new one is the next of its block.
 CALLS = {
-    0x10: "append_word append_quad set_label add_const add_float apply_jumps align_stack pad jumps beq bne load_x_from_label j".split(),
+    0x10: "append_word append_quad set_label add_const add_float apply_jumps align_stack pad".split()
+    + "jumps beq bne load_x_from_label j made record jump".split(),
     0x20: "li load_float save_float load_int load_complex save_complex sub_stack add_stack allocate_stack".split(),
     0x30: names("unary"),
     0x40: names("scratched"),
     0x50: names("binary"),
     0x60: names("fused"),
-    0x70: "ifelse load_const branch_if label".split(),
+    0x70: "ifelse load_const branch_if label load_const_in".split(),
     0x78: "load_mem load_stack load_param save_mem save_stack save_param".split(),
     0x80: "prologue_fast prologue_indirect epilogue_fast epilogue_indirect save_used_registers load_used_registers".split(),
 }
@@ -164,6 +173,14 @@ def refused():
     return rows, ("refusals", count)
 
 
+def counted():
+    """Rows and the count of the family `made`."""
+    rows, told = [family_row("made")], list(made.family())
+    for calls, checks, number, place, _ in told:
+        rows += call_rows(calls) + [row(CHECKS[name], operands) for name, operands in checks] + [row(REFUSED, [number, place])]
+    return rows, ("made", len(told))
+
+
 def shown(answer):
     if answer is None:
         return "panics"
@@ -201,10 +218,11 @@ def main():
         if given.differences:
             return differences(programs)
         rows, counts = recorded(programs)
-    more, count = refused()
-    counts.append(count)
+    for more, count in (refused(), counted()):
+        rows += more
+        counts.append(count)
     printed = "".join(f"{name:>16}: {n}\n" for name, n in counts) + "0 mismatches\n"
-    files = {"stdin": "".join(rows + more), "stdout": printed}
+    files = {"stdin": "".join(rows), "stdout": printed}
     for name, text in files.items():
         path = pathlib.Path(given.out, name)
         if not given.check:

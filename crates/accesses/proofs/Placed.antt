@@ -11,8 +11,9 @@ use lib.ListN.{length}
 use Rattle.isa.specs.Instr.{Instr}
 use Rattle.assembler.specs.Item.{instr}
 use Rattle.assembler.specs.State.{State, Outcome}
-use Rattle.assembler.specs.Put.{put}
+use Rattle.assembler.specs.Put.{targets, put}
 use Rattle.assembler.specs.Plan.{fault-number, tail-items, tail-fault, plan-fault, plan-items}
+use Rattle.assembler.proofs.Items.{targets-instrs}
 use Rattle.assembler.proofs.Plans.{put-fault, earlier-none, stands-put}
 use Rattle.assembler.specs.declared.Fault.{Fault}
 use Rattle.assembler.specs.declared.Plan.{Plan}
@@ -46,6 +47,10 @@ module _ (p : Plan) (is : List Instr) (e : p ≡ plan-of is) (few : length is �
 
 -- ---- the two together
 
+none : targets [] ≡ []
+unfolding targets
+none = refl
+
 pub settles : (is : List Instr) (fault : ℕ) (p : Plan) (s : State) → (fault ≡ 0 → (p ≡ plan-of is) × AllValid is × (length is ≤ 12))
     → settled-plan fault p s ≡ put 0 fault (map instr is) s
 unfolding settled-plan
@@ -57,7 +62,7 @@ settles is fault p s h = by (eqb fault 0) refl
         let z : fault ≡ 0 = eqb-true fault 0 e in
         let k = h z in
         plan-code p is (k .0) (k .2) (k .1) 0 s ∙ rw z
-    by false e = put-fault 0 0 fault [] (map instr is) s (eqb-false fault 0 e)
+    by false e = put-fault 0 0 fault [] (map instr is) s (eqb-false fault 0 e) (none ∙ sym (targets-instrs is))
 
 -- the same of an outcome, with the fault by its definition
 module _ (fault : ℕ) (p : Plan) (s : State) (o : Outcome) (e : o ≡ settled-plan fault p s) where

@@ -160,7 +160,7 @@ pub fn jump(
     labels: &mut Labels,
     jumps: &mut Jumps,
 ) -> Answer
-    ensures { λ x. ⌜ after-mut x asm labels jumps buf ≡ put tag (jump-fault l r) (jump-item k l r ∷ []) (before-mut asm labels jumps buf) ⌝ }
+    ensures { λ x. ⌜ after-mut x asm labels jumps buf ≡ put tag (jump-fault r) (jump-item k l r ∷ []) (before-mut asm labels jumps buf) ⌝ }
 {
     let d = assembler::jump(k, l, r, tag, buf, labels, jumps, *asm);
     *asm = d.asm;

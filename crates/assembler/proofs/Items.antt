@@ -2,15 +2,14 @@
 use mathlib.Core.Path.{_≡_, refl, sym, ap, _∙_}
 use mathlib.Core.List.{List, [], _∷_, _++_, map}
 use Prim.Native.Nat.{ℕ, suc, _+_, _*_}
-use native.Mathlib.Nat.{zero-add, suc-add}
 use native.Mathlib.Omega.{arith}
-use lib.ListN.{length}
+use lib.ListN.{length, length-append}
 use Rattle.isa.specs.Instr.{Instr}
 use Rattle.isa.specs.Encode.{encode}
 use Rattle.assembler.specs.Item.{Item, instr, raw, jump, label}
 use Rattle.assembler.specs.Bytes.{written}
 use Rattle.assembler.specs.State.{State}
-use Rattle.assembler.specs.Put.{words, jumps, labels, with-word, place, placed}
+use Rattle.assembler.specs.Put.{words, jumps, targets, labels, with-word, place, placed}
 use Rattle.assembler.specs.Plan.{tail-items}
 use Rattle.assembler.specs.Resolved.{resolved}
 use Rattle.assembler.specs.declared.Tail.{Tail}
@@ -25,13 +24,17 @@ words-append (raw w ∷ is) js = ap (λ (l : List ℕ). w ∷ l) (words-append i
 words-append (jump k l r ∷ is) js = ap (λ (l : List ℕ). 0 ∷ l) (words-append is js)
 words-append (label l ∷ is) js = words-append is js
 
+pub targets-append : (is js : List Item) → targets (is ++ js) ≡ targets is ++ targets js
+unfolding targets
+targets-append [] js = refl
+targets-append (instr i ∷ is) js = targets-append is js
+targets-append (raw w ∷ is) js = targets-append is js
+targets-append (jump k l r ∷ is) js = ap (λ (m : List ℕ). l ∷ m) (targets-append is js)
+targets-append (label l ∷ is) js = targets-append is js
+
 pub jumps-append : (is js : List Item) → jumps (is ++ js) ≡ jumps is + jumps js
 unfolding jumps
-jumps-append [] js = sym (zero-add (jumps js))
-jumps-append (instr i ∷ is) js = jumps-append is js
-jumps-append (raw w ∷ is) js = jumps-append is js
-jumps-append (jump k l r ∷ is) js = ap suc (jumps-append is js) ∙ sym (suc-add (jumps is) (jumps js))
-jumps-append (label l ∷ is) js = jumps-append is js
+jumps-append is js = ap length (targets-append is js) ∙ length-append (targets is) (targets js)
 
 pub labels-append : (is js : List Item) → labels (is ++ js) ≡ labels is ++ labels js
 unfolding labels
@@ -53,10 +56,14 @@ unfolding words
 words-raw [] = refl
 words-raw (w ∷ ws) = ap (λ (l : List ℕ). w ∷ l) (words-raw ws)
 
+pub targets-raw : (ws : List ℕ) → targets (map raw ws) ≡ []
+unfolding targets
+targets-raw [] = refl
+targets-raw (w ∷ ws) = targets-raw ws
+
 pub jumps-raw : (ws : List ℕ) → jumps (map raw ws) ≡ 0
 unfolding jumps
-jumps-raw [] = refl
-jumps-raw (w ∷ ws) = jumps-raw ws
+jumps-raw ws = ap length (targets-raw ws)
 
 pub labels-raw : (ws : List ℕ) → labels (map raw ws) ≡ []
 unfolding labels
@@ -83,6 +90,16 @@ placed-raw tag (w ∷ ws) s =
 
 -- ---- instructions alone
 
+pub targets-instrs : (is : List Instr) → targets (map instr is) ≡ []
+unfolding targets
+targets-instrs [] = refl
+targets-instrs (i ∷ is) = targets-instrs is
+
+pub labels-instrs : (is : List Instr) → labels (map instr is) ≡ []
+unfolding labels
+labels-instrs [] = refl
+labels-instrs (i ∷ is) = labels-instrs is
+
 pub resolved-instrs : (places : ℕ → ℕ) (here : ℕ) (is : List Instr) → resolved places here (map instr is) ≡ map encode is
 unfolding resolved
 resolved-instrs places here [] = refl
@@ -90,17 +107,11 @@ resolved-instrs places here (i ∷ is) = ap (λ (ws : List ℕ). encode i ∷ ws
 
 -- ---- the jumps of a tail
 
-pub words-tail : (t : Tail) → length (words (tail-items t)) ≡ length (tail-items t)
-unfolding words
+pub words-tail : (t : Tail) → length (words (tail-items t)) ≡ length (targets (tail-items t))
+unfolding words targets
 words-tail Nothing = refl
 words-tail (One k l r) = refl
 words-tail (Pair k l r) = refl
-
-pub jumps-tail : (t : Tail) → jumps (tail-items t) ≡ length (tail-items t)
-unfolding jumps
-jumps-tail Nothing = refl
-jumps-tail (One k l r) = refl
-jumps-tail (Pair k l r) = refl
 
 pub labels-tail : (t : Tail) → labels (tail-items t) ≡ []
 unfolding labels

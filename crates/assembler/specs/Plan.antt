@@ -19,6 +19,8 @@ use Rattle.assembler.specs.declared.Fault.{Fault}
 use Rattle.assembler.specs.declared.Fault.the-variants as Fault
 use Rattle.assembler.specs.declared.Sets.{Sets}
 use Rattle.assembler.specs.declared.Sets.the-variants as Sets
+use Rattle.assembler.specs.declared.Goes.{Goes}
+use Rattle.assembler.specs.declared.Goes.the-variants as Goes
 
 -- ---- faults
 
@@ -41,6 +43,7 @@ fault-number Fault.Value = number-of Value
 fault-number Fault.Label = number-of Label
 fault-number Fault.Count = number-of Count
 fault-number Fault.Base = number-of Base
+fault-number Fault.Unsaved = number-of Unsaved
 
 abbrev pub first-of : Fault → Fault → Fault
 first-of a b = cond (ltb (rank (fault-number b)) (rank (fault-number a))) b a
@@ -57,16 +60,16 @@ refusal-fault Full = Fault.Value
 refusal-fault Closed = Fault.Value
 refusal-fault Count = Fault.Count
 refusal-fault Base = Fault.Base
-refusal-fault Unsaved = Fault.Value
+refusal-fault Unsaved = Fault.Unsaved
 refusal-fault Line = Fault.Value
 
 -- a label's: 2 above 2,038
 abbrev pub label-fault : ℕ → ℕ
 label-fault l = cond (ltb l label-limit) 0 (number-of Value)
 
--- a jump's: 1 a register above 31, else its label's
-abbrev pub jump-fault : (label reg : ℕ) → ℕ
-jump-fault l r = cond (ltb r 32) (label-fault l) (number-of Register)
+-- a jump's: 1 a register above 31. Its label is looked at with the label's number: `numbers-sound`
+abbrev pub jump-fault : (reg : ℕ) → ℕ
+jump-fault r = cond (ltb r 32) 0 (number-of Register)
 
 -- ---- plans
 
@@ -77,8 +80,8 @@ tail-items (Pair k l r) = jump Auipc l 0 ∷ jump k l r ∷ []
 
 abbrev pub tail-fault : Tail → ℕ
 tail-fault Nothing = 0
-tail-fault (One k l r) = jump-fault l r
-tail-fault (Pair k l r) = jump-fault l r
+tail-fault (One k l r) = jump-fault r
+tail-fault (Pair k l r) = jump-fault r
 
 abbrev pub plan-words : Plan → List ℕ
 plan-words p = take (min (p .n) 12) (p .w)
@@ -103,13 +106,18 @@ pushed p (Word x) =
     cond (ltb (p .n) 12) (record { n = p .n + 1; fault = p .fault; w = set (p .w) (p .n) x }) (faulty p Fault.Value)
 pushed p (Refused r place) = faulty p (refusal-fault r)
 
--- ---- labels that a whole would set
+-- ---- labels that a whole would set, and those that its jumps go to
 
 abbrev pub labels-of : Sets → List ℕ
 labels-of Sets.Nothing = []
 labels-of (Sets.One a) = a ∷ []
 labels-of (Sets.Two a b) = a ∷ b ∷ []
 labels-of (Sets.Three a b c) = a ∷ b ∷ c ∷ []
+
+abbrev pub goes-to : Goes → List ℕ
+goes-to Goes.Nowhere = []
+goes-to (Goes.One a) = a ∷ []
+goes-to (Goes.Two a b) = a ∷ b ∷ []
 
 abbrev pub all-labels : List ℕ → Bool
 all-labels [] = true

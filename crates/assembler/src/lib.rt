@@ -1,6 +1,6 @@
 // assembler.rs and utils.rs: words, labels and jumps in lent memory.
 ghost use mathlib.Core.Path.{_≡_};
-ghost use mathlib.Core.Bool.{true, false, _||_, cond, not};
+ghost use mathlib.Core.Bool.{true, false, _&&_, _||_, cond, not};
 ghost use mathlib.Core.List.{List, [], _∷_};
 ghost use Prim.Native.Nat.{ℕ, _+_, _*_, _%_, _/_, _^_, _≤_, _<_, min};
 ghost use lib.Dec.{leb, eqb};
@@ -12,12 +12,13 @@ ghost use Rattle.assembler.specs.Item.{raw, label, jump as jump-item};
 ghost use Rattle.assembler.specs.Jump.{kind-number};
 ghost use Rattle.assembler.specs.Limit.{room-limit, label-limit, jump-limit};
 ghost use Rattle.assembler.specs.Bytes.{written, fitted, room};
-ghost use Rattle.assembler.specs.Label.{is-set, place-of, with-place};
+ghost use Rattle.assembler.specs.Label.{is-set, with-place, made, one-more};
 ghost use Rattle.assembler.specs.State.{emit-answer, sound, fits, before, after, Answered};
 ghost use Rattle.assembler.specs.Inner.State.{Fits, Steps};
-ghost use Rattle.assembler.specs.Put.{twice, verdict, prechecked, with-jump, placed, put};
+ghost use Rattle.assembler.specs.Put.{targets, twice, times, number-holds, numbers-sound, numbers-fit, ranked, prechecked, with-jump, placed, put};
 ghost use Rattle.assembler.specs.Plan.{rank, earlier, fault-number, first-of, refusal-fault, label-fault, jump-fault};
-ghost use Rattle.assembler.specs.Plan.{tail-items, tail-fault, plan-items, plan-fault, no-words, faulty, pushed, labels-of, sets-fault};
+ghost use Rattle.assembler.specs.Plan.{tail-items, tail-fault, plan-items, plan-fault, no-words, faulty, pushed};
+ghost use Rattle.assembler.specs.Plan.{labels-of, goes-to, sets-fault};
 ghost use Rattle.assembler.specs.Constant.{quad, constant-items, constant-fault, size-answer, aligned};
 ghost use Rattle.ast.specs.Constant.{constant-bits};
 use ast::Constant;
@@ -73,7 +74,7 @@ pub enum Tail {
     Pair(JumpKind, u32, u32),
 }
 
-// What is wrong with an operand: document 01's numbers 1, 2, 3, 9 and 10, or nothing. The others aren't an operand's.
+// What is wrong with an operand: document 01's numbers 1, 2, 3, 9, 10 and 11, or nothing. The others aren't an operand's.
 pub enum Fault {
     Nothing,
     Register,
@@ -81,6 +82,7 @@ pub enum Fault {
     Label,
     Count,
     Base,
+    Unsaved,
 }
 
 // An order: the first n of w, then a tail.
@@ -96,6 +98,13 @@ pub enum Sets {
     One(u32),
     Two(u32, u32),
     Three(u32, u32, u32),
+}
+
+// The labels that the jumps of a whole go to, one for each jump.
+pub enum Goes {
+    Nowhere,
+    One(u32),
+    Two(u32, u32),
 }
 
 // ---- numbers of refusal
@@ -163,6 +172,12 @@ pub fn is_sound(n: usize, asm: Asm) -> bool
     asm.jumps <= JUMP_LIMIT
 }
 
+fn both(a: bool, b: bool) -> bool
+    ensures { λ r. ⌜ r ≡ a && b ⌝ }
+{
+    if a { b } else { false }
+}
+
 // So many words and jumps more have room.
 fn has_room(n: usize, asm: Asm, words: usize, jumps: usize) -> bool
     ensures { λ r. ⌜ (r ≡ fits n asm words jumps) × (r ≡ true → Fits n asm words jumps) ⌝ }
@@ -182,10 +197,20 @@ fn has_room(n: usize, asm: Asm, words: usize, jumps: usize) -> bool
     jumps <= JUMP_LIMIT - j
 }
 
-// The number of the refusal, 0 for none, in document 01's order.
-fn number(fault: u8, taken: bool, words: usize, jumps: usize, n: usize, asm: Asm) -> u8
+// The number of the refusal, 0 for none, in document 01's order. Of the labels jumped to: `known`, their numbers are sound; `holds`, and fit.
+fn number(
+    fault: u8,
+    known: bool,
+    taken: bool,
+    holds: bool,
+    words: usize,
+    jumps: usize,
+    n: usize,
+    asm: Asm,
+) -> u8
     requires { ⌜ fault ≤ 12 ⌝ }
-    ensures { λ r. ⌜ (r ≡ verdict fault taken words jumps n asm) × (r ≤ 12) × (r ≡ 0 → (fault ≡ 0) × Fits n asm words jumps) ⌝ }
+    ensures { λ r. ⌜ (r ≡ ranked fault (asm .closed) (known && sound n asm) taken (holds && fits n asm words jumps)) × (r ≤ 12)
+        × (r ≡ 0 → (fault ≡ 0) × (holds ≡ true) × Fits n asm words jumps) ⌝ }
 {
     if asm.closed {
         return 8;
@@ -196,7 +221,7 @@ fn number(fault: u8, taken: bool, words: usize, jumps: usize, n: usize, asm: Asm
     if fault == 3 {
         return 3;
     }
-    let ok = is_sound(n, asm);
+    let ok = both(known, is_sound(n, asm));
     if ok {
         if fault != 0 {
             return fault;
@@ -204,7 +229,7 @@ fn number(fault: u8, taken: bool, words: usize, jumps: usize, n: usize, asm: Asm
         if taken {
             return 4;
         }
-        let fit = has_room(n, asm, words, jumps);
+        let fit = both(holds, has_room(n, asm, words, jumps));
         if fit {
             return 0;
         }
@@ -302,7 +327,7 @@ pub fn append_word(
 ) -> EmitResult
     ensures { λ r. ⌜ after r labels jumps buf ≡ put 0 0 (raw w ∷ []) (before asm labels jumps buf) ⌝ }
 {
-    let k = number(0, false, 1, 0, buf.len(), asm);
+    let k = number(0, true, false, true, 1, 0, buf.len(), asm);
     if k != 0 {
         return refused_with(k, asm);
     }
@@ -327,7 +352,7 @@ pub fn append_quad(
 ) -> EmitResult
     ensures { λ r. ⌜ after r labels jumps buf ≡ put 0 0 (quad q) (before asm labels jumps buf) ⌝ }
 {
-    let k = number(0, false, 2, 0, buf.len(), asm);
+    let k = number(0, true, false, true, 2, 0, buf.len(), asm);
     if k != 0 {
         return refused_with(k, asm);
     }
@@ -378,11 +403,11 @@ pub fn set_label(
 {
     let i = l as usize;
     if LABELS <= i {
-        let k = number(2, false, 0, 0, buf.len(), asm);
+        let k = number(2, true, false, true, 0, 0, buf.len(), asm);
         return refused_with(k, asm);
     }
     let taken = label_set(labels[i]);
-    let k = number(0, taken, 0, 0, buf.len(), asm);
+    let k = number(0, true, taken, true, 0, 0, buf.len(), asm);
     if k != 0 {
         return refused_with(k, asm);
     }
@@ -391,6 +416,87 @@ pub fn set_label(
         asm,
         answer: Answer::Accepted,
     }
+}
+
+// ---- the numbers of jumps made to labels
+
+// The number of an entry with n jumps more is at most 4,096.
+fn entry_holds(e: u64, n: u64) -> bool
+    requires { ⌜ n ≤ 2 ⌝ }
+    ensures { λ r. ⌜ r ≡ leb (made e + n) jump-limit ⌝ }
+{
+    e / 4294967296 + n <= 4096
+}
+
+// Label l's number with n jumps more is at most 4,096; false where there is no such label.
+fn number_holds(labels: &Labels, n: u64, l: u32) -> bool
+    requires { ⌜ n ≤ 2 ⌝ }
+    ensures { λ r. ⌜ r ≡ number-holds (now (labels .entry)) n l ⌝ }
+{
+    let i = l as usize;
+    if LABELS <= i {
+        return false;
+    }
+    entry_holds(labels[i], n)
+}
+
+// Each is a label whose number is at most 4,096.
+fn numbers_sound(g: Goes, labels: &Labels) -> bool
+    ensures { λ r. ⌜ r ≡ numbers-sound (now (labels .entry)) (goes-to g) ⌝ }
+{
+    match g {
+        Goes::Nowhere => true,
+        Goes::One(a) => number_holds(labels, 0, a),
+        Goes::Two(a, b) => both(number_holds(labels, 0, a), number_holds(labels, 0, b)),
+    }
+}
+
+// How many of two jumps go to the first one's label.
+fn times_of(a: u32, b: u32) -> u64
+    ensures { λ r. ⌜ (r ≡ times a (a ∷ b ∷ [])) × (r ≤ 2) ⌝ }
+{
+    if a == b { 2 } else { 1 }
+}
+
+// Each is a label whose number, with these jumps, is at most 4,096.
+fn numbers_fit(g: Goes, labels: &Labels) -> bool
+    ensures { λ r. ⌜ r ≡ numbers-fit (now (labels .entry)) (goes-to g) ⌝ }
+{
+    match g {
+        Goes::Nowhere => true,
+        Goes::One(a) => number_holds(labels, 1, a),
+        Goes::Two(a, b) => {
+            let n = times_of(a, b);
+            both(number_holds(labels, n, a), number_holds(labels, n, b))
+        }
+    }
+}
+
+pub fn go_count(g: Goes) -> usize
+    ensures { λ r. ⌜ (r ≡ length (goes-to g)) × (r ≤ 2) ⌝ }
+{
+    match g {
+        Goes::Nowhere => 0,
+        Goes::One(_) => 1,
+        Goes::Two(_, _) => 2,
+    }
+}
+
+// An entry with one jump more.
+fn with_one(e: u64) -> u64
+    requires { ⌜ made e < jump-limit ⌝ }
+    ensures { λ r. ⌜ r ≡ one-more e ⌝ }
+{
+    e + 4294967296
+}
+
+// One jump more to label l.
+fn count(labels: &mut Labels, l: usize)
+    requires { ⌜ (l < label-limit) × (made (getD (now labels) l 0) < jump-limit) ⌝ }
+    ensures { λ _. ⌜ now (labels .exit) ≡ set (now (labels .entry)) l (one-more (getD (now (labels .entry)) l 0)) ⌝ }
+{
+    let e = with_one(labels[l]);
+    labels[l] = e;
 }
 
 // ---- jumps
@@ -421,14 +527,25 @@ fn note(jumps: &mut Jumps, i: usize, p: u32, l: u32, r: u32, k: u32, t: u32)
     jumps[b + 4] = t;
 }
 
-// A zero word, and the jump noted.
-fn reserve(k: JumpKind, l: u32, r: u32, t: u32, buf: &mut [u8], jumps: &mut Jumps, asm: Asm) -> Asm
-    requires { ⌜ (asm .len + 4 ≤ length (now buf)) × (asm .len ≤ room-limit) × (asm .jumps < jump-limit) ⌝ }
-    ensures { λ a. ⌜ Steps (with-jump (kind-number k) l r t) asm a jumps buf × (a .len ≡ asm .len + 4) × (a .jumps ≡ asm .jumps + 1) ⌝ }
+// A zero word, the jump noted, and counted at its label.
+fn reserve(
+    k: JumpKind,
+    l: u32,
+    r: u32,
+    t: u32,
+    buf: &mut [u8],
+    labels: &mut Labels,
+    jumps: &mut Jumps,
+    asm: Asm,
+) -> Asm
+    requires { ⌜ (asm .len + 4 ≤ length (now buf)) × (asm .len ≤ room-limit) × (asm .jumps < jump-limit)
+        × (l < label-limit) × (made (getD (now labels) l 0) < jump-limit) ⌝ }
+    ensures { λ a. ⌜ Steps (with-jump (kind-number k) l r t) asm a labels jumps buf × (a .len ≡ asm .len + 4) × (a .jumps ≡ asm .jumps + 1) ⌝ }
 {
     let len = asm.len;
     let i = asm.jumps;
     put_word(buf, len, 0);
+    count(labels, l as usize);
     let n = number_of(k);
     note(jumps, i, len as u32, l, r, n, t);
     Asm {
@@ -438,16 +555,10 @@ fn reserve(k: JumpKind, l: u32, r: u32, t: u32, buf: &mut [u8], jumps: &mut Jump
     }
 }
 
-fn fault_of(l: u32, r: u32) -> u8
-    ensures { λ x. ⌜ (x ≡ jump-fault l r) × (x ≤ 2) ⌝ }
+fn fault_of(r: u32) -> u8
+    ensures { λ x. ⌜ (x ≡ jump-fault r) × (x ≤ 2) ⌝ }
 {
-    if 32 <= r {
-        return 1;
-    }
-    if LABELS <= l as usize {
-        return 2;
-    }
-    0
+    if r < 32 { 0 } else { 1 }
 }
 
 pub fn jump(
@@ -460,13 +571,15 @@ pub fn jump(
     jumps: &mut Jumps,
     asm: Asm,
 ) -> EmitResult
-    ensures { λ x. ⌜ after x labels jumps buf ≡ put tag (jump-fault l r) (jump-item k l r ∷ []) (before asm labels jumps buf) ⌝ }
+    ensures { λ x. ⌜ after x labels jumps buf ≡ put tag (jump-fault r) (jump-item k l r ∷ []) (before asm labels jumps buf) ⌝ }
 {
-    let n = number(fault_of(l, r), false, 1, 1, buf.len(), asm);
+    let known = number_holds(labels, 0, l);
+    let holds = number_holds(labels, 1, l);
+    let n = number(fault_of(r), known, false, holds, 1, 1, buf.len(), asm);
     if n != 0 {
         return refused_with(n, asm);
     }
-    let a = reserve(k, l, r, tag, buf, jumps, asm);
+    let a = reserve(k, l, r, tag, buf, labels, jumps, asm);
     EmitResult {
         asm: a,
         answer: Answer::Accepted,
@@ -506,6 +619,7 @@ pub fn fault_number(f: Fault) -> u8
         Fault::Label => 3,
         Fault::Count => 9,
         Fault::Base => 10,
+        Fault::Unsaved => 11,
     }
 }
 
@@ -534,7 +648,7 @@ fn fault_for(r: Refusal) -> Fault
         Refusal::Closed => Fault::Value,
         Refusal::Count => Fault::Count,
         Refusal::Base => Fault::Base,
-        Refusal::Unsaved => Fault::Value,
+        Refusal::Unsaved => Fault::Unsaved,
         Refusal::Line => Fault::Value,
     }
 }
@@ -581,13 +695,14 @@ pub fn push(p: Plan, e: Encoded) -> Plan
     }
 }
 
-fn tail_count(t: Tail) -> usize
-    ensures { λ r. ⌜ (r ≡ length (tail-items t)) × (r ≤ 2) ⌝ }
+// Where the jumps of a tail go.
+pub fn goes_of(t: Tail) -> Goes
+    ensures { λ g. ⌜ goes-to g ≡ targets (tail-items t) ⌝ }
 {
     match t {
-        Tail::Nothing => 0,
-        Tail::One(_, _, _) => 1,
-        Tail::Pair(_, _, _) => 2,
+        Tail::Nothing => Goes::Nowhere,
+        Tail::One(_, l, _) => Goes::One(l),
+        Tail::Pair(_, l, _) => Goes::Two(l, l),
     }
 }
 
@@ -596,8 +711,8 @@ fn fault_of_tail(t: Tail) -> u8
 {
     match t {
         Tail::Nothing => 0,
-        Tail::One(_, l, r) => fault_of(l, r),
-        Tail::Pair(_, l, r) => fault_of(l, r),
+        Tail::One(_, _, r) => fault_of(r),
+        Tail::Pair(_, _, r) => fault_of(r),
     }
 }
 
@@ -674,21 +789,24 @@ fn taken(s: Sets, labels: &Labels) -> bool
     }
 }
 
-// Before a whole of these labels and so many words and jumps is placed part by part: whether it is refused. Nothing changes.
+// Before a whole of these labels, jumps and so many words is placed part by part: whether it is refused. Nothing changes.
 pub fn check_whole(
     fault: Fault,
     sets: Sets,
+    goes: Goes,
     words: usize,
-    jumps: usize,
     buf: &[u8],
     labels: &Labels,
     asm: Asm,
 ) -> EmitResult
-    ensures { λ r. ⌜ Answered (prechecked (earlier (fault-number fault) (sets-fault (labels-of sets))) (labels-of sets) words jumps) asm r labels buf ⌝ }
+    ensures { λ r. ⌜ Answered (prechecked (earlier (fault-number fault) (sets-fault (labels-of sets))) (labels-of sets) (goes-to goes) words)
+        asm r labels buf ⌝ }
 {
     let f = first_number(fault_number(fault), fault_of_sets(sets));
+    let known = numbers_sound(goes, labels);
     let t = taken(sets, labels);
-    let k = number(f, t, words, jumps, buf.len(), asm);
+    let holds = numbers_fit(goes, labels);
+    let k = number(f, known, t, holds, words, go_count(goes), buf.len(), asm);
     if k != 0 {
         return refused_with(k, asm);
     }
@@ -705,16 +823,24 @@ fn at_most(n: usize) -> usize
 }
 
 // The jumps of a tail.
-fn reserve_tail(t: Tail, tag: u32, buf: &mut [u8], jumps: &mut Jumps, asm: Asm) -> Asm
-    requires { ⌜ Fits (length (now buf)) asm (length (tail-items t)) (length (tail-items t)) ⌝ }
-    ensures { λ a. ⌜ Steps (placed tag (tail-items t)) asm a jumps buf ⌝ }
+fn reserve_tail(
+    t: Tail,
+    tag: u32,
+    buf: &mut [u8],
+    labels: &mut Labels,
+    jumps: &mut Jumps,
+    asm: Asm,
+) -> Asm
+    requires { ⌜ Fits (length (now buf)) asm (length (targets (tail-items t))) (length (targets (tail-items t)))
+        × (numbers-fit (now labels) (targets (tail-items t)) ≡ true) ⌝ }
+    ensures { λ a. ⌜ Steps (placed tag (tail-items t)) asm a labels jumps buf ⌝ }
 {
     match t {
         Tail::Nothing => asm,
-        Tail::One(k, l, r) => reserve(k, l, r, tag, buf, jumps, asm),
+        Tail::One(k, l, r) => reserve(k, l, r, tag, buf, labels, jumps, asm),
         Tail::Pair(k, l, r) => {
-            let a = reserve(JumpKind::Auipc, l, 0, tag, buf, jumps, asm);
-            reserve(k, l, r, tag, buf, jumps, a)
+            let a = reserve(JumpKind::Auipc, l, 0, tag, buf, labels, jumps, asm);
+            reserve(k, l, r, tag, buf, labels, jumps, a)
         }
     }
 }
@@ -732,10 +858,13 @@ pub fn place(
     ensures { λ x. ⌜ after x labels jumps buf ≡ put tag (plan-fault p t) (plan-items p t) (before asm labels jumps buf) ⌝ }
 {
     let n = at_most(p.n);
-    let j = tail_count(t);
+    let g = goes_of(t);
+    let j = go_count(g);
     let own = p.fault;
     let f = first_number(fault_number(own), fault_of_tail(t));
-    let k = number(f, false, n + j, j, buf.len(), asm);
+    let known = numbers_sound(g, labels);
+    let holds = numbers_fit(g, labels);
+    let k = number(f, known, false, holds, n + j, j, buf.len(), asm);
     if k != 0 {
         return refused_with(k, asm);
     }
@@ -747,7 +876,7 @@ pub fn place(
         jumps: asm.jumps,
         closed: asm.closed,
     };
-    let b = reserve_tail(t, tag, buf, jumps, a);
+    let b = reserve_tail(t, tag, buf, labels, jumps, a);
     EmitResult {
         asm: b,
         answer: Answer::Accepted,
@@ -783,12 +912,12 @@ pub fn append_const(
 {
     let b = bits_of(c);
     if 1007 < k {
-        let n = number(9, false, 2, 0, buf.len(), asm);
+        let n = number(9, true, false, true, 2, 0, buf.len(), asm);
         return refused_with(n, asm);
     }
     let i = 1024 + k as usize;
     let taken = label_set(labels[i]);
-    let n = number(0, taken, 2, 0, buf.len(), asm);
+    let n = number(0, true, taken, true, 2, 0, buf.len(), asm);
     if n != 0 {
         return refused_with(n, asm);
     }

@@ -22,7 +22,7 @@ use Rattle.deck.specs.Judge.{judged, line-judged}
 use Rattle.ast.specs.Mask.{saves as any-saved, saved}
 use Rattle.ast.specs.Counts.{counts-hold}
 use Rattle.assembler.specs.Bytes.{bytes}
-use Rattle.assembler.specs.Put.{jumps, labels}
+use Rattle.assembler.specs.Put.{jumps, targets, labels}
 use Rattle.assembler.specs.Resolved.{label-place, resolved, jumps-in}
 use Rattle.accesses.specs.Code.{li-code, sub-stack-code, add-stack-code, allocate-stack-code, access-code, point-code}
 use Rattle.reading.specs.Line.{order, constant}
@@ -118,7 +118,7 @@ pub record AllRead : Type 0 where
 
 pub files : AllRead
 unfolding encode join fields program-of lines-of head-read lines-read line-read closed-off finished first-line body-lines jumps-in line-judged judged said read split first same read-values read-decimal read-integer read-word read-from counts-hold any-saved items span body constants constants-from prologue epilogue
-    saves reloads saved repeated line-code code unary-code binary-code access-code point-code jumps labels li-code sub-stack-code add-stack-code allocate-stack-code label-place buffer-after bytes flatMap resolved place
+    saves reloads saved repeated line-code code unary-code binary-code access-code point-code jumps targets labels li-code sub-stack-code add-stack-code allocate-stack-code label-place buffer-after bytes flatMap resolved place
 files =
     record {
       sample-reads = refl;

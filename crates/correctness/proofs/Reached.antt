@@ -14,7 +14,7 @@ use Rattle.ast.specs.declared.Order.the-variants.{SetLabel}
 use Rattle.assembler.specs.Item.{Item, instr, raw, jump, label}
 use Rattle.base.specs.Tests.{member}
 use Rattle.base.proofs.Bools.{true-not-false}
-use Rattle.assembler.specs.Put.{jumps, labels}
+use Rattle.assembler.specs.Put.{jumps, targets, labels}
 use Rattle.assembler.specs.Resolved.{label-place, jumps-in}
 use Rattle.ast.specs.Constant.{constant-label}
 use Rattle.assembler.proofs.Items.{jumps-append}
@@ -65,7 +65,7 @@ abbrev pub Placed : List Item → ℕ → Type 0
 Placed all l = label-place l 0 all ≡ none → ⊥
 
 reached : (all : List Item) (h : ℕ) (xs : List Item) (ns : List ℕ) → jumps xs ≤ length ns → first-line (unset all) (jumps-in h xs) ns ≡ none → Jumping (Placed all) xs
-unfolding jumps jumps-in first-line
+unfolding jumps targets jumps-in first-line
 reached all h [] ns m e = tt
 reached all h (instr i ∷ xs) ns m e = reached all (h + 4) xs ns m e
 reached all h (raw w ∷ xs) ns m e = reached all (h + 4) xs ns m e
@@ -80,14 +80,14 @@ reached all h (jump k l r ∷ xs) (n ∷ ns) m e = by (member l (labels all)) re
 -- ---- each jump has a line
 
 body-counted : (n : ℕ) (ls : List Line) → length (body-lines n ls) ≡ jumps (body ls)
-unfolding body-lines body jumps
+unfolding body-lines body jumps targets
 body-counted n [] = refl
 body-counted n (l ∷ ls) =
     length-append (replicate (jumps (line-code l)) n) (body-lines (suc n) ls)
     ∙ rw (length-replicate (jumps (line-code l)) n, body-counted (suc n) ls, jumps-append (line-code l) (body ls))
 
 no-jumps : (k : ℕ) (bs : List ℕ) → jumps (constants-from k bs) ≡ 0
-unfolding constants-from jumps
+unfolding constants-from jumps targets
 no-jumps k [] = refl
 no-jumps k (b ∷ bs) = no-jumps (suc k) bs
 

@@ -15,7 +15,7 @@ use Rattle.deck.specs.Judge.{judged, line-judged}
 use Rattle.ast.specs.Mask.{saves as any-saved, saved}
 use Rattle.ast.specs.Counts.{counts-hold}
 use Rattle.assembler.specs.Bytes.{room}
-use Rattle.assembler.specs.Put.{jumps, labels}
+use Rattle.assembler.specs.Put.{jumps, targets, labels}
 use Rattle.assembler.specs.Resolved.{label-place, jumps-in}
 use Rattle.accesses.specs.Code.{li-code, sub-stack-code, add-stack-code, allocate-stack-code, access-code, point-code}
 use Rattle.orders.specs.Code.{code, line-code, scratched-code}
@@ -69,7 +69,7 @@ behind file buf answer after h = rw (h .1) (kept buf (code-bytes (program-of (le
 
 pub refusals : Malformed × Fields × Counts × Labels
 unfolding program-of lines-of head-read lines-read line-read closed-off finished first-line body-lines jumps-in line-judged judged said read split first same read-values read-decimal read-integer read-word read-from counts-hold any-saved items span body constants constants-from prologue epilogue
-    saves reloads saved repeated line-code code scratched-code access-code point-code jumps labels li-code sub-stack-code add-stack-code allocate-stack-code label-place
+    saves reloads saved repeated line-code code scratched-code access-code point-code jumps targets labels li-code sub-stack-code add-stack-code allocate-stack-code label-place
 refusals = (
   (refl, refl, refl, refl, refl, refl, refl, refl, refl, refl, refl),
   (refl, refl, refl, refl, refl, refl, refl),

@@ -30,7 +30,7 @@ use Rattle.deck.specs.Judge as Deck
 use Rattle.reading.specs.Line.{Line, order, constant}
 use Rattle.reading.specs.Program.{Program, constants}
 use Rattle.assembler.specs.Item.{Item}
-use Rattle.assembler.specs.Put.{jumps, labels}
+use Rattle.assembler.specs.Put.{jumps, targets, labels}
 use Rattle.assembler.specs.Resolved.{resolved, label-place, jumps-in}
 use Rattle.assembler.proofs.Items.{jumps-append, labels-append}
 use Rattle.finish.proofs.Append.{jumps-in-append, label-place-append}
@@ -87,7 +87,7 @@ record Alike (is js : List Item) : Type 0 where
   places : (l here : ℕ) → label-place l here is ≡ label-place l here js
 
 data-alike : (k : ℕ) (bs cs : List ℕ) → length bs ≡ length cs → Alike (constants-from k bs) (constants-from k cs)
-unfolding constants-from span jumps labels jumps-in label-place
+unfolding constants-from span jumps targets labels jumps-in label-place
 data-alike k [] [] e = record { spans = refl; counts = refl; sets = refl; goes = λ h. refl; places = λ l h. refl }
 data-alike k [] (c ∷ cs) e = absurd (omega arith)
 data-alike k (b ∷ bs) [] e = absurd (omega arith)

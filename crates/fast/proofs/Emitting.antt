@@ -1,6 +1,6 @@
 -- Orders that have jumps or set a label, by what emitting them answers. Assumes nothing.
 use mathlib.Core.Path.{_≡_, refl, sym, ap, _∙_}
-use mathlib.Core.Bool.{Bool, true, false, cond}
+use mathlib.Core.Bool.{Bool, true, false, cond, _&&_}
 use mathlib.Core.Option.{some, none}
 use mathlib.Core.List.{List, [], _∷_}
 use Prim.Native.Nat.{ℕ, zero, suc, _*_, _/_, _%_, _+_, _≤_, _-_}
@@ -21,38 +21,39 @@ use Rattle.assembler.specs.declared.Asm.{Asm}
 use Rattle.assembler.specs.declared.EmitResult.{EmitResult}
 use Rattle.assembler.specs.declared.Answer.the-variants.{Accepted, Refused}
 use Rattle.assembler.specs.State.{State, Outcome, state, emit-answer, outcome, sound, fits}
-use Rattle.assembler.specs.Put.{labels, twice, words, jumps, with-word, with-jump, with-label, place, placed, verdict, put-number, settled, put}
+use Rattle.assembler.specs.Put.{labels, twice, words, jumps, targets, with-word, with-jump, with-label, place, placed, numbers-sound, numbers-fit, ranked, verdict, put-number, settled, put}
 use Rattle.orders.specs.Code.{code}
-use Rattle.orders.specs.Emitted.{emitted}
+use Rattle.orders.specs.Emitted.{items, emitted}
 use Rattle.orders.specs.Fault.{fault}
 use Rattle.fast.specs.Inner.Fast.{taken, not-mine, asm-of, left}
 
 -- ---- what is accepted has room
 
-module _ (f : ℕ) (t : Bool) (w j n : ℕ) (a : Asm) where
-  fits-then : verdict f t w j n a ≡ 0 → fits n a w j ≡ true
-  unfolding verdict
-  fits-then e = go (a .closed) (eqb f 1) (eqb f 3) (sound n a) (eqb f 0) t (fits n a w j) refl e
-    where
-      bad : (k : ℕ) → _≡_ {A = ℕ} (suc k) 0 → ⊥
-      bad k e = omega (arith, e)
+fits-then : (f : ℕ) (ls ts : List ℕ) (w : ℕ) (s : State) → verdict f ls ts w s ≡ 0 → fits (length (s .buf)) (s .asm) w (length ts) ≡ true
+unfolding ranked
+fits-then f ls ts w s e =
+    both (numbers-fit (s .labels) ts) _
+    (go (s .asm .closed) (eqb f 1) (eqb f 3) (numbers-sound (s .labels) ts && sound (length (s .buf)) (s .asm)) (eqb f 0) (twice (s .labels) ls) (numbers-fit (s .labels) ts && fits (length (s .buf)) (s .asm) w (length ts)) refl e) .1
+  where
+    bad : (k : ℕ) → _≡_ {A = ℕ} (suc k) 0 → ⊥
+    bad k e = omega (arith, e)
 
-      go : (c r l s z t x : Bool) → eqb f 0 ≡ z → cond c 8 (cond r 1 (cond l 3 (cond s (cond z (cond t 4 (cond x 0 7)) f) 2))) ≡ 0 → x ≡ true
-      go true r l s z t x q e = absurd (bad 7 e)
-      go false true l s z t x q e = absurd (bad 0 e)
-      go false false true s z t x q e = absurd (bad 2 e)
-      go false false false true true true x q e = absurd (bad 3 e)
-      go false false false true true false true q e = refl
-      go false false false true true false false q e = absurd (bad 6 e)
-      go false false false true false t x q e = absurd (eqb-false f 0 q e)
-      go false false false false z t x q e = absurd (bad 1 e)
+    go : (c r l s z t x : Bool) → eqb f 0 ≡ z → cond c 8 (cond r 1 (cond l 3 (cond s (cond z (cond t 4 (cond x 0 7)) f) 2))) ≡ 0 → x ≡ true
+    go true r l s z t x q e = absurd (bad 7 e)
+    go false true l s z t x q e = absurd (bad 0 e)
+    go false false true s z t x q e = absurd (bad 2 e)
+    go false false false true true true x q e = absurd (bad 3 e)
+    go false false false true true false true q e = refl
+    go false false false true true false false q e = absurd (bad 6 e)
+    go false false false true false t x q e = absurd (eqb-false f 0 q e)
+    go false false false false z t x q e = absurd (bad 1 e)
 
 -- what placing does to the record
 abbrev Moved : List Item → Asm → Asm → Type 0
 Moved is a b = (b .len ≡ a .len + 4 * length (words is)) × (b .jumps ≡ a .jumps + jumps is) × (b .closed ≡ a .closed)
 
 moved : (tag : ℕ) (is : List Item) (s : State) → Moved is (s .asm) (placed tag is s .asm)
-unfolding words jumps placed place with-word with-jump with-label
+unfolding words jumps targets placed place with-word with-jump with-label
 moved tag [] s = (omega arith, omega arith, refl)
 moved tag (instr i ∷ is) s = let m = moved tag is (with-word (encode i) s) in (omega (arith, m .0), m .1, m .2)
 moved tag (raw w ∷ is) s = let m = moved tag is (with-word w s) in (omega (arith, m .0), m .1, m .2)
@@ -63,13 +64,13 @@ moved tag (label l ∷ is) s = let m = moved tag is (with-label l s) in m
 abbrev Small : Asm → Asm → Type 0
 Small a b = (b .len ≤ 65536) × (b .jumps ≤ 4096) × (b .closed ≡ a .closed)
 
-placed-small : (tag : ℕ) (is : List Item) (s : State) → fits (length (s .buf)) (s .asm) (length (words is)) (jumps is) ≡ true → Small (s .asm) (placed tag is s .asm)
-unfolding fits
+placed-small : (tag : ℕ) (is : List Item) (s : State) → fits (length (s .buf)) (s .asm) (length (words is)) (length (targets is)) ≡ true → Small (s .asm) (placed tag is s .asm)
+unfolding fits jumps
 placed-small tag is s h =
     let m = moved tag is s in
-    let g = both (leb (s .asm .len + 4 * length (words is)) (room (length (s .buf)))) (leb (s .asm .jumps + jumps is) 4096) h in
+    let g = both (leb (s .asm .len + 4 * length (words is)) (room (length (s .buf)))) (leb (s .asm .jumps + length (targets is)) 4096) h in
     let l = leb-true (s .asm .len + 4 * length (words is)) (room (length (s .buf))) (g .0) in
-    let j = leb-true (s .asm .jumps + jumps is) 4096 (g .1) in
+    let j = leb-true (s .asm .jumps + length (targets is)) 4096 (g .1) in
     (omega (arith, m .0), omega (arith, m .1), m .2)
 
 -- accepted, and the state is small; or refused, and nothing changed
@@ -87,8 +88,9 @@ settled-either (suc n) s t f = ((λ m p e. refl), λ e. absurd (clash (suc n) 0 
 emitted-either : (tag : ℕ) (o : Order) (s : State) → Either s (emitted tag o s)
 unfolding put
 emitted-either tag o s =
-    settled-either (put-number (fault o) (code o) s) s (placed tag (code o) s)
-    (λ e. placed-small tag (code o) s (fits-then (fault o) (twice (s .labels) (labels (code o))) (length (words (code o))) (jumps (code o)) (length (s .buf)) (s .asm) e))
+    let is = items o in
+    settled-either (put-number (fault o) is s) s (placed tag is s)
+    (λ e. placed-small tag is s (fits-then (fault o) (labels is) (targets is) (length (words is)) s e))
 
 -- ---- the ways through `jumping`
 

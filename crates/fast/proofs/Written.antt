@@ -19,18 +19,18 @@ use Rattle.assembler.specs.Item.{Item, instr, raw}
 use Rattle.assembler.specs.Bytes.{written, room}
 use Rattle.assembler.specs.declared.Asm.{Asm}
 use Rattle.assembler.specs.State.{State, state, sound}
-use Rattle.assembler.specs.Put.{labels, twice, words, jumps, placed, verdict, put-number, settled, put}
+use Rattle.assembler.specs.Put.{targets, numbers-sound, placed, ranked, put-number, settled, put}
 use Rattle.assembler.proofs.Items.{with-words}
 use Rattle.assembler.proofs.Checks.{v-closed, v-record}
 use Rattle.assembler.proofs.Plans.{put-same}
 use Rattle.assembler.proofs.Steps.{put-raw, settled-no}
 use Rattle.accesses.specs.Fault.{offset-limit}
 use Rattle.orders.specs.Code.{code}
-use Rattle.orders.specs.Emitted.{emitted, count-fault, unsaved-fault}
+use Rattle.orders.specs.Emitted.{items, emitted, count-fault, unsaved-fault}
 use Rattle.orders.specs.Fault.{fault}
 use Rattle.orders.specs.Inner.Parts.{instrs}
 use Rattle.orders.specs.Wrote.{word, roomy, no-room}
-use Rattle.orders.proofs.Whole.{order-valid, order-short, unsaved-some, counted-some}
+use Rattle.orders.proofs.Whole.{order-valid, order-short, items-all, unsaved-some, counted-some}
 use Rattle.orders.proofs.Wrote.{words-valid}
 use Rattle.fast.specs.Inner.Fast.{taken, placed-in, not-mine, left}
 use Rattle.fast.specs.Inner.Packed.{unpacked}
@@ -68,8 +68,8 @@ unfolding settled
 settled-none n t u k e = rw (← e)
 
 fault-none : (tag f : ℕ) (is : List Item) (s : State) → (f ≡ 0 → ⊥) → taken (put tag f is s) ≡ none
-unfolding put verdict
-fault-none tag f is s h = rw (ne-eqb f 0 h) (by (s .asm .closed) (eqb f 1) (eqb f 3) (sound (length (s .buf)) (s .asm)))
+unfolding put ranked
+fault-none tag f is s h = rw (ne-eqb f 0 h) (by (s .asm .closed) (eqb f 1) (eqb f 3) (numbers-sound (s .labels) (targets is) && sound (length (s .buf)) (s .asm)))
   where
     by : (c r l q : Bool) → taken (settled (cond c 8 (cond r 1 (cond l 3 (cond q f 2)))) s (placed tag is s)) ≡ none
     by true r l q = settled-none 8 s (placed tag is s) 7 refl
@@ -80,13 +80,13 @@ fault-none tag f is s h = rw (ne-eqb f 0 h) (by (s .asm .closed) (eqb f 1) (eqb 
 
 module _ (H : Head) (tag : ℕ) (o : Order) (s : State) where
   no-cell : index-holds H o ≡ false → placed-in H tag (some o) s ≡ none
-  no-cell e = rw (e, fault-none tag (count-fault o) (code o) s (counted-some o)) (neither (roomy (s .asm .len) (s .buf)))
+  no-cell e = rw (e, fault-none tag (count-fault o) (items o) s (counted-some o)) (neither (roomy (s .asm .len) (s .buf)))
 
   pub no-save : saves-hold (H .mask) o ≡ false → placed-in H tag (some o) s ≡ none
   no-save f = go (index-holds H o) refl
     where
       go : (t : Bool) → index-holds H o ≡ t → placed-in H tag (some o) s ≡ none
-      go true e = rw (e, f, fault-none tag (unsaved-fault (fault o)) (code o) s (unsaved-some (fault o))) (neither (roomy (s .asm .len) (s .buf)))
+      go true e = rw (e, f, fault-none tag (unsaved-fault (fault o)) (items o) s (unsaved-some (fault o))) (neither (roomy (s .asm .len) (s .buf)))
       go false e = no-cell e
 
   pub no-place : roomy (s .asm .len) (s .buf) ≡ false → placed-in H tag (some o) s ≡ none
@@ -105,11 +105,11 @@ module _ (H : Head) (tag : ℕ) (o : Order) (s : State) where
       off false u e = refl
 
       go : (t : Bool) → s .asm .closed ≡ t → taken (settled (put-number 0 (code o) s) s (placed tag (code o) s)) ≡ none
-      go true e = settled-none (put-number 0 (code o) s) s (placed tag (code o) s) 7 (v-closed 0 (twice (s .labels) (labels (code o))) (length (words (code o))) (jumps (code o)) (length (s .buf)) (s .asm) e)
+      go true e = settled-none (put-number 0 (code o) s) s (placed tag (code o) s) 7 (v-closed 0 _ _ _ _ e)
       go false e =
           let g : eqb (s .asm .len % 4) 0 && leb (s .asm .jumps) 4096 ≡ false = rw e at h in
           let f : sound (length (s .buf)) (s .asm) ≡ false = off (leb (s .asm .len) (room (length (s .buf)))) (eqb (s .asm .len % 4) 0 && leb (s .asm .jumps) 4096) g in
-          settled-none (put-number 0 (code o) s) s (placed tag (code o) s) 1 (v-record 0 (twice (s .labels) (labels (code o))) (length (words (code o))) (jumps (code o)) (length (s .buf)) (s .asm) e (λ k. omega arith) (λ k. omega arith) f)
+          settled-none (put-number 0 (code o) s) s (placed tag (code o) s) 1 (v-record 0 _ _ _ _ e (λ k. omega arith) (λ k. omega arith) (off (numbers-sound (s .labels) (targets (code o))) _ f))
 
 -- ---- written
 
@@ -136,7 +136,7 @@ module _ (tag : ℕ) (o : Order) (s : State) (p : Straight o) (h : ready (s .asm
       let v : map word is ≡ map encode is = words-valid is (order-valid o (p .1)) in
       let n : length (map encode is) ≡ length is = length-map is encode in
       let l = leb-true (s .asm .len + 44) (room (length (s .buf))) r in
-      ap₂ (λ (k : ℕ) (l : List Item). put tag k l s) (p .1) (p .0 ∙ sym (append-nil (map instr is)))
+      ap₂ (λ (k : ℕ) (l : List Item). put tag k l s) (p .1) (items-all o (p .1) ∙ p .0 ∙ sym (append-nil (map instr is)))
       ∙ sym (put-same [] tag 0 is s)
       ∙ ap (λ (l : List Item). put tag 0 l s) (append-nil (map raw (map encode is)))
       ∙ put-raw tag (map encode is) s (is-open (s .asm) h) (is-sound (s .asm) h (s .buf) r) (few-jumps (s .asm) h) (omega (arith, n, order-short o))

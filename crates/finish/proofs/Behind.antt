@@ -16,7 +16,7 @@ use Rattle.assembler.specs.Jump.{kind-number}
 use Rattle.assembler.specs.Bytes.{bytes, written, room}
 use Rattle.assembler.specs.Memory.{jump-at, jumps-of}
 use Rattle.assembler.specs.State.{State, sound}
-use Rattle.assembler.specs.Put.{words, jumps, labels, twice, with-word, with-jump, with-label, place, placed, put-number, settled, put}
+use Rattle.assembler.specs.Put.{words, targets, labels, with-word, with-jump, with-label, place, placed, put-number, settled, put}
 use Rattle.assembler.proofs.Writes.{length-bytes}
 use Rattle.finish.specs.Finish.{FinishOutcome, jump-word, patched, finish-number, about, finished, finish}
 use Rattle.finish.proofs.Wrong.{zero-then, zero-else}
@@ -53,7 +53,7 @@ pub put-behind : (tag fault : ℕ) (is : List Item) (s : State) → drop (room (
 unfolding put
 put-behind tag fault is s =
     settled-behind (room (length (s .buf))) (put-number fault is s) s (placed tag is s)
-    (λ e. placed-behind (room (length (s .buf))) tag is s (passed fault (twice (s .labels) (labels is)) (length (words is)) (jumps is) (length (s .buf)) (s .asm) e .room-left))
+    (λ e. placed-behind (room (length (s .buf))) tag is s (passed fault (labels is) (targets is) (length (words is)) s e .room-left))
 
 patched-behind : (n : ℕ) (labels b m : List ℕ) (i c : ℕ) → ((k : ℕ) → k < c → jump-at m (i + k) .word + 4 ≤ n) → drop n (patched labels b (jumps-of m i c)) ≡ drop n b
 unfolding patched jumps-of

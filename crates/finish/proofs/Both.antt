@@ -9,21 +9,23 @@ use lib.Dec.{leb, eqb}
 use lib.ListN.{length, getD, set, length-append, length-set}
 use lib.Seq.{getD-set-other}
 use Rattle.isa.specs.Encode.{encode}
-use Rattle.base.proofs.Bools.{both}
+use Rattle.base.proofs.Bools.{both, join}
 use Rattle.refusal.specs.Answer.{accepted}
 use Rattle.assembler.specs.Item.{Item, instr, raw, jump, label}
 use Rattle.assembler.specs.Jump.{kind-number}
 use Rattle.assembler.specs.Bytes.{room}
-use Rattle.assembler.specs.Label.{is-set, with-place}
+use Rattle.assembler.specs.Label.{is-set, with-place, one-more}
 use Rattle.assembler.specs.State.{State, sound, fits}
-use Rattle.assembler.specs.Put.{words, jumps, labels, twice, with-word, with-jump, with-label, place, placed, verdict, put}
+use Rattle.assembler.specs.Put.{words, jumps, targets, labels, twice, with-word, with-jump, with-label, place, placed, numbers-sound, numbers-fit, verdict, put}
 use Rattle.base.specs.Tests.{member}
 use Rattle.assembler.specs.declared.Asm.{Asm}
-use Rattle.assembler.proofs.Items.{words-append, jumps-append, labels-append, placed-append}
+use Rattle.assembler.proofs.Items.{words-append, targets-append, labels-append, placed-append}
+use Rattle.assembler.proofs.Numbers.{fit-sound, fit-first, fit-second}
 use Rattle.assembler.proofs.Writes.{length-written}
 use Rattle.assembler.proofs.Checks.{v-good}
 use Rattle.assembler.proofs.Steps.{put-done}
-use Rattle.finish.proofs.All.{accepts, either}
+use Rattle.finish.proofs.Entries.{twice-kept, placed-made}
+use Rattle.finish.proofs.All.{accepts, either, jumps-are}
 
 -- ---- what placing does to the record
 
@@ -35,7 +37,7 @@ pub record Moved (is : List Item) (s t : State) : Type 0 where
   pub entries : length (t .labels) ≡ length (s .labels)
 
 pub moved : (tag : ℕ) (is : List Item) (s : State) → Moved is s (placed tag is s)
-unfolding words jumps placed place with-word with-jump with-label
+unfolding words jumps targets placed place with-word with-jump with-label
 moved tag [] s = record { len = omega arith; jumped = omega arith; closed = refl; size = refl; entries = refl }
 moved tag (instr i ∷ is) s =
     let m = moved tag is (with-word (encode i) s) in
@@ -45,7 +47,7 @@ moved tag (raw w ∷ is) s =
     record { len = omega (arith, m .len); jumped = m .jumped; closed = m .closed; size = m .size ∙ length-written (s .buf) (s .asm .len) (w ∷ []); entries = m .entries }
 moved tag (jump k l r ∷ is) s =
     let m = moved tag is (with-jump (kind-number k) l r tag s) in
-    record { len = omega (arith, m .len); jumped = omega (arith, m .jumped); closed = m .closed; size = m .size ∙ length-written (s .buf) (s .asm .len) (0 ∷ []); entries = m .entries }
+    record { len = omega (arith, m .len); jumped = omega (arith, m .jumped); closed = m .closed; size = m .size ∙ length-written (s .buf) (s .asm .len) (0 ∷ []); entries = m .entries ∙ length-set (s .labels) l (one-more (getD (s .labels) l 0)) }
 moved tag (label l ∷ is) s =
     let m = moved tag is (with-label l s) in
     record { len = m .len; jumped = m .jumped; closed = m .closed; size = m .size; entries = m .entries ∙ length-set (s .labels) l (with-place (getD (s .labels) l 0) (s .asm .len)) }
@@ -76,7 +78,9 @@ module _ (tag : ℕ) where
   twice-split [] ls s t = (refl, t)
   twice-split (instr i ∷ is) ls s t = twice-split is ls (with-word (encode i) s) t
   twice-split (raw w ∷ is) ls s t = twice-split is ls (with-word w s) t
-  twice-split (jump k l r ∷ is) ls s t = twice-split is ls (with-jump (kind-number k) l r tag s) t
+  twice-split (jump k l r ∷ is) ls s t =
+      let p = twice-split is ls (with-jump (kind-number k) l r tag s) (twice-kept (s .labels) l (labels is ++ ls) ∙ t) in
+      (sym (twice-kept (s .labels) l (labels is)) ∙ p .0, p .1)
   twice-split (label l ∷ is) ls s t =
       let x = with-place (getD (s .labels) l 0) (s .asm .len) in
       let p = either (is-set (getD (s .labels) l 0)) (member l (labels is ++ ls) || twice (s .labels) (labels is ++ ls)) t in
@@ -102,8 +106,12 @@ fits-is : (n : ℕ) (a : Asm) (w j : ℕ) → a .len + 4 * w ≤ room n → a .j
 unfolding fits
 fits-is n a w j e f = rw (le-leb _ _ e, le-leb _ _ f)
 
-good : (t : Bool) (w j n : ℕ) (a : Asm) → a .closed ≡ false → sound n a ≡ true → t ≡ false → a .len + 4 * w ≤ room n → a .jumps + j ≤ 4096 → verdict 0 t w j n a ≡ 0
-good t w j n a c s e r f = sym (v-good 0 t w j n a c (λ z. omega arith) (λ z. omega arith) s refl e (fits-is n a w j r f))
+good : (ls ts : List ℕ) (w : ℕ) (s : State) → s .asm .closed ≡ false → sound (length (s .buf)) (s .asm) ≡ true → twice (s .labels) ls ≡ false → numbers-fit (s .labels) ts ≡ true
+    → s .asm .len + 4 * w ≤ room (length (s .buf)) → s .asm .jumps + length ts ≤ 4096 → verdict 0 ls ts w s ≡ 0
+good ls ts w s c v e n r f =
+    let x = join (numbers-sound (s .labels) ts) _ (fit-sound (s .labels) ts n) v in
+    let y = join (numbers-fit (s .labels) ts) _ n (fits-is (length (s .buf)) (s .asm) w (length ts) r f) in
+    sym (v-good 0 _ _ _ _ c (λ z. omega arith) (λ z. omega arith) x refl e y)
 
 abbrev pub Accepts : (tag : ℕ) → List Item → State → State → Type 0
 Accepts tag is s t = put tag 0 is s ≡ record { answer = accepted tt; state = t }
@@ -115,12 +123,15 @@ put-split tag is js s u e =
     let t = placed tag is s in
     let m = moved tag is s in
     let w : length (words (is ++ js)) ≡ length (words is) + length (words js) = ap length (words-append is js) ∙ length-append (words is) (words js) in
-    let j = jumps-append is js in
+    let j : jumps is ≡ length (targets is) = jumps-are is in
     let c : room (length (t .buf)) ≡ room (length (s .buf)) = ap room (m .size) in
     let l = twice-split tag is (labels js) s (ap (twice (s .labels)) (sym (labels-append is js)) ∙ p .0 .new) in
-    let v = sound-even (length (s .buf)) (s .asm) (p .0 .well) in (
-      sym (put-done tag 0 is s t (good _ _ _ _ _ (p .0 .unclosed) (p .0 .well) (l .0) (omega (arith, p .0 .room-left, w)) (omega (arith, p .0 .jumps-left, j))) refl),
+    let v = sound-even (length (s .buf)) (s .asm) (p .0 .well) in
+    let g : length (targets (is ++ js)) ≡ length (targets is) + length (targets js) = ap length (targets-append is js) ∙ length-append (targets is) (targets js) in
+    let n : numbers-fit (s .labels) (targets is ++ targets js) ≡ true = ap (numbers-fit (s .labels)) (sym (targets-append is js)) ∙ p .0 .numbered in
+    let q = fit-second (s .labels) (targets is) (targets js) n (t .labels) (placed-made tag is s (omega (arith, p .0 .room-left, w))) in (
+      sym (put-done tag 0 is s t (good (labels is) (targets is) (length (words is)) s (p .0 .unclosed) (p .0 .well) (l .0) (fit-first (s .labels) (targets is) (targets js) n) (omega (arith, p .0 .room-left, w)) (omega (arith, p .0 .jumps-left, g))) refl),
       sym (put-done tag 0 js t u
-          (good _ _ _ _ _ (m .closed ∙ p .0 .unclosed) (sound-is _ _ (omega (arith, p .0 .room-left, m .len, w, c)) (omega (arith, v, m .len)) (omega (arith, p .0 .jumps-left, m .jumped, j))) (l .1) (omega (arith, p .0 .room-left, m .len, w, c)) (omega (arith, p .0 .jumps-left, m .jumped, j)))
+          (good (labels js) (targets js) (length (words js)) t (m .closed ∙ p .0 .unclosed) (sound-is (length (t .buf)) (t .asm) (omega (arith, p .0 .room-left, m .len, w, c)) (omega (arith, v, m .len)) (omega (arith, p .0 .jumps-left, m .jumped, g, j))) (l .1) q (omega (arith, p .0 .room-left, m .len, w, c)) (omega (arith, p .0 .jumps-left, m .jumped, g, j)))
           (p .1 ∙ placed-append tag is js s)),
     )

@@ -4,6 +4,7 @@ pub mod Near
 pub mod Wrong
 pub mod Patched
 pub mod Ends
+pub mod Entries
 pub mod Represents
 pub mod Over
 pub mod Noted
@@ -13,3 +14,4 @@ pub mod All
 pub mod Resolves
 pub mod Both
 pub mod Behind
+pub mod Counted

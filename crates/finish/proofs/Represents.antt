@@ -3,7 +3,7 @@ use mathlib.Core.Path.{_≡_}
 use mathlib.Core.Bool.{false}
 use mathlib.Core.List.{List, [], _∷_}
 use mathlib.Core.Option.{Option, none, some}
-use Prim.Native.Nat.{ℕ, _+_, _*_, _≤_, _<_}
+use Prim.Native.Nat.{ℕ, _+_, _*_, _^_, _≤_, _<_}
 use lib.IntN.{subℕ}
 use lib.ListN.{length, getD}
 use Rattle.isa.proofs.Validity.{Valid}
@@ -14,13 +14,17 @@ use Rattle.assembler.specs.Bytes.{written, room}
 use Rattle.assembler.specs.Memory.{jumps-of}
 use Rattle.assembler.proofs.Tags.{tags-of}
 use Rattle.assembler.specs.State.{State}
-use Rattle.assembler.specs.Put.{words, jumps}
+use Rattle.assembler.specs.Put.{words, jumps, targets, times}
 use Rattle.assembler.specs.Resolved.{label-place, jumps-in, place-in}
 
 -- label memory's entry for a place
 abbrev pub entry : Option ℕ → ℕ
 entry none = 0
 entry (some p) = p + 1
+
+-- and with it the number of jumps made to the label
+abbrev pub entry-of : List Item → ℕ → ℕ
+entry-of is l = entry (label-place l 0 is) + 2 ^ 32 * times l (targets is)
 
 -- every label that is set or jumped to has an entry
 abbrev pub Labelled : List Item → Type 0
@@ -41,7 +45,7 @@ pub record Represents (b : List ℕ) (is : List Item) (tags : List ℕ) (s : Sta
   pub noted : jumps-of (s .jumps) 0 (jumps is) ≡ jumps-in 0 is
   pub tagged : tags-of (s .jumps) 0 (jumps is) ≡ tags
   pub wide-jumps : length (s .jumps) ≡ 20480
-  pub set-labels : (l : ℕ) → l < label-limit → getD (s .labels) l 0 ≡ entry (label-place l 0 is)
+  pub set-labels : (l : ℕ) → l < label-limit → getD (s .labels) l 0 ≡ entry-of is l
   pub wide-labels : length (s .labels) ≡ label-limit
 
 -- each jump of items, of which the first is at `here`: its label is set by `all`, and its instruction is valid

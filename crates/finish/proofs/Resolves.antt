@@ -3,7 +3,7 @@ use mathlib.Core.Path.{_≡_, refl, ap, subst, _∙_}
 use mathlib.Core.Bool.{Bool, true, false, cond}
 use mathlib.Core.List.{List, [], _∷_}
 use mathlib.Core.Option.{Option, none, some, Option·getD}
-use Prim.Native.Nat.{ℕ, zero, suc, _+_, _<_}
+use Prim.Native.Nat.{ℕ, zero, suc, _+_, _*_, _%_, _^_, _<_}
 use native.Mathlib.Omega.{arith}
 use borrow.Author.Tests.{eqb-true, ltb-false}
 use lib.Dec.{eqb, ltb}
@@ -18,7 +18,7 @@ use Rattle.assembler.specs.Bytes.{written}
 use Rattle.assembler.specs.Label.{is-set, place-of}
 use Rattle.assembler.specs.Memory.{Jump, jump-at, jumps-of}
 use Rattle.assembler.specs.State.{State, sound}
-use Rattle.assembler.specs.Put.{jumps}
+use Rattle.assembler.specs.Put.{targets, times}
 use Rattle.assembler.specs.Resolved.{resolved, label-place, jumps-in, place-in}
 use Rattle.assembler.specs.declared.JumpKind.{JumpKind}
 use Rattle.assembler.proofs.Tests.{no}
@@ -65,8 +65,8 @@ module _ (b : List ℕ) (is : List Item) (ts : List ℕ) (s : State) (a : Repres
   pub place-known : (l : ℕ) → l < 2039 → at-label (s .labels) l ≡ place-in is l
   place-known l h = ap place-of (a .set-labels l h) ∙ by (label-place l 0 is) refl
     where
-      by : (o : Option ℕ) → label-place l 0 is ≡ o → place-of (entry o) ≡ Option·getD o 0
-      by none q = refl
+      by : (o : Option ℕ) → label-place l 0 is ≡ o → place-of (entry o + 2 ^ 32 * times l (targets is)) ≡ Option·getD o 0
+      by none q = omega arith
       by (some p) q =
           let k = label-within l 0 p is q in
           let w = a .within in
@@ -97,7 +97,7 @@ all-of P m i (suc n) h =
 module _ (b : List ℕ) (is : List Item) (ts : List ℕ) (s : State) (a : Represents b is ts s) where
   set-some : (l : ℕ) → l < 2039 → is-set (getD (s .labels) l 0) ≡ true → label-place l 0 is ≡ none → ⊥
   set-some l h e n =
-      let z : getD (s .labels) l 0 ≡ 0 = a .set-labels l h ∙ ap entry n in
+      let z : getD (s .labels) l 0 % 2 ^ 32 ≡ 0 = omega (arith, a .set-labels l h, ap entry n) in
       let f : false ≡ true = rw z at e in
       no f
 

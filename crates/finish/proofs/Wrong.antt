@@ -12,7 +12,7 @@ use Rattle.isa.specs.Instr.{valid, holds, offset}
 use Rattle.isa.proofs.Validity.{Valid, valid-Valid}
 use Rattle.base.proofs.Bools.{both}
 use Rattle.assembler.specs.Jump.{kind-of, jump-instr}
-use Rattle.assembler.specs.Label.{is-set, place-of}
+use Rattle.assembler.specs.Label.{is-set, place-of, made}
 use Rattle.assembler.specs.Memory.{Jump}
 use Rattle.assembler.proofs.Tests.{no}
 use Rattle.finish.specs.Finish.{first, label-good, labels-good, jump-good, unset, far, way, jump-number}
@@ -30,7 +30,7 @@ at-first len labels h l q =
 
 -- a good label is no further than the end
 pub place-small : (len e : ℕ) → label-good len e ≡ true → place-of e ≤ len
-place-small len e h = by (eqb (e / 2 ^ 32) 0) (eqb (e % 2 ^ 32) 0) refl h
+place-small len e h = by (leb (made e) 4096) (eqb (e % 2 ^ 32) 0) refl h
   where
     by : (a b : Bool) → eqb (e % 2 ^ 32) 0 ≡ b → (a && (not (not b) || (leb (place-of e) len && eqb (place-of e % 4) 0))) ≡ true → place-of e ≤ len
     by true true q p = omega (arith, eqb-true (e % 2 ^ 32) 0 q)

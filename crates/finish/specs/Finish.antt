@@ -1,7 +1,7 @@
 -- Finishing: all jumps are looked at, and only then written.
 use mathlib.Core.Bool.{Bool, true, not, _&&_, _||_, cond}
 use mathlib.Core.List.{List, [], _∷_}
-use Prim.Native.Nat.{ℕ, zero, suc, _+_, _/_, _%_, _^_}
+use Prim.Native.Nat.{ℕ, zero, suc, _+_, _%_}
 use lib.Dec.{ltb, leb, eqb}
 use lib.IntN.{ℤ, subℕ}
 use lib.ListN.{length, getD}
@@ -10,10 +10,10 @@ use Rattle.isa.specs.Encode.{encode}
 use Rattle.refusal.specs.Answer.{Answer, accepted, refused}
 use Rattle.refusal.specs.Number.{number-of}
 use Rattle.refusal.specs.declared.Refusal.the-variants.{Value, Unset, Far, Closed}
-use Rattle.assembler.specs.Limit.{label-limit}
+use Rattle.assembler.specs.Limit.{label-limit, jump-limit}
 use Rattle.assembler.specs.Jump.{kind-of, jump-instr}
 use Rattle.assembler.specs.Bytes.{written}
-use Rattle.assembler.specs.Label.{is-set, place-of}
+use Rattle.assembler.specs.Label.{is-set, place-of, made}
 use Rattle.assembler.specs.Memory.{Jump, jump-at, tag-at, jumps-of}
 use Rattle.assembler.specs.State.{State, state, emit-answer, sound}
 use Rattle.finish.specs.declared.FinishResult.{FinishResult}
@@ -25,9 +25,9 @@ first test i (suc k) = cond (test i) 0 (1 + first test (i + 1) k)
 
 -- ---- labels
 
--- unset, or at a word no further than the end; and no high half
+-- unset, or at a word no further than the end; and at most 4,096 jumps made to it (document 02, point 2: "finishing and the list at all")
 abbrev pub label-good : ℕ → ℕ → Bool
-label-good len e = eqb (e / 2 ^ 32) 0 && (not (is-set e) || (leb (place-of e) len && eqb (place-of e % 4) 0))
+label-good len e = leb (made e) jump-limit && (not (is-set e) || (leb (place-of e) len && eqb (place-of e % 4) 0))
 
 unfoldable pub labels-good : ℕ → List ℕ → Bool
 labels-good len labels = leb label-limit (first (λ i. not (label-good len (getD labels i 0))) 0 label-limit)

@@ -58,7 +58,7 @@ fn good_label(e: u64, len: usize) -> bool
     if e == 0 {
         return true;
     }
-    if e / 4294967296 != 0 {
+    if e / 4294967296 > 4096 {
         return false;
     }
     let p = size(label_place(e));

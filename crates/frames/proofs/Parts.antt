@@ -12,13 +12,14 @@ use Rattle.refusal.specs.Answer.{accepted}
 use Rattle.assembler.specs.Limit.{label-limit}
 use Rattle.assembler.specs.Item.{Item, instr, raw, jump, label}
 use Rattle.assembler.specs.State.{State, Outcome}
-use Rattle.assembler.specs.Put.{words, jumps, labels, twice, place, placed, with-word, with-label, verdict, put-number, settled, put}
+use Rattle.assembler.specs.Put.{words, jumps, targets, labels, place, placed, with-word, with-label, verdict, put-number, settled, put}
 use Rattle.assembler.specs.Plan.{label-fault, plan-fault, plan-items}
 use Rattle.assembler.specs.declared.Plan.{Plan}
 use Rattle.assembler.specs.declared.Tail.the-variants.{One}
 use Rattle.assembler.specs.declared.JumpKind.{JumpKind}
 use Rattle.assembler.proofs.Tests.{no}
-use Rattle.assembler.proofs.Plans.{put-fault}
+use Rattle.assembler.proofs.Items.{targets-instrs}
+use Rattle.assembler.proofs.Plans.{put-asked}
 use Rattle.accesses.specs.Fault.{offset-limit, stack-fault}
 use Rattle.accesses.specs.Plans.{plan-of}
 use Rattle.accesses.proofs.Collect.{AllValid}
@@ -37,18 +38,12 @@ words-code (i ∷ is) = ap suc (words-code is)
 
 pub jumps-code : (is : List Instr) → jumps (code is) ≡ 0
 unfolding jumps
-jumps-code [] = refl
-jumps-code (i ∷ is) = jumps-code is
-
-pub labels-code : (is : List Instr) → labels (code is) ≡ []
-unfolding labels
-labels-code [] = refl
-labels-code (i ∷ is) = labels-code is
+jumps-code is = ap length (targets-instrs is)
 
 -- items without a jump have no use for the tag
 module _ (t u : ℕ) where
   placed-untagged : (is : List Item) (s : State) → jumps is ≡ 0 → placed t is s ≡ placed u is s
-  unfolding jumps placed place
+  unfolding jumps targets placed place
   placed-untagged [] s h = refl
   placed-untagged (instr i ∷ is) s h = placed-untagged is (with-word (encode i) s) h
   placed-untagged (raw w ∷ is) s h = placed-untagged is (with-word w s) h
@@ -66,20 +61,18 @@ label-holds l h = rw (lt-ltb l label-limit h)
 
 module _ (tag l m : ℕ) (e : l ≡ m) (h : l < label-limit) (s : State) where
   pub label-set : put 0 (label-fault l) (label l ∷ []) s ≡ put tag 0 (label m ∷ []) s
-  unfolding jumps
+  unfolding jumps targets
   label-set = rw (label-holds l h, e) (untagged 0 tag 0 (label m ∷ []) s refl)
 
   -- a plan and a jump to the label
   pub plan-jump : (k : JumpKind) (p : Plan) (is : List Instr) → p ≡ plan-of is → length is ≤ 12 → AllValid is → put tag (plan-fault p (One k l 0)) (plan-items p (One k l 0)) s ≡ put tag 0 (code is ++ (jump k m 0 ∷ [])) s
-  plan-jump k p is q few v = plan-tail p is q few v tag s (One k l 0) (label-holds l h) ∙ rw e
+  plan-jump k p is q few v = plan-tail p is q few v tag s (One k l 0) refl ∙ rw e
 
 -- ---- faults and sizes
 
 -- an order whose fault f was looked for first
-module _ (tag f want : ℕ) (is : List Item) (s : State) (o : Outcome) (e : f ≡ want) where
-  pub faulted : (f ≡ 0 → ⊥) → o ≡ settled (verdict f (twice (s .labels) []) 0 0 (length (s .buf)) (s .asm)) s s → o ≡ put tag want is s
-  unfolding put words jumps labels twice placed
-  faulted h q = q ∙ put-fault 0 tag f [] is s h ∙ ap (λ (k : ℕ). put tag k is s) e
+pub faulted : (tag f want : ℕ) (is : List Item) (ts : List ℕ) (s : State) (o : Outcome) → f ≡ want → (f ≡ 0 → ⊥) → ts ≡ targets is → o ≡ settled (verdict f [] ts 0 s) s s → o ≡ put tag want is s
+faulted tag f want is ts s o e h g q = q ∙ put-asked tag f is [] ts 0 s h g ∙ ap (λ (k : ℕ). put tag k is s) e
 
 -- a stack size that is taken
 pub size-put : (tag : ℕ) (is : ℕ → List Instr) (n m : ℕ) (s : State) → n ≡ m → n ≤ 32784 → put 0 (stack-fault n) (code (is n)) s ≡ put tag 0 (code (is m)) s

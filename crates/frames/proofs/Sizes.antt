@@ -1,4 +1,4 @@
--- How many words, jumps and labels the pieces have, by the tests of the code. Assumes nothing.
+-- How many words the pieces have, their labels and where their jumps go, by the tests of the code. Assumes nothing.
 use mathlib.Core.Path.{_≡_, refl, sym, ap, _∙_}
 use mathlib.Core.Bool.{Bool, true, false, cond}
 use mathlib.Core.List.{List, [], _∷_, _++_, map}
@@ -12,9 +12,9 @@ use lib.Signed.{mag}
 use Rattle.isa.specs.Instr.{Instr, R, ADD}
 use Rattle.assembler.specs.Item.{Item, jump, label}
 use Rattle.assembler.specs.State.{State}
-use Rattle.assembler.specs.Put.{words, jumps, labels, twice, verdict, put-number}
+use Rattle.assembler.specs.Put.{words, targets, labels, verdict, put-number}
 use Rattle.assembler.specs.declared.JumpKind.the-variants.{Bne}
-use Rattle.assembler.proofs.Items.{words-append, jumps-append, labels-append}
+use Rattle.assembler.proofs.Items.{words-append, targets-append, labels-append, targets-instrs, labels-instrs}
 use Rattle.accesses.specs.Code.{li-code, sub-stack-code, allocate-stack-code}
 use Rattle.accesses.proofs.Collect.{li-near, li-far}
 use Rattle.ast.specs.Mask.{saved}
@@ -22,7 +22,7 @@ use Rattle.frame_code.specs.Items.{code, count-down, times-over, repeated, relo
 use Rattle.frame_code.specs.Inner.Copies.{copy-first, copy-each, copy-label, copies}
 use Rattle.frames.specs.Inner.Whole.{looped}
 use Rattle.frame_code.proofs.Count.{over-length}
-use Rattle.frames.proofs.Parts.{words-code, jumps-code, labels-code}
+use Rattle.frames.proofs.Parts.{words-code}
 
 -- ---- li and stack sizes
 
@@ -107,26 +107,26 @@ module _ (out : Bool) (m n : ℕ) where
       ∙ length-append (words (code start)) (words inner)
       ∙ omega (arith, words-code start, length-append (copy-first out m) (li-code 7 (pos n)), inner-words)
 
-  looped-jumps : jumps (looped out m n) ≡ 1
-  unfolding looped jumps
-  looped-jumps =
-      jumps-append (code start) (label (copy-label out) ∷ inner)
-      ∙ omega (arith, jumps-code start, jumps-append (code (copy-each out ++ (count-down ∷ []))) (jump Bne (copy-label out) 0 ∷ []), jumps-code (copy-each out ++ (count-down ∷ [])))
+  looped-targets : targets (looped out m n) ≡ copy-label out ∷ []
+  unfolding looped targets
+  looped-targets =
+      targets-append (code start) (label (copy-label out) ∷ inner)
+      ∙ rw (targets-instrs start, targets-append (code (copy-each out ++ (count-down ∷ []))) (jump Bne (copy-label out) 0 ∷ []), targets-instrs (copy-each out ++ (count-down ∷ [])))
 
   looped-labels : labels (looped out m n) ≡ copy-label out ∷ []
   unfolding looped labels
   looped-labels =
       labels-append (code start) (label (copy-label out) ∷ inner)
-      ∙ rw (labels-code start, labels-append (code (copy-each out ++ (count-down ∷ []))) (jump Bne (copy-label out) 0 ∷ []), labels-code (copy-each out ++ (count-down ∷ [])))
+      ∙ rw (labels-instrs start, labels-append (code (copy-each out ++ (count-down ∷ []))) (jump Bne (copy-label out) 0 ∷ []), labels-instrs (copy-each out ++ (count-down ∷ [])))
 
-  pub copies-jumps : jumps (copies out m n) ≡ cond (ltb 16 n) 1 0
-  unfolding jumps
-  copies-jumps = by (ltb 16 n) refl (eqb n 0) refl
+  pub copies-targets : targets (copies out m n) ≡ cond (ltb 16 n) (copy-label out ∷ []) []
+  unfolding targets
+  copies-targets = by (ltb 16 n) refl (eqb n 0) refl
     where
-      by : (b : Bool) → ltb 16 n ≡ b → (z : Bool) → eqb n 0 ≡ z → jumps (copies out m n) ≡ cond b 1 0
-      by true e z q = ap jumps (many-are (ltb-true 16 n e)) ∙ looped-jumps
-      by false e true q = ap jumps (none-are (eqb-true n 0 q))
-      by false e false q = ap jumps (few-are (eqb-false n 0 q) (ltb-false 16 n e)) ∙ jumps-code straight
+      by : (b : Bool) → ltb 16 n ≡ b → (z : Bool) → eqb n 0 ≡ z → targets (copies out m n) ≡ cond b (copy-label out ∷ []) []
+      by true e z q = ap targets (many-are (ltb-true 16 n e)) ∙ looped-targets
+      by false e true q = ap targets (none-are (eqb-true n 0 q))
+      by false e false q = ap targets (few-are (eqb-false n 0 q) (ltb-false 16 n e)) ∙ targets-instrs straight
 
   pub copies-labels : labels (copies out m n) ≡ cond (ltb 16 n) (copy-label out ∷ []) []
   unfolding labels
@@ -135,30 +135,30 @@ module _ (out : Bool) (m n : ℕ) where
       by : (b : Bool) → ltb 16 n ≡ b → (z : Bool) → eqb n 0 ≡ z → labels (copies out m n) ≡ cond b (copy-label out ∷ []) []
       by true e z q = ap labels (many-are (ltb-true 16 n e)) ∙ looped-labels
       by false e true q = ap labels (none-are (eqb-true n 0 q))
-      by false e false q = ap labels (few-are (eqb-false n 0 q) (ltb-false 16 n e)) ∙ labels-code straight
+      by false e false q = ap labels (few-are (eqb-false n 0 q) (ltb-false 16 n e)) ∙ labels-instrs straight
 
   -- ---- the numbers of copies
 
   pub looped-number : (l x y : ℕ) (s : State) → l ≡ copy-label out → x ≡ length (copy-first out m) → y ≡ length (li-code 7 (pos n))
-      → verdict 0 (twice (s .labels) (l ∷ [])) (x + y + 8) 1 (length (s .buf)) (s .asm) ≡ put-number 0 (looped out m n) s
-  looped-number l x y s e f g = rw (looped-words, looped-jumps, looped-labels, e, f, g)
+      → verdict 0 (l ∷ []) (l ∷ []) (x + y + 8) s ≡ put-number 0 (looped out m n) s
+  looped-number l x y s e f g = rw (looped-words, looped-targets, looped-labels, e, f, g)
 
 -- code alone
-pub code-number : (is : List Instr) (w : ℕ) (s : State) → w ≡ length is → verdict 0 (twice (s .labels) []) w 0 (length (s .buf)) (s .asm) ≡ put-number 0 (code is) s
-code-number is w s e = rw (words-code is, jumps-code is, labels-code is, e)
+pub code-number : (is : List Instr) (w : ℕ) (s : State) → w ≡ length is → verdict 0 [] [] w s ≡ put-number 0 (code is) s
+code-number is w s e = rw (words-code is, targets-instrs is, labels-instrs is, e)
 
 module _ (out : Bool) (m n : ℕ) where
-  pub row-number : (s : State) → verdict 0 (twice (s .labels) []) (6 * n) 0 (length (s .buf)) (s .asm) ≡ put-number 0 (code (times-over n (copy-each out))) s
+  pub row-number : (s : State) → verdict 0 [] [] (6 * n) s ≡ put-number 0 (code (times-over n (copy-each out))) s
   row-number s = code-number (times-over n (copy-each out)) (6 * n) s (sym (row-length out m n))
 
-  pub straight-number : (w : ℕ) (s : State) → w ≡ length (copy-first out m) → verdict 0 (twice (s .labels) []) (w + 6 * n) 0 (length (s .buf)) (s .asm) ≡ put-number 0 (code (copy-first out m ++ times-over n (copy-each out))) s
+  pub straight-number : (w : ℕ) (s : State) → w ≡ length (copy-first out m) → verdict 0 [] [] (w + 6 * n) s ≡ put-number 0 (code (copy-first out m ++ times-over n (copy-each out))) s
   straight-number w s e = code-number (copy-first out m ++ times-over n (copy-each out)) (w + 6 * n) s (ap (λ (k : ℕ). k + 6 * n) e ∙ sym (length-append (copy-first out m) (times-over n (copy-each out)) ∙ ap (λ (k : ℕ). length (copy-first out m) + k) (row-length out m n)))
 
 -- labels, a word, and the reloads
 pub reload-number : (mask n : ℕ) (s : State) → n ≡ length (saved mask)
-    → verdict 0 (twice (s .labels) (at-success ∷ at-epilogue ∷ [])) (1 + n) 0 (length (s .buf)) (s .asm) ≡ put-number 0 (reloads mask) s
-unfolding reloads words jumps labels
+    → verdict 0 (at-success ∷ at-epilogue ∷ []) [] (1 + n) s ≡ put-number 0 (reloads mask) s
+unfolding reloads words targets labels
 reload-number mask n s g =
     let is = map reload (saved mask) in
     let w : 1 + n ≡ suc (length (words (code is))) = omega (arith, words-code is, length-map (saved mask) reload, g) in
-    rw (jumps-code is, labels-code is, w)
+    rw (targets-instrs is, labels-instrs is, w)

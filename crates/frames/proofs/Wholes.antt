@@ -1,7 +1,7 @@
--- How many words, jumps and labels the whole frames have, and how they are parted. Assumes nothing.
+-- How many words the whole frames have, their labels, where their jumps go, and how they are parted. Assumes nothing.
 use mathlib.Core.Path.{_≡_, refl, sym, ap, subst, _∙_}
 use mathlib.Core.Bool.{true, false, cond}
-use mathlib.Core.List.{List, [], _∷_, _++_, append-assoc}
+use mathlib.Core.List.{List, [], _∷_, _++_, append-assoc, append-nil}
 use Prim.Native.Nat.{ℕ, _+_, _*_, _≤_}
 use native.Mathlib.Omega.{arith}
 use lib.Dec.{ltb}
@@ -13,18 +13,18 @@ use Rattle.ast.specs.declared.Frame.the-variants.{Fast, Indirect}
 use Rattle.ast.specs.declared.Head.{Head}
 use Rattle.assembler.specs.Item.{Item, jump, label}
 use Rattle.assembler.specs.State.{State}
-use Rattle.assembler.specs.Put.{words, jumps, labels, twice, verdict, put-number, put}
+use Rattle.assembler.specs.Put.{words, targets, labels, verdict, put-number, put}
 use Rattle.assembler.specs.declared.JumpKind.the-variants.{Beq}
-use Rattle.assembler.proofs.Items.{words-append, jumps-append, labels-append}
+use Rattle.assembler.proofs.Items.{words-append, targets-append, labels-append, targets-instrs, labels-instrs}
 use Rattle.accesses.specs.Code.{sub-stack-code, add-stack-code, allocate-stack-code}
 use Rattle.finish.proofs.Both.{Accepts}
 use Rattle.reading.specs.Size.{frame-size, stack-size}
-use Rattle.frame_code.specs.Items.{code, mv, opening, closing, states-from, prologue-fast, prologue-indirect, epilogue-fast, epilogue-indirect, prologue, epilogue, at-main, at-done, at-self, at-pro, at-epi}
+use Rattle.frame_code.specs.Items.{code, mv, opening, closing, states-from, prologue-fast, prologue-indirect, epilogue-fast, epilogue-indirect, by-frame, prologue, epilogue, at-main, at-done, at-self, at-pro, at-epi}
 use Rattle.frame_code.specs.Inner.Copies.{copies}
 use Rattle.frame_code.proofs.Fast.{states-length}
 use Rattle.frames.specs.Inner.Whole.{entry}
-use Rattle.frames.proofs.Parts.{words-code, jumps-code, labels-code, untagged}
-use Rattle.frames.proofs.Sizes.{code-number, copies-jumps, copies-labels}
+use Rattle.frames.proofs.Parts.{words-code, jumps-code, untagged}
+use Rattle.frames.proofs.Sizes.{code-number, copies-targets, copies-labels}
 
 pub opening-few : (F : Frame) → length (opening F) ≤ 12
 unfolding sub-stack-code
@@ -50,7 +50,7 @@ abbrev start-list : Head → List Instr
 start-list H = opening Fast ++ (sub-stack-code (frame-size H) ++ (mv 9 2 ∷ (sub-stack-code (stack-size H) ++ (mv 21 2 ∷ states-from 0 (H .states)))))
 
 pub fast-number : (H : Head) (x y : ℕ) (s : State) → x ≡ length (sub-stack-code (frame-size H)) → y ≡ length (sub-stack-code (stack-size H))
-    → verdict 0 (twice (s .labels) []) (x + y + 8 + H .states) 0 (length (s .buf)) (s .asm) ≡ put-number 0 (prologue-fast H) s
+    → verdict 0 [] [] (x + y + 8 + H .states) s ≡ put-number 0 (prologue-fast H) s
 fast-number H x y s e f =
     code-number (start-list H) (x + y + 8 + H .states) s
     (rw (e, f) (sym (start-length (sub-stack-code (frame-size H)) (sub-stack-code (stack-size H)) (H .states))))
@@ -60,17 +60,17 @@ fast-number H x y s e f =
 abbrev pub arguments : List Instr
 arguments = mv 9 10 ∷ mv 18 11 ∷ mv 19 12 ∷ mv 20 13 ∷ []
 
-pub entry-number : (s : State) → verdict 0 (twice (s .labels) (at-self ∷ [])) 14 1 (length (s .buf)) (s .asm) ≡ put-number 0 entry s
-unfolding entry sub-stack-code words jumps labels
+pub entry-number : (s : State) → verdict 0 (at-self ∷ []) (at-main ∷ []) 14 s ≡ put-number 0 entry s
+unfolding entry sub-stack-code words targets labels
 entry-number s = refl
 
 entry-words : length (words entry) ≡ 14
 unfolding entry sub-stack-code words
 entry-words = refl
 
-entry-jumps : jumps entry ≡ 1
-unfolding entry sub-stack-code jumps
-entry-jumps = refl
+entry-targets : targets entry ≡ at-main ∷ []
+unfolding entry sub-stack-code targets
+entry-targets = refl
 
 entry-labels : labels entry ≡ at-self ∷ []
 unfolding entry sub-stack-code labels
@@ -82,13 +82,13 @@ module _ (is : List Item) (l : ℕ) (js : List Instr) where
   unfolding words
   then-words = ap length (words-append is (label l ∷ code js)) ∙ length-append (words is) (words (code js)) ∙ ap (λ (k : ℕ). length (words is) + k) (words-code js)
 
-  then-jumps : jumps (is ++ (label l ∷ code js)) ≡ jumps is
-  unfolding jumps
-  then-jumps = jumps-append is (label l ∷ code js) ∙ omega (arith, jumps-code js)
+  then-targets : targets (is ++ (label l ∷ code js)) ≡ targets is
+  unfolding targets
+  then-targets = targets-append is (label l ∷ code js) ∙ ap (λ (ks : List ℕ). targets is ++ ks) (targets-instrs js) ∙ append-nil (targets is)
 
   then-labels : labels (is ++ (label l ∷ code js)) ≡ labels is ++ (l ∷ [])
   unfolding labels
-  then-labels = labels-append is (label l ∷ code js) ∙ ap (λ (ks : List ℕ). labels is ++ (l ∷ ks)) (labels-code js)
+  then-labels = labels-append is (label l ∷ code js) ∙ ap (λ (ks : List ℕ). labels is ++ (l ∷ ks)) (labels-instrs js)
 
 abbrev pub down : Head → List Instr
 down H = sub-stack-code (frame-size H) ++ (mv 9 2 ∷ Shift SLLI 19 19 (pos 3) ∷ [])
@@ -103,7 +103,7 @@ start-parts H = ap (λ (is : List Item). label at-self ∷ is) (sym (append-asso
 pub start-left : (H : Head) (tag : ℕ) (t u : State) → Accepts tag (prologue-indirect H) t u → Accepts tag (entry ++ (code (down H) ++ up H)) t u
 start-left H tag t u a = subst (λ (is : List Item). Accepts tag is t u) (start-parts H) a
 
-module _ (H : Head) (s : State) where
+module _ (H : Head) where
   abbrev n : ℕ
   n = H .states
 
@@ -114,23 +114,23 @@ module _ (H : Head) (s : State) where
       ∙ length-append (words entry) (words (code (down H)) ++ words (up H))
       ∙ omega (arith, entry-words, length-append (words (code (down H))) (words (up H)), words-code (down H), length-append (sub-stack-code (frame-size H)) (mv 9 2 ∷ Shift SLLI 19 19 (pos 3) ∷ []), then-words (copies false n n) at-main (allocate-stack-code (stack-size H)))
 
-  start-jumps : jumps (prologue-indirect H) ≡ 1 + cond (ltb 16 n) 1 0
-  start-jumps =
-      ap jumps (start-parts H)
-      ∙ jumps-append entry (code (down H) ++ up H)
-      ∙ omega (arith, entry-jumps, jumps-append (code (down H)) (up H), jumps-code (down H), then-jumps (copies false n n) at-main (allocate-stack-code (stack-size H)), copies-jumps false n n)
+  pub start-targets : targets (prologue-indirect H) ≡ at-main ∷ cond (ltb 16 n) (at-pro ∷ []) []
+  start-targets =
+      ap targets (start-parts H)
+      ∙ targets-append entry (code (down H) ++ up H)
+      ∙ rw (entry-targets, targets-append (code (down H)) (up H), targets-instrs (down H), then-targets (copies false n n) at-main (allocate-stack-code (stack-size H)), copies-targets false n n)
 
   start-labels : labels (prologue-indirect H) ≡ at-self ∷ (cond (ltb 16 n) (at-pro ∷ []) [] ++ (at-main ∷ []))
   start-labels =
       ap labels (start-parts H)
       ∙ labels-append entry (code (down H) ++ up H)
-      ∙ rw (entry-labels, labels-append (code (down H)) (up H), labels-code (down H), then-labels (copies false n n) at-main (allocate-stack-code (stack-size H)), copies-labels false n n)
+      ∙ rw (entry-labels, labels-append (code (down H)) (up H), labels-instrs (down H), then-labels (copies false n n) at-main (allocate-stack-code (stack-size H)), copies-labels false n n)
 
-  -- x, y and z words for `mem`, the copies and `stack`; k jumps of the copies
-  pub start-number : (ls : List ℕ) (x y z k : ℕ) → ls ≡ at-self ∷ (cond (ltb 16 n) (at-pro ∷ []) [] ++ (at-main ∷ []))
-      → x ≡ length (sub-stack-code (frame-size H)) → y ≡ length (words (copies false n n)) → z ≡ length (allocate-stack-code (stack-size H)) → k ≡ cond (ltb 16 n) 1 0
-      → verdict 0 (twice (s .labels) ls) (16 + x + y + z) (1 + k) (length (s .buf)) (s .asm) ≡ put-number 0 (prologue-indirect H) s
-  start-number ls x y z k e f g h i = rw (start-words, start-jumps, start-labels, e, f, g, h, i)
+  -- x, y and z words for `mem`, the copies and `stack`
+  pub start-number : (s : State) (ls ts : List ℕ) (x y z : ℕ) → ls ≡ at-self ∷ (cond (ltb 16 n) (at-pro ∷ []) [] ++ (at-main ∷ [])) → ts ≡ at-main ∷ cond (ltb 16 n) (at-pro ∷ []) []
+      → x ≡ length (sub-stack-code (frame-size H)) → y ≡ length (words (copies false n n)) → z ≡ length (allocate-stack-code (stack-size H))
+      → verdict 0 ls ts (16 + x + y + z) s ≡ put-number 0 (prologue-indirect H) s
+  start-number s ls ts x y z e i f g h = rw (start-words, start-targets, start-labels, e, i, f, g, h)
 
   abbrev c : List Item
   c = copies true n (H .obs)
@@ -139,20 +139,36 @@ module _ (H : Head) (s : State) where
   unfolding words add-stack-code
   end-words = omega (arith, then-words c at-done (closing Indirect))
 
-  end-jumps : jumps (epilogue-indirect H) ≡ 1 + cond (ltb 16 (H .obs)) 1 0
-  unfolding jumps
-  end-jumps = omega (arith, then-jumps c at-done (closing Indirect), copies-jumps true n (H .obs))
+  pub end-targets : targets (epilogue-indirect H) ≡ at-done ∷ cond (ltb 16 (H .obs)) (at-epi ∷ []) []
+  unfolding targets
+  end-targets = ap (λ (ks : List ℕ). at-done ∷ ks) (then-targets c at-done (closing Indirect) ∙ copies-targets true n (H .obs))
 
   end-labels : labels (epilogue-indirect H) ≡ cond (ltb 16 (H .obs)) (at-epi ∷ []) [] ++ (at-done ∷ [])
   unfolding labels
   end-labels = then-labels c at-done (closing Indirect) ∙ rw (copies-labels true n (H .obs))
 
-  -- y words and k jumps of the copies
-  pub end-number : (ls : List ℕ) (y k : ℕ) → ls ≡ cond (ltb 16 (H .obs)) (at-epi ∷ []) [] ++ (at-done ∷ []) → y ≡ length (words c) → k ≡ cond (ltb 16 (H .obs)) 1 0
-      → verdict 0 (twice (s .labels) ls) (12 + y) (1 + k) (length (s .buf)) (s .asm) ≡ put-number 0 (epilogue-indirect H) s
-  end-number ls y k e f g = rw (end-words, end-jumps, end-labels, e, f, g)
+  -- y words of the copies
+  pub end-number : (s : State) (ls ts : List ℕ) (y : ℕ) → ls ≡ cond (ltb 16 (H .obs)) (at-epi ∷ []) [] ++ (at-done ∷ []) → ts ≡ at-done ∷ cond (ltb 16 (H .obs)) (at-epi ∷ []) [] → y ≡ length (words c)
+      → verdict 0 ls ts (12 + y) s ≡ put-number 0 (epilogue-indirect H) s
+  end-number s ls ts y e g f = rw (end-words, end-targets, end-labels, e, g, f)
 
 -- ---- by the frame
+
+module _ (H : Head) where
+  pub prologue-alone : [] ≡ targets (prologue-fast H)
+  prologue-alone = sym (targets-instrs (start-list H))
+
+  pub epilogue-alone : [] ≡ targets (epilogue-fast H)
+  epilogue-alone = sym (targets-instrs (I FLD 10 9 (pos (8 * H .last)) ∷ closing Fast))
+
+  -- where the jumps go
+  pub prologue-goes : (F : Frame) (ts : List ℕ) → H .frame ≡ F → ts ≡ targets (by-frame F (prologue-fast H) (prologue-indirect H)) → ts ≡ targets (prologue H)
+  unfolding prologue
+  prologue-goes F ts e g = g ∙ ap (λ (G : Frame). targets (by-frame G (prologue-fast H) (prologue-indirect H))) (sym e)
+
+  pub epilogue-goes : (F : Frame) (ts : List ℕ) → H .frame ≡ F → ts ≡ targets (by-frame F (epilogue-fast H) (epilogue-indirect H)) → ts ≡ targets (epilogue H)
+  unfolding epilogue
+  epilogue-goes F ts e g = g ∙ ap (λ (G : Frame). targets (by-frame G (epilogue-fast H) (epilogue-indirect H))) (sym e)
 
 module _ (H : Head) (tag : ℕ) (s : State) where
   pub prologue-is-fast : H .frame ≡ Fast → put 0 0 (prologue-fast H) s ≡ put tag 0 (prologue H) s

@@ -12,8 +12,8 @@ ghost use Rattle.isa.specs.Instr.{I, FLD};
 ghost use Rattle.ast.specs.Align.{align16};
 ghost use Rattle.assembler.specs.Limit.{label-limit};
 ghost use Rattle.assembler.specs.State.{emit-answer, before, after};
-ghost use Rattle.assembler.specs.Put.{words, jumps, prechecked, put};
-ghost use Rattle.assembler.specs.Plan.{fault-number, labels-of, sets-fault};
+ghost use Rattle.assembler.specs.Put.{words, targets, prechecked, put};
+ghost use Rattle.assembler.specs.Plan.{fault-number, labels-of, goes-to, sets-fault};
 ghost use Rattle.accesses.specs.Code.{li-code, sub-stack-code, allocate-stack-code};
 ghost use Rattle.accesses.specs.Plans.{answer-of, pushes-from, plan-of};
 ghost use Rattle.ast.specs.Counts.{count-limit, result-limit, prologue-holds, epilogue-holds};
@@ -30,6 +30,7 @@ use assembler::Answer;
 use assembler::Asm;
 use assembler::EmitResult;
 use assembler::Fault;
+use assembler::Goes;
 use assembler::JumpKind;
 use assembler::Jumps;
 use assembler::Labels;
@@ -83,21 +84,21 @@ const AT_EPILOGUE: u32 = 2038;
 
 // ---- all or nothing
 
-// Whether a part whose items have these labels and so many words and jumps would be refused; nothing changes.
+// Whether a part whose items have these labels, jumps and so many words would be refused; nothing changes.
 fn precheck(
     fault: Fault,
     sets: Sets,
+    goes: Goes,
     words: usize,
-    count: usize,
     buf: &mut [u8],
     labels: &mut Labels,
     jumps: &mut Jumps,
     asm: Asm,
 ) -> EmitResult
     requires { ⌜ sets-fault (labels-of sets) ≡ 0 ⌝ }
-    ensures { λ r. ⌜ after r labels jumps buf ≡ prechecked (fault-number fault) (labels-of sets) words count (before asm labels jumps buf) ⌝ }
+    ensures { λ r. ⌜ after r labels jumps buf ≡ prechecked (fault-number fault) (labels-of sets) (goes-to goes) words (before asm labels jumps buf) ⌝ }
 {
-    assembler::check_whole(fault, sets, words, count, buf, labels, asm)
+    assembler::check_whole(fault, sets, goes, words, buf, labels, asm)
 }
 
 fn accepted(d: EmitResult) -> bool
@@ -192,8 +193,8 @@ pub fn load_used_registers(
     let d = precheck(
         Fault::Nothing,
         Sets::Two(AT_SUCCESS, AT_EPILOGUE),
+        Goes::Nowhere,
         1 + n,
-        0,
         buf,
         labels,
         jumps,
@@ -391,12 +392,6 @@ fn copy_words(out: bool, states: u32, n: u32) -> usize
     first_words(out, states) + li_words(n) + 8
 }
 
-fn copy_jumps(n: u32) -> usize
-    ensures { λ r. ⌜ (r ≡ cond (ltb 16 n) 1 0) × (r ≤ 1) ⌝ }
-{
-    if 16 < n { 1 } else { 0 }
-}
-
 // A size in bytes for n cells: the next multiple of 16 above them.
 fn size_of(n: u32) -> u32
     requires { ⌜ n ≤ count-limit ⌝ }
@@ -421,7 +416,16 @@ fn copy_row(
 {
     let p = copy_plan(out);
     let m = 6 * n as usize;
-    let d = precheck(Fault::Nothing, Sets::Nothing, m, 0, buf, labels, jumps, asm);
+    let d = precheck(
+        Fault::Nothing,
+        Sets::Nothing,
+        Goes::Nowhere,
+        m,
+        buf,
+        labels,
+        jumps,
+        asm,
+    );
     let ok = accepted(d);
     if ok {
         let mut a = d.asm;
@@ -452,7 +456,16 @@ fn straight(
     ensures { λ r. ⌜ after r labels jumps buf ≡ put 0 0 (code (copy-first out states ++ times-over n (copy-each out))) (before asm labels jumps buf) ⌝ }
 {
     let w = first_words(out, states) + 6 * n as usize;
-    let d = precheck(Fault::Nothing, Sets::Nothing, w, 0, buf, labels, jumps, asm);
+    let d = precheck(
+        Fault::Nothing,
+        Sets::Nothing,
+        Goes::Nowhere,
+        w,
+        buf,
+        labels,
+        jumps,
+        asm,
+    );
     let ok = accepted(d);
     if ok {
         let p = first_plan(out, states);
@@ -484,7 +497,16 @@ fn looped(
 {
     let l = label_of(out);
     let w = first_words(out, states) + li_words(n) + 8;
-    let d = precheck(Fault::Nothing, Sets::One(l), w, 1, buf, labels, jumps, asm);
+    let d = precheck(
+        Fault::Nothing,
+        Sets::One(l),
+        Goes::One(l),
+        w,
+        buf,
+        labels,
+        jumps,
+        asm,
+    );
     let ok = accepted(d);
     if ok {
         let p = first_plan(out, states);
@@ -545,7 +567,16 @@ fn fast_start(
     let mem = size_of(head.states + head.obs);
     let stack = size_of(head.cap);
     let w = sub_words(mem) + sub_words(stack) + 8 + head.states as usize;
-    let d = precheck(Fault::Nothing, Sets::Nothing, w, 0, buf, labels, jumps, asm);
+    let d = precheck(
+        Fault::Nothing,
+        Sets::Nothing,
+        Goes::Nowhere,
+        w,
+        buf,
+        labels,
+        jumps,
+        asm,
+    );
     let ok = accepted(d);
     if ok {
         let p = opening_fast();
@@ -583,8 +614,8 @@ fn enter(tag: u32, buf: &mut [u8], labels: &mut Labels, jumps: &mut Jumps, asm: 
     let d = precheck(
         Fault::Nothing,
         Sets::One(AT_SELF),
+        Goes::One(AT_MAIN),
         14,
-        1,
         buf,
         labels,
         jumps,
@@ -617,6 +648,16 @@ fn start_sets(states: u32) -> Sets
     Sets::Two(AT_SELF, AT_MAIN)
 }
 
+// Its jumps: past the copies, and the loop's.
+fn start_goes(states: u32) -> Goes
+    ensures { λ g. ⌜ goes-to g ≡ at-main ∷ cond (ltb 16 states) (at-pro ∷ []) [] ⌝ }
+{
+    if 16 < states {
+        return Goes::Two(AT_MAIN, AT_PRO);
+    }
+    Goes::One(AT_MAIN)
+}
+
 // Of its epilogue: the loop's comes with more than 16 observations.
 fn end_sets(obs: u32) -> Sets
     ensures { λ s. ⌜ (labels-of s ≡ cond (ltb 16 obs) (at-epi ∷ []) [] ++ (at-done ∷ [])) × (sets-fault (labels-of s) ≡ 0) ⌝ }
@@ -625,6 +666,15 @@ fn end_sets(obs: u32) -> Sets
         return Sets::Two(AT_EPI, AT_DONE);
     }
     Sets::One(AT_DONE)
+}
+
+fn end_goes(obs: u32) -> Goes
+    ensures { λ g. ⌜ goes-to g ≡ at-done ∷ cond (ltb 16 obs) (at-epi ∷ []) [] ⌝ }
+{
+    if 16 < obs {
+        return Goes::Two(AT_DONE, AT_EPI);
+    }
+    Goes::One(AT_DONE)
 }
 
 fn indirect_start(
@@ -645,8 +695,8 @@ fn indirect_start(
         + sub_words(mem)
         + copy_words(false, head.states, head.states)
         + allocate_words(stack);
-    let j = 1 + copy_jumps(head.states);
-    let d = precheck(Fault::Nothing, sets, w, j, buf, labels, jumps, asm);
+    let goes = start_goes(head.states);
+    let d = precheck(Fault::Nothing, sets, goes, w, buf, labels, jumps, asm);
     let ok = accepted(d);
     if ok {
         let a = enter(tag, buf, labels, jumps, d.asm);
@@ -682,8 +732,8 @@ fn indirect_end(
 {
     let sets = end_sets(head.obs);
     let w = 12 + copy_words(true, head.states, head.obs);
-    let j = 1 + copy_jumps(head.obs);
-    let d = precheck(Fault::Nothing, sets, w, j, buf, labels, jumps, asm);
+    let goes = end_goes(head.obs);
+    let d = precheck(Fault::Nothing, sets, goes, w, buf, labels, jumps, asm);
     let ok = accepted(d);
     if ok {
         let a = assembler::jump(JumpKind::Beq, AT_DONE, 0, tag, buf, labels, jumps, d.asm);
@@ -696,6 +746,27 @@ fn indirect_end(
 }
 
 // ---- by the frame of line 1
+
+// Where the jumps go; a frame whose counts are refused looks at its labels all the same.
+fn prologue_goes(head: Head) -> Goes
+    ensures { λ g. ⌜ goes-to g ≡ targets (prologue-items head) ⌝ }
+{
+    let f = head.frame;
+    match f {
+        Frame::Fast => Goes::Nowhere,
+        Frame::Indirect => start_goes(head.states),
+    }
+}
+
+fn epilogue_goes(head: Head) -> Goes
+    ensures { λ g. ⌜ goes-to g ≡ targets (epilogue-items head) ⌝ }
+{
+    let f = head.frame;
+    match f {
+        Frame::Fast => Goes::Nowhere,
+        Frame::Indirect => end_goes(head.obs),
+    }
+}
 
 fn prologue_by_frame(
     head: Head,
@@ -729,7 +800,16 @@ pub fn prologue(
     if ok {
         return prologue_by_frame(head, tag, buf, labels, jumps, asm);
     }
-    precheck(Fault::Count, Sets::Nothing, 0, 0, buf, labels, jumps, asm)
+    precheck(
+        Fault::Count,
+        Sets::Nothing,
+        prologue_goes(head),
+        0,
+        buf,
+        labels,
+        jumps,
+        asm,
+    )
 }
 
 fn epilogue_by_frame(
@@ -764,7 +844,16 @@ pub fn epilogue(
     if ok {
         return epilogue_by_frame(head, tag, buf, labels, jumps, asm);
     }
-    precheck(Fault::Count, Sets::Nothing, 0, 0, buf, labels, jumps, asm)
+    precheck(
+        Fault::Count,
+        Sets::Nothing,
+        epilogue_goes(head),
+        0,
+        buf,
+        labels,
+        jumps,
+        asm,
+    )
 }
 
 // ---- by the counts, as in the Rust

@@ -30,7 +30,7 @@ use Rattle.form.specs.Grammar.{said}
 use Rattle.form.specs.Inner.Read.{first, read-values, read}
 use Rattle.deck.specs.Judge.{Content, head, order, constant, demand, operand-judged, judged}
 use Rattle.assembler.specs.State.{State, state, sound, fits}
-use Rattle.assembler.specs.Put.{words, jumps, labels, twice, settled, verdict, put}
+use Rattle.assembler.specs.Put.{words, jumps, targets, labels, twice, settled, ranked, put}
 use Rattle.accesses.specs.Code.{access-code, point-code, li-code}
 use Rattle.orders.specs.Code.{code, line-code, unary-code}
 use Rattle.orders.specs.Fault.{fault}
@@ -51,15 +51,15 @@ abbrev of-constant : ℕ → String → ℕ
 of-constant k t = number (constant-put k (said (bytes t)) fresh .answer)
 
 pub cells : (of-order "get,0,mem,4095\n" ∷ of-order "get,0,mem,4096\n" ∷ of-order "put,0,stack,268435455\n" ∷ of-order "put,0,stack,268435456\n" ∷ of-order "ifelse,0,1,2,100000000000000000000000000000\n" ∷ []) ≡ (0 ∷ 0 ∷ 0 ∷ 2 ∷ 2 ∷ [])
-unfolding line-put says said read split first same read-values read-decimal read-from put settled verdict fault sound fits twice labels jumps words code access-code point-code li-code
+unfolding line-put says said read split first same read-values read-decimal read-from put settled ranked fault sound fits twice labels jumps targets words code access-code point-code li-code
 cells = refl
 
 pub others : (of-order "not,31,31\n" ∷ of-order "not,31,32\n" ∷ of-order "label,1023\n" ∷ of-order "label,1024\n" ∷ of-order "load_const,0,1007\n" ∷ of-order "load_const,0,1008\n" ∷ []) ≡ (0 ∷ 1 ∷ 0 ∷ 3 ∷ 0 ∷ 9 ∷ [])
-unfolding line-put says said read split first same read-values read-decimal read-from put settled verdict fault sound fits twice labels jumps words code line-code unary-code
+unfolding line-put says said read split first same read-values read-decimal read-from put settled ranked fault sound fits twice labels jumps targets words code line-code unary-code
 others = refl
 
 pub constants : (of-constant 1007 "float,9007199254740992\n" ∷ of-constant 1007 "float,9007199254740993\n" ∷ of-constant 1008 "bits,8000000000000000\n" ∷ of-constant 0 "label,0\n" ∷ []) ≡ (0 ∷ 2 ∷ 9 ∷ 12 ∷ [])
-unfolding constant-put says said read split first same read-values read-decimal read-integer read-word read-from judged put settled verdict sound fits twice labels jumps words
+unfolding constant-put says said read split first same read-values read-decimal read-integer read-word read-from judged put settled ranked sound fits twice labels jumps targets words
 constants = refl
 
 -- ---- a deck's orders

@@ -14,7 +14,7 @@ use Rattle.form.specs.Grammar.{said}
 use Rattle.form.specs.Form.{form-of}
 use Rattle.form.specs.declared.Form.{Form}
 use Rattle.assembler.specs.State.{State, Outcome, state, outcome, emit-answer, sound}
-use Rattle.assembler.specs.Put.{verdict, settled, put}
+use Rattle.assembler.specs.Put.{targets, ranked, settled, put}
 use Rattle.assembler.specs.declared.Asm.{Asm}
 use Rattle.assembler.specs.declared.EmitResult.{EmitResult}
 use Rattle.assembler.specs.declared.Answer.the-variants.{Accepted, Refused}
@@ -77,11 +77,11 @@ same false = refl
 
 module _ (a : Asm) where
   pub big-closed : a .closed ≡ true → (ls js b : List ℕ) → record { answer = refused 8 0; state = state a ls js b } ≡ put 0 2 [] (state a ls js b)
-  unfolding put settled verdict
+  unfolding put settled ranked targets
   big-closed h ls js b = rw h
 
   pub big-open : a .closed ≡ false → (ls js b : List ℕ) → record { answer = refused 2 0; state = state a ls js b } ≡ put 0 2 [] (state a ls js b)
-  unfolding put settled verdict sound
+  unfolding put settled ranked targets sound
   big-open h ls js b = rw (h, same (sound (length b) a))
 
 -- ---- what an order and finishing leave

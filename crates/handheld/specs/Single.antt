@@ -1,11 +1,12 @@
--- One order or constant by its line's text, and finishing, on a record of three numbers.
+-- One order or constant by its line's text, finishing, and the labels that nobody jumps to, on a record of three numbers.
+use mathlib.Core.Path.{_≡_}
 use mathlib.Core.Bool.{not, cond}
 use mathlib.Core.List.{List, [], _∷_}
 use mathlib.Core.Option.{Option, some, none}
 use Prim.Native.Nat.{ℕ}
 use denote.Ref.{now}
 use lib.Dec.{leb, eqb}
-use lib.ListN.{getD}
+use lib.ListN.{length, getD}
 use Rattle.refusal.specs.Answer.{Answer, accepted, refused}
 use Rattle.refusal.specs.Number.{number-of}
 use Rattle.refusal.specs.declared.Refusal.the-variants.{Value as Valued, Line}
@@ -21,6 +22,7 @@ use Rattle.assembler.specs.State.{State, Outcome, Lent, before}
 use Rattle.assembler.specs.Put.{put}
 use Rattle.finish.specs.Finish.{FinishOutcome}
 use Rattle.orders.specs.Emitted.{emitted}
+use Rattle.unused.specs.Unused.{put-list}
 use Rattle.handheld.specs.Numbers.{number, place}
 use Rattle.handheld.specs.declared.Said.{Said}
 use Rattle.handheld.specs.declared.Said.the-variants as Said
@@ -143,3 +145,14 @@ order-outcome put rec labels jumps buf = order-result (now (rec .entry)) (put (s
 
 abbrev pub finish-outcome : (rec : Lent) → FinishOutcome → SingleOutcome
 finish-outcome rec e = finish-result (now (rec .entry)) e
+
+-- ---- labels that nobody jumps to
+
+-- how many; a refusal tells nothing
+abbrev pub told-after : Answer (List ℕ) → List ℕ → List ℕ
+told-after (accepted ls) told = length ls ∷ []
+told-after (refused n p) told = told
+
+-- What `label_unused` answers and leaves of a list: its number, how many labels there are, the labels.
+abbrev pub UnusedTold : Answer (List ℕ) → (answer : ℕ) → (told told′ out out′ : List ℕ) → Type 0
+UnusedTold a answer told told′ out out′ = (answer ≡ number a) × (told′ ≡ told-after a told) × (out′ ≡ put-list a out)

@@ -19,10 +19,13 @@ ghost use Rattle.handheld.specs.Numbers.{CodeTold, listing-numbers, Deck
 ghost use Rattle.handheld.specs.Single.{constant-of, no-such, line-put, constant-put};
 ghost use Rattle.handheld.specs.Single.{asm-of, numbers-of, record-after, order-outcome, finish-outcome, finish-told};
 ghost use Rattle.handheld.specs.Single.{single-before, single-after, finish-after};
+ghost use Rattle.unused.specs.Unused.{listed as unused-listed};
+ghost use Rattle.handheld.specs.Single.{UnusedTold};
 ghost use Rattle.handheld.specs.Inner.Forms.{field-of, form-says};
 use assembler::Asm;
 use assembler::EmitResult;
 use assembler::Jumps;
+use assembler::LABELS;
 use assembler::Labels;
 use ast::Constant;
 use ast::Frame;
@@ -35,6 +38,7 @@ use print::Text;
 use refusal::Refusal;
 use routine::RoutineAnswer;
 use text::Number;
+use unused::Unused;
 
 // ---- a deck file
 
@@ -441,4 +445,25 @@ pub extern "C" fn order_finish(
     *told = [0, tag];
     *rec = numbers_of(f.asm);
     0
+}
+
+// The labels that are set and that no jump goes to, behind an accepted finish: 0 and how many, or the number of the refusal.
+#[no_mangle]
+pub extern "C" fn label_unused(
+    labels: &Labels,
+    rec: &[u64; 3],
+    out: &mut [u32; LABELS],
+    told: &mut [u32; 1],
+) -> u32
+    ensures { λ r. ⌜ UnusedTold (unused-listed (now (labels .entry)) (asm-of (now (rec .entry)))) r
+        (now (told .entry)) (now (told .exit)) (now (out .entry)) (now (out .exit)) ⌝ }
+{
+    let u = unused::unused_labels(labels, asm_of(rec), out);
+    match u {
+        Unused::Labels(n) => {
+            *told = [n];
+            0
+        }
+        Unused::Refused(why, _) => refusal::number(why) as u32,
+    }
 }

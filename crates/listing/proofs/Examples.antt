@@ -19,7 +19,7 @@ use Rattle.form.specs.Inner.Read.{first, read-values, read}
 use Rattle.form.specs.Grammar.{said}
 use Rattle.deck.specs.Judge.{judged, line-judged}
 use Rattle.assembler.specs.Bytes as Code
-use Rattle.assembler.specs.Put.{jumps, labels}
+use Rattle.assembler.specs.Put.{jumps, targets, labels}
 use Rattle.assembler.specs.Resolved.{label-place, resolved, jumps-in}
 use Rattle.accesses.specs.Code.{li-code, sub-stack-code, add-stack-code, allocate-stack-code, access-code, point-code}
 use Rattle.reading.specs.Program.{constants}
@@ -65,7 +65,7 @@ Examples =
 
 pub examples : Examples
 unfolding deck-view hidden-in view-lines view-line listing-line instr-line data-line hidden-line operands-text refusal-line words-of digits above decimal integer-bytes encode join fields decode reading cut program-of lines-of head-read lines-read line-read closed-off finished first-line body-lines jumps-in line-judged
-    judged said read split first same read-values read-decimal read-integer read-word read-from counts-hold any-saved items span body constants constants-from prologue epilogue saves reloads saved repeated line-code Orders.code access-code point-code jumps labels li-code sub-stack-code add-stack-code
+    judged said read split first same read-values read-decimal read-integer read-word read-from counts-hold any-saved items span body constants constants-from prologue epilogue saves reloads saved repeated line-code Orders.code access-code point-code jumps targets labels li-code sub-stack-code add-stack-code
     allocate-stack-code label-place Code.bytes flatMap resolved place toBits ofInt round
 examples = (
   (refl, refl),

@@ -4,19 +4,18 @@ use mathlib.Core.Bool.{Bool, true, false, _&&_, cond}
 use mathlib.Core.List.{List, [], _∷_, _++_, map, append-nil}
 use mathlib.Core.Option.{Option, some, none}
 use Prim.Native.Nat.{ℕ, zero, suc, _+_, _*_, _%_, _≤_, _<_}
-use native.Mathlib.Nat.{zero-add}
 use native.Mathlib.Omega.{arith}
-use borrow.Author.Tests.{lt-ltb, le-leb, lt-leb, leb-true, leb-false, eq-eqb, eqb-true, eqb-false}
+use borrow.Author.Tests.{lt-ltb, le-leb, lt-leb, leb-true, leb-false, eq-eqb, ne-eqb, eqb-true, eqb-false}
 use lib.Dec.{T, leb, eqb, leb→le}
 use lib.ListN.{length, length-append, length-map, getD}
 use Rattle.isa.specs.Instr.{Instr}
 use Rattle.isa.specs.Encode.{encode}
 use Rattle.machine.proofs.Placed.{Valids}
 use Rattle.refusal.specs.Answer.{Answer, accepted, refused}
-use Rattle.assembler.specs.Bytes.{room}
+use Rattle.assembler.specs.Bytes.{room, written}
 use Rattle.assembler.specs.Item.{Item, instr, raw, label}
 use Rattle.assembler.specs.State.{State, Outcome, state, sound, fits}
-use Rattle.assembler.specs.Put.{words, jumps, labels, twice, place, placed, verdict, put-number, settled, put}
+use Rattle.assembler.specs.Put.{words, targets, labels, twice, numbers-sound, numbers-fit, place, placed, ranked, verdict, put-number, settled, put}
 use Rattle.assembler.specs.Plan.{earlier, fault-number, label-fault, jump-fault, tail-items, tail-fault, plan-items, plan-fault, no-words}
 use Rattle.assembler.specs.Resolved.{resolved}
 use Rattle.assembler.specs.declared.Asm.{Asm}
@@ -25,13 +24,13 @@ use Rattle.assembler.specs.declared.Plan.{Plan}
 use Rattle.assembler.specs.declared.Tail.{Tail}
 use Rattle.assembler.specs.declared.Tail.the-variants as Tails
 use Rattle.assembler.proofs.Checks.{v-good}
-use Rattle.assembler.proofs.Items.{with-words, placed-append, placed-raw, words-append, jumps-append, labels-append, words-raw, jumps-raw, labels-raw, words-tail, jumps-tail, labels-tail}
-use Rattle.assembler.proofs.Plans.{put-fault, put-same, earlier-none}
-use Rattle.assembler.proofs.Steps.{settled-yes, put-done}
+use Rattle.assembler.proofs.Items.{with-words, placed-append, placed-raw, words-append, targets-append, labels-append, words-raw, targets-raw, labels-raw, targets-instrs, words-tail, labels-tail}
+use Rattle.assembler.proofs.Plans.{put-asked, put-same, earlier-none}
+use Rattle.assembler.proofs.Steps.{put-done}
 use Rattle.assembler.proofs.Writes.{length-written}
 use Rattle.accesses.specs.Fault.{offset-limit}
-use Rattle.base.proofs.Bools.{T-true, passed}
-use Rattle.ast.specs.Uses.{uses, padded, index-holds, saves-hold, sets, weighs, registers-fit}
+use Rattle.base.proofs.Bools.{true-not-false, T-true, both, join, passed}
+use Rattle.ast.specs.Uses.{uses, padded, operand-within, index-holds, saves-hold, sets, weighs, registers-fit}
 use Rattle.ast.specs.declared.Operand.{Operand}
 use Rattle.ast.specs.declared.Operand.the-variants.{Nothing, Loaded, Stored, Constant, GoneTo, Set}
 use Rattle.ast.specs.declared.View.{View}
@@ -39,7 +38,7 @@ use Rattle.ast.specs.declared.Head.{Head}
 use Rattle.ast.specs.declared.Order.{Order}
 use Rattle.ast.specs.declared.Order.the-variants.{Unary, Scratched, Binary, Fused, Ifelse, LoadConst, Load, Save, BranchIf, SetLabel}
 use Rattle.orders.specs.Code.{code}
-use Rattle.orders.specs.Emitted.{emitted, count-fault, unsaved-fault, fault-in, emitted-in}
+use Rattle.orders.specs.Emitted.{items, emitted, count-fault, unsaved-fault, fault-in, emitted-in}
 use Rattle.orders.specs.Fault.{operand-fault, fault, last-user-label}
 use Rattle.orders.specs.Inner.Parts.{instrs, behind-operand, rest-of}
 use Rattle.orders.specs.declared.Rest.{Rest}
@@ -99,10 +98,8 @@ operands-fit o h = passed (registers-fit (uses o .registers)) _ _ h
 pub order-small : (o : Order) {x : Operand} → fault o ≡ 0 → uses o .operand ≡ x → Small x
 order-small o {x} h e = small x (ap operand-fault (sym e) ∙ (operands-fit o h) .1)
 
-pub const-fits : (d k : ℕ) → (d < 32) × (k ≤ 1007) → jump-fault (1024 + k) d ≡ 0
-const-fits d k h =
-    let l : 1024 + k < 2039 = omega (arith, h .1) in
-    rw (lt-ltb d 32 (h .0), lt-ltb (1024 + k) 2039 l)
+const-fits : (d : ℕ) → d < 32 → jump-fault d ≡ 0
+const-fits d h = rw (lt-ltb d 32 h)
 
 pub const-small : (o : Order) (u : View) {k : ℕ} → fault o ≡ 0 → u ≡ padded (uses o) → u .operand ≡ Constant k → k ≤ 1007
 const-small o u {k} h e x = order-small o {x = Constant k} h (sym (ap (λ (v : View). v .operand) e) ∙ x)
@@ -167,8 +164,8 @@ behind-fits : (x : Operand) (d : ℕ) → d < 32 → Small x → rest-fault (beh
 behind-fits Nothing d h s = refl
 behind-fits (Loaded p i) d h s = refl
 behind-fits (Stored p i) d h s = refl
-behind-fits (Constant k) d h s = const-fits d k (h, s)
-behind-fits (GoneTo l) d h s = label-fits l s
+behind-fits (Constant k) d h s = const-fits d h
+behind-fits (GoneTo l) d h s = refl
 behind-fits (Set l) d h s = label-fits l s
 
 rest-fits : (o : Order) → fault o ≡ 0 → rest-fault (rest-of o) ≡ 0
@@ -210,8 +207,8 @@ together o js k g h =
 pub order-short : (o : Order) → length (instrs o) ≤ 11
 order-short o = omega (arith, together o (rest-items (rest-of o)) 0 (rest-right o) (λ here. omega arith))
 
-tail-length : (t : Tail) (here : ℕ) → length (tail-items t) ≤ length (resolved nowhere here (tail-items t))
-unfolding resolved
+tail-length : (t : Tail) (here : ℕ) → length (targets (tail-items t)) ≤ length (resolved nowhere here (tail-items t))
+unfolding resolved targets
 tail-length Tails.Nothing here = omega arith
 tail-length (Tails.One k l r) here = omega arith
 tail-length (Tails.Pair k l r) here = omega arith
@@ -234,40 +231,39 @@ unfolding settled
 agreed zero s o e q = refl
 agreed (suc k) s o e q = absurd (omega (arith, q, ap (λ (x : Outcome). mark (x .answer)) e))
 
-both : (x y : Bool) → x && y ≡ true → (x ≡ true) × (y ≡ true)
-both true true e = (refl, refl)
-both true false e = (refl, e)
-both false y e = absurd (no e)
-  where
-    no : false ≡ true → ⊥
-    no e = let z : _≡_ {A = ℕ} 0 1 = cc in omega arith
+-- a state that takes w words and jumps to ts is open and sound, and has room
+record Takes (ts : List ℕ) (w : ℕ) (s : State) : Type 0 where
+  open-still : s .asm .closed ≡ false
+  within : s .asm .len ≤ room (length (s .buf))
+  aligned : s .asm .len % 4 ≡ 0
+  room-for : s .asm .len + 4 * w ≤ room (length (s .buf))
+  jumps-for : s .asm .jumps + length ts ≤ 4096
+  known : numbers-sound (s .labels) ts ≡ true
+  numbered : numbers-fit (s .labels) ts ≡ true
 
--- a record that takes w words and j jumps is open and sound, and has room
-record Takes (w j n : ℕ) (a : Asm) : Type 0 where
-  open-still : a .closed ≡ false
-  within : a .len ≤ room n
-  aligned : a .len % 4 ≡ 0
-  room-for : a .len + 4 * w ≤ room n
-  jumps-for : a .jumps + j ≤ 4096
-
-takes : (w j n : ℕ) (a : Asm) → verdict 0 false w j n a ≡ 0 → Takes w j n a
-unfolding verdict sound fits
-takes w j n a e = by (a .closed) (sound n a) (fits n a w j) refl refl refl e
+takes : (ts : List ℕ) (w : ℕ) (s : State) → verdict 0 [] ts w s ≡ 0 → Takes ts w s
+unfolding ranked sound fits twice
+takes ts w s e = by (s .asm .closed) (numbers-sound (s .labels) ts && sound (length (s .buf)) (s .asm)) (numbers-fit (s .labels) ts && fits (length (s .buf)) (s .asm) w (length ts)) refl refl refl e
   where
-    by : (c s f : Bool) → a .closed ≡ c → sound n a ≡ s → fits n a w j ≡ f → _≡_ {A = ℕ} (cond c 8 (cond s (cond f 0 7) 2)) 0 → Takes w j n a
-    by true s f p q r e = absurd (omega arith)
+    by : (c g f : Bool) → s .asm .closed ≡ c → numbers-sound (s .labels) ts && sound (length (s .buf)) (s .asm) ≡ g → numbers-fit (s .labels) ts && fits (length (s .buf)) (s .asm) w (length ts) ≡ f
+        → _≡_ {A = ℕ} (cond c 8 (cond g (cond f 0 7) 2)) 0 → Takes ts w s
+    by true g f p q r e = absurd (omega arith)
     by false false f p q r e = absurd (omega arith)
     by false true false p q r e = absurd (omega arith)
     by false true true p q r e =
-        let x = both _ _ q in
-        let y = both _ _ (x .1) in
-        let z = both _ _ r in
+        let k = both (numbers-sound (s .labels) ts) _ q in
+        let x = both (leb (s .asm .len) (room (length (s .buf)))) _ (k .1) in
+        let y = both (eqb (s .asm .len % 4) 0) _ (x .1) in
+        let h = both (numbers-fit (s .labels) ts) _ r in
+        let z = both (leb (s .asm .len + 4 * w) (room (length (s .buf)))) _ (h .1) in
         record {
           open-still = p;
           within = leb-true _ _ (x .0);
           aligned = eqb-true _ _ (y .0);
           room-for = leb-true _ _ (z .0);
           jumps-for = leb-true _ _ (z .1);
+          known = k .0;
+          numbered = h .0;
         }
 
 -- n words are asked for in place of w: none where the longest order has room
@@ -281,35 +277,37 @@ needed-fits size a n w j h e = by (leb (a .len + 44) (room size)) refl e
         rw (le-leb (a .len + 4 * (n + j)) (room size) (omega (arith, m, e, h)), le-leb (a .len + 4 * (w + j)) (room size) (omega (arith, m, h)))
     by false l e = rw e
 
--- w words on, it takes the jumps still
-rest-taken : (w j n : ℕ) (a : Asm) → Takes (w + j) j n a → verdict 0 false j j n (record { len = a .len + 4 * w; jumps = a .jumps; closed = a .closed }) ≡ 0
-unfolding sound fits
-rest-taken w j n a t =
-    let b : Asm = record { len = a .len + 4 * w; jumps = a .jumps; closed = a .closed } in
-    let g : sound n b ≡ true = rw (le-leb (a .len + 4 * w) (room n) (omega (arith, t .room-for)), eq-eqb ((a .len + 4 * w) % 4) 0 (omega (arith, t .aligned)), le-leb (a .jumps) 4096 (omega (arith, t .jumps-for))) in
-    let f : fits n b j j ≡ true = rw (le-leb (a .len + 4 * w + 4 * j) (room n) (omega (arith, t .room-for)), le-leb (a .jumps + j) 4096 (t .jumps-for)) in
-    sym (v-good 0 false j j n b (t .open-still) (λ z. omega arith) (λ z. omega arith) g refl refl f)
+-- behind the words it takes the jumps still
+rest-taken : (ts ws : List ℕ) (s : State) → Takes ts (length ws + length ts) s → verdict 0 [] ts (length ts) (with-words ws s) ≡ 0
+unfolding sound fits twice
+rest-taken ts ws s t =
+    let w = length ws in
+    let j = length ts in
+    let n = length (s .buf) in
+    let m : length (written (s .buf) (s .asm .len) ws) ≡ n = length-written (s .buf) (s .asm .len) ws in
+    let b : Asm = record { len = s .asm .len + 4 * w; jumps = s .asm .jumps; closed = s .asm .closed } in
+    let g : sound n b ≡ true = rw (le-leb (s .asm .len + 4 * w) (room n) (omega (arith, t .room-for)), eq-eqb ((s .asm .len + 4 * w) % 4) 0 (omega (arith, t .aligned)), le-leb (s .asm .jumps) 4096 (omega (arith, t .jumps-for))) in
+    let f : fits n b j j ≡ true = rw (le-leb (s .asm .len + 4 * w + 4 * j) (room n) (omega (arith, t .room-for)), le-leb (s .asm .jumps + j) 4096 (t .jumps-for)) in
+    rw m (sym (v-good 0 _ _ false _ (t .open-still) (λ z. omega arith) (λ z. omega arith) (join _ _ (t .known) g) refl refl (join _ _ (t .numbered) f)))
 
 -- ---- words and the jumps of a tail
 
-module _ (ws : List ℕ) (t : Tail) (tag : ℕ) (s : State) where
-  whole-number : put-number 0 (map raw ws ++ tail-items t) s ≡ verdict 0 false (length ws + length (tail-items t)) (length (tail-items t)) (length (s .buf)) (s .asm)
-  unfolding twice
-  whole-number = rw (words-append, jumps-append, labels-append, words-raw, jumps-raw, labels-raw, labels-tail, jumps-tail, length-append, words-tail, zero-add)
+module _ (ws : List ℕ) (t : Tail) (s : State) where
+  whole-number : put-number 0 (map raw ws ++ tail-items t) s ≡ verdict 0 [] (targets (tail-items t)) (length ws + length (targets (tail-items t))) s
+  whole-number = rw (words-append, targets-append, labels-append, words-raw, targets-raw, labels-raw, labels-tail, length-append, words-tail)
 
-  tail-number : put-number 0 (tail-items t) s ≡ verdict 0 false (length (tail-items t)) (length (tail-items t)) (length (s .buf)) (s .asm)
-  unfolding twice
-  tail-number = rw (labels-tail, jumps-tail, words-tail)
+  tail-number : put-number 0 (tail-items t) s ≡ verdict 0 [] (targets (tail-items t)) (length (targets (tail-items t))) s
+  tail-number = rw (labels-tail, words-tail)
 
 module _ (ws : List ℕ) (t : Tail) (tag : ℕ) (s : State) where
-  rest-placed : verdict 0 false (length ws + length (tail-items t)) (length (tail-items t)) (length (s .buf)) (s .asm) ≡ 0 → put tag 0 (tail-items t) (with-words ws s) ≡ put tag 0 (map raw ws ++ tail-items t) s
+  rest-placed : verdict 0 [] (targets (tail-items t)) (length ws + length (targets (tail-items t))) s ≡ 0 → put tag 0 (tail-items t) (with-words ws s) ≡ put tag 0 (map raw ws ++ tail-items t) s
   rest-placed v =
       let u : State = with-words ws s in
-      let j : ℕ = length (tail-items t) in
-      let n : put-number 0 (tail-items t) u ≡ 0 = tail-number ws t tag u ∙ rw (length-written (s .buf) (s .asm .len) ws) (rest-taken (length ws) j (length (s .buf)) (s .asm) (takes _ j _ _ v)) in
+      let ts : List ℕ = targets (tail-items t) in
+      let n : put-number 0 (tail-items t) u ≡ 0 = tail-number ws t u ∙ rest-taken ts ws s (takes ts _ s v) in
       let e : placed tag (tail-items t) u ≡ placed tag (map raw ws ++ tail-items t) s = sym (placed-append tag (map raw ws) (tail-items t) s ∙ ap (placed tag (tail-items t)) (placed-raw tag ws s)) in
       sym (put-done tag 0 (tail-items t) u (placed tag (map raw ws ++ tail-items t) s) n (sym e))
-      ∙ put-done tag 0 (map raw ws ++ tail-items t) s (placed tag (map raw ws ++ tail-items t) s) (whole-number ws t tag s ∙ v) refl
+      ∙ put-done tag 0 (map raw ws ++ tail-items t) s (placed tag (map raw ws ++ tail-items t) s) (whole-number ws t s ∙ v) refl
 
 -- ---- an order
 
@@ -318,68 +316,79 @@ pub behind-as : (o : Order) → fault o ≡ 0 → (r : Rest) → rest-of o ≡ r
 behind-as o h r e =
     subst (λ (q : Rest). (code o ≡ map instr (instrs o) ++ rest-items q) × (rest-fault q ≡ 0) × Bare q (instrs o)) e (rest-right o, rest-fits o h, rest-bare o)
 
--- refused for an operand
-pub order-refused : (o : Order) (tag : ℕ) (s : State) (f : Fault) (x : Outcome) {n : ℕ} → fault-number f ≡ n → (fault-number f ≡ 0 → ⊥) → x ≡ settled (verdict (earlier (fault-number f) 0) (twice (s .labels) []) 0 0 (length (s .buf)) (s .asm)) s s → x ≡ put tag n (code o) s
-unfolding put words jumps labels placed
-order-refused o tag s f x e h q =
-    q
-    ∙ ap (λ (k : ℕ). settled (verdict k (twice (s .labels) []) 0 0 (length (s .buf)) (s .asm)) s s) (earlier-none f)
-    ∙ put-fault 0 tag (fault-number f) [] (code o) s h
-    ∙ ap (λ (k : ℕ). put tag k (code o) s) e
+-- the items of an order, without a fault and with one
+pub items-all : (o : Order) → fault o ≡ 0 → items o ≡ code o
+items-all o z = rw (eq-eqb (fault o) 0 z)
+
+pub items-none : (o : Order) → (fault o ≡ 0 → ⊥) → [] ≡ targets (items o)
+unfolding targets
+items-none o z = rw (ne-eqb (fault o) 0 z)
+
+-- refused for an operand, or for what it may not write
+pub order-refused : (o : Order) (tag : ℕ) (s : State) (f : Fault) (ts : List ℕ) (x : Outcome) {n : ℕ} → fault-number f ≡ n → (n ≡ 0 → ⊥) → ts ≡ targets (items o)
+    → x ≡ settled (verdict (earlier (fault-number f) 0) [] ts 0 s) s s → x ≡ put tag n (items o) s
+order-refused o tag s f ts x {n} e h g q = q ∙ ap (λ (k : ℕ). settled (verdict k [] ts 0 s) s s) (earlier-none f ∙ e) ∙ put-asked tag n (items o) [] ts 0 s h g
 
 module _ (o : Order) (t : Tail) (tag : ℕ) (s : State) (z : fault o ≡ 0) (g : code o ≡ map instr (instrs o) ++ tail-items t) where
   abbrev pub ws : List ℕ
   ws = map encode (instrs o)
 
-  as-words : put tag 0 (map raw ws ++ tail-items t) s ≡ put tag (fault o) (code o) s
-  as-words = put-same (tail-items t) tag 0 (instrs o) s ∙ ap₂ (λ (k : ℕ) (l : List Item). put tag k l s) (sym z) (sym g)
+  as-words : put tag 0 (map raw ws ++ tail-items t) s ≡ emitted tag o s
+  as-words = put-same (tail-items t) tag 0 (instrs o) s ∙ ap₂ (λ (k : ℕ) (l : List Item). put tag k l s) (sym z) (sym (items-all o z ∙ g))
 
-  -- asked for n words and j jumps: n is the count of instructions, or 0 where any order has room
-  module _ (n j : ℕ) (x : Outcome) (en : n ≡ cond (leb (s .asm .len + 44) (room (length (s .buf)))) 0 (length (instrs o))) (ej : j ≡ length (tail-items t)) (q : x ≡ settled (verdict 0 (twice (s .labels) []) (n + j) j (length (s .buf)) (s .asm)) s s) where
-    number : verdict 0 (twice (s .labels) []) (n + j) j (length (s .buf)) (s .asm) ≡ verdict 0 false (length ws + length (tail-items t)) (length (tail-items t)) (length (s .buf)) (s .asm)
-    unfolding twice verdict
-    number = rw (ej, needed-fits (length (s .buf)) (s .asm) n (length (instrs o)) (length (tail-items t)) (together o (tail-items t) _ g (tail-length t)) en, length-map (instrs o) encode)
+  -- asked for n words and jumps to ts: n is the count of instructions, or 0 where any order has room
+  module _ (n j : ℕ) (ts : List ℕ) (x : Outcome) (en : n ≡ cond (leb (s .asm .len + 44) (room (length (s .buf)))) 0 (length (instrs o))) (et : ts ≡ targets (tail-items t)) (ej : j ≡ length ts) (q : x ≡ settled (verdict 0 [] ts (n + j) s) s s) where
+    number : verdict 0 [] ts (n + j) s ≡ verdict 0 [] (targets (tail-items t)) (length ws + length (targets (tail-items t))) s
+    number =
+        rw (ej, et, needed-fits (length (s .buf)) (s .asm) n (length (instrs o)) (length (targets (tail-items t))) (together o (tail-items t) _ g (tail-length t)) en, length-map (instrs o) encode)
 
-    pub order-full : mark (x .answer) ≡ 1 → x ≡ put tag (fault o) (code o) s
+    pub order-full : mark (x .answer) ≡ 1 → x ≡ emitted tag o s
     unfolding put
     order-full r =
         kept _ s (placed tag (map raw ws ++ tail-items t) s) x q r
-        ∙ ap (λ (k : ℕ). settled k s (placed tag (map raw ws ++ tail-items t) s)) (number ∙ sym (whole-number ws t tag s))
+        ∙ ap (λ (k : ℕ). settled k s (placed tag (map raw ws ++ tail-items t) s)) (number ∙ sym (whole-number ws t s))
         ∙ as-words
 
     pub order-room : mark (x .answer) ≡ 0 → s .asm .len + 4 * length (instrs o) ≤ room (length (s .buf))
     order-room r =
-        let k = takes _ _ _ _ (sym number ∙ agreed _ s x q r) in
+        let k = takes (targets (tail-items t)) (length ws + length (targets (tail-items t))) s (sym number ∙ agreed _ s x q r) in
         omega (arith, k .room-for, length-map (instrs o) encode)
 
-    pub order-placed : mark (x .answer) ≡ 0 → put tag 0 (tail-items t) (with-words ws s) ≡ put tag (fault o) (code o) s
+    pub order-placed : mark (x .answer) ≡ 0 → put tag 0 (tail-items t) (with-words ws s) ≡ emitted tag o s
     order-placed r = rest-placed ws t tag s (sym number ∙ agreed _ s x q r) ∙ as-words
 
     -- the words written and the jumps placed
-    pub order-done : (p : Plan) (r : ℕ) (d : List ℕ) → p ≡ no-words → tail-fault t ≡ 0 → Puts (map word (instrs o)) (s .buf) (s .asm .len) d r → mark (x .answer) ≡ 0 → put tag (plan-fault p t) (plan-items p t) (state (record { len = r; jumps = s .asm .jumps; closed = s .asm .closed }) (s .labels) (s .jumps) d) ≡ put tag (fault o) (code o) s
+    pub order-done : (p : Plan) (r : ℕ) (d : List ℕ) → p ≡ no-words → tail-fault t ≡ 0 → Puts (map word (instrs o)) (s .buf) (s .asm .len) d r → mark (x .answer) ≡ 0 → put tag (plan-fault p t) (plan-items p t) (state (record { len = r; jumps = s .asm .jumps; closed = s .asm .closed }) (s .labels) (s .jumps) d) ≡ emitted tag o s
     order-done p r d e f w m =
         rw (e, f, w .0, w .1, words-valid (instrs o) (order-valid o z)) (order-placed m)
 
-pub order-label : (o : Order) (tag : ℕ) (s : State) (l : ℕ) → fault o ≡ 0 → code o ≡ map instr (instrs o) ++ (label l ∷ []) → label-fault l ≡ 0 → instrs o ≡ [] → put 0 (label-fault l) (label l ∷ []) s ≡ put tag (fault o) (code o) s
+pub order-label : (o : Order) (tag : ℕ) (s : State) (l : ℕ) → fault o ≡ 0 → code o ≡ map instr (instrs o) ++ (label l ∷ []) → label-fault l ≡ 0 → instrs o ≡ [] → put 0 (label-fault l) (label l ∷ []) s ≡ emitted tag o s
 order-label o tag s l h g z n =
-    let e : code o ≡ label l ∷ [] = g ∙ ap (λ (is : List Instr). map instr is ++ (label l ∷ [])) n in
+    let e : items o ≡ label l ∷ [] = items-all o h ∙ g ∙ ap (λ (is : List Instr). map instr is ++ (label l ∷ [])) n in
     put-label 0 tag (label-fault l) l s ∙ ap₂ (λ (k : ℕ) (is : List Item). put tag k is s) (z ∙ sym h) (sym e)
 
-pub order-alone : (o : Order) (tag : ℕ) (s : State) (t : Tail) (p : Plan) → fault o ≡ 0 → code o ≡ map instr (instrs o) ++ tail-items t → tail-fault t ≡ 0 → instrs o ≡ [] → p ≡ no-words → put tag (plan-fault p t) (plan-items p t) s ≡ put tag (fault o) (code o) s
+pub order-alone : (o : Order) (tag : ℕ) (s : State) (t : Tail) (p : Plan) → fault o ≡ 0 → code o ≡ map instr (instrs o) ++ tail-items t → tail-fault t ≡ 0 → instrs o ≡ [] → p ≡ no-words → put tag (plan-fault p t) (plan-items p t) s ≡ emitted tag o s
 order-alone o tag s t p h g z n q =
-    let e : code o ≡ tail-items t = g ∙ ap (λ (is : List Instr). map instr is ++ tail-items t) n in
+    let e : items o ≡ tail-items t = items-all o h ∙ g ∙ ap (λ (is : List Instr). map instr is ++ tail-items t) n in
     rw (q, z) (ap₂ (λ (k : ℕ) (is : List Item). put tag k is s) (sym h) (sym e))
 
--- ---- an order of a deck
+-- where the jumps of an order without a fault go
+module _ (o : Order) (z : fault o ≡ 0) where
+  rest-targets : targets (items o) ≡ targets (rest-items (rest-of o))
+  rest-targets =
+      ap targets (items-all o z ∙ rest-right o)
+      ∙ targets-append (map instr (instrs o)) (rest-items (rest-of o))
+      ∙ ap (λ (l : List ℕ). l ++ targets (rest-items (rest-of o))) (targets-instrs (instrs o))
 
-sound-fits : (n : ℕ) (a : Asm) → sound n a ≡ true → fits n a 0 0 ≡ true
-unfolding sound fits
-sound-fits n a e =
-    let x = both (leb (a .len) (room n)) (eqb (a .len % 4) 0 && leb (a .jumps) 4096) e in
-    let y = both (eqb (a .len % 4) 0) (leb (a .jumps) 4096) (x .1) in
-    let l : a .len ≤ room n = leb-true (a .len) (room n) (x .0) in
-    let j : a .jumps ≤ 4096 = leb-true (a .jumps) 4096 (y .1) in
-    rw (le-leb (a .len + 4 * 0) (room n) (omega (arith, l)), le-leb (a .jumps + 0) 4096 (omega (arith, j)))
+  pub goes-behind : (r : Rest) (ts : List ℕ) → rest-of o ≡ r → ts ≡ targets (rest-items r) → ts ≡ targets (items o)
+  goes-behind r ts e h = h ∙ ap (λ (x : Rest). targets (rest-items x)) (sym e) ∙ sym rest-targets
+
+-- a label has no jump
+pub label-goes : (l : ℕ) → [] ≡ targets (label l ∷ [])
+unfolding targets
+label-goes l = refl
+
+-- ---- an order of a deck
 
 pub unsaved-some : (k : ℕ) → unsaved-fault k ≡ 0 → ⊥
 unsaved-some k = by (eqb k 0) refl
@@ -395,58 +404,30 @@ counted-some o = by (registers-fit (uses o .registers))
     by true e = omega arith
     by false e = omega arith
 
--- what is told of an order that may not write what it writes, by what is told without that
-record Told (k v : ℕ) : Type 0 where
-  none-else : v ≡ 0 → 11 ≡ k
-  else-same : (v ≡ 0 → ⊥) → v ≡ k
+-- an order whose cell is not below its count has no jump
+counted-none : (H : Head) (x : Operand) (d : ℕ) → operand-within H x ≡ false → [] ≡ targets (rest-items (behind-operand x d))
+unfolding targets
+counted-none H Nothing d e = refl
+counted-none H (Loaded p i) d e = refl
+counted-none H (Stored p i) d e = refl
+counted-none H (Constant k) d e = absurd (true-not-false (sym e))
+counted-none H (GoneTo l) d e = absurd (true-not-false (sym e))
+counted-none H (Set l) d e = refl
 
-told : (k n : ℕ) (a : Asm) → Told (verdict (unsaved-fault k) false 0 0 n a) (verdict k false 0 0 n a)
-unfolding verdict
-told k n a = by (eqb k 0) refl
+counted-goes : (H : Head) (o : Order) → index-holds H o ≡ false → [] ≡ targets (items o)
+counted-goes H o e = by (eqb (fault o) 0) refl
   where
-    none : (c s : Bool) → sound n a ≡ s → Told (cond c 8 (cond s 11 2)) (cond c 8 (cond s (cond (fits n a 0 0) 0 7) 2))
-    none true s q = record { none-else = λ e. absurd (omega arith); else-same = λ h. refl }
-    none false false q = record { none-else = λ e. absurd (omega arith); else-same = λ h. refl }
-    none false true q = rw (sound-fits n a q) (record { none-else = λ e. refl; else-same = λ h. absurd (h refl) })
-
-    some : (k ≡ 0 → ⊥) → (c r l s : Bool) → Told (cond c 8 (cond r 1 (cond l 3 (cond s k 2)))) (cond c 8 (cond r 1 (cond l 3 (cond s k 2))))
-    some h true r l s = record { none-else = λ e. absurd (omega arith); else-same = λ h. refl }
-    some h false true l s = record { none-else = λ e. absurd (omega arith); else-same = λ h. refl }
-    some h false false true s = record { none-else = λ e. absurd (omega arith); else-same = λ h. refl }
-    some h false false false true = record { none-else = λ e. absurd (h e); else-same = λ h. refl }
-    some h false false false false = record { none-else = λ e. absurd (omega arith); else-same = λ h. refl }
-
-    by : (t : Bool) → eqb k 0 ≡ t → Told (verdict (cond t 11 k) false 0 0 n a) (verdict k false 0 0 n a)
-    by true q = rw (eqb-true k 0 q) (none (a .closed) (sound n a) refl)
-    by false q = rw q (some (eqb-false k 0 q) (a .closed) (eqb k 1) (eqb k 3) (sound n a))
-
-module _ (f : Fault) (s : State) (x : Outcome) (q : x ≡ settled (verdict (earlier (fault-number f) 0) (twice (s .labels) []) 0 0 (length (s .buf)) (s .asm)) s s) where
-  asked-number : verdict (earlier (fault-number f) 0) (twice (s .labels) []) 0 0 (length (s .buf)) (s .asm) ≡ verdict (fault-number f) false 0 0 (length (s .buf)) (s .asm)
-  unfolding twice
-  asked-number = ap (λ (k : ℕ). verdict k false 0 0 (length (s .buf)) (s .asm)) (earlier-none f)
-
-  unsaved-told : Told (verdict (unsaved-fault (fault-number f)) false 0 0 (length (s .buf)) (s .asm)) (verdict (fault-number f) false 0 0 (length (s .buf)) (s .asm))
-  unsaved-told = told (fault-number f) (length (s .buf)) (s .asm)
-
-  pub unsaved-same : mark (x .answer) ≡ 1 → x ≡ put 0 (unsaved-fault (fault-number f)) [] s
-  unfolding put words jumps labels twice placed
-  unsaved-same m =
-      let v = rw asked-number at q in
-      v ∙ ap (λ (k : ℕ). settled k s s) (unsaved-told .else-same (λ e. zero-marks (v ∙ ap (λ (k : ℕ). settled k s s) e)))
-    where
-      zero-marks : x ≡ settled 0 s s → ⊥
-      zero-marks e = omega (arith, m, ap (λ (y : Outcome). mark (y .answer)) (e ∙ settled-yes s s))
-
-  pub unsaved-alone : mark (x .answer) ≡ 0 → _≡_ {A = Outcome} (record { answer = refused 11 0; state = s }) (put 0 (unsaved-fault (fault-number f)) [] s)
-  unfolding put words jumps labels twice placed settled
-  unsaved-alone m = ap (λ (k : ℕ). settled k s s) (unsaved-told .none-else (sym asked-number ∙ agreed _ s x q m))
+    by : (t : Bool) → eqb (fault o) 0 ≡ t → [] ≡ targets (items o)
+    by true q = counted-none H (uses o .operand) _ e ∙ sym (rest-targets o (eqb-true (fault o) 0 q))
+    by false q = items-none o (eqb-false (fault o) 0 q)
 
 module _ (H : Head) (tag : ℕ) (o : Order) (s : State) where
-  pub order-counted : (f : Fault) (x : Outcome) → index-holds H o ≡ false → fault-number f ≡ count-fault o → x ≡ settled (verdict (earlier (fault-number f) 0) (twice (s .labels) []) 0 0 (length (s .buf)) (s .asm)) s s → x ≡ emitted-in H tag o s
-  order-counted f x e g q = rw e (order-refused o tag s f x g (λ z. counted-some o (sym g ∙ z)) q)
+  pub order-counted : (f : Fault) (x : Outcome) → index-holds H o ≡ false → fault-number f ≡ count-fault o → x ≡ settled (verdict (earlier (fault-number f) 0) [] [] 0 s) s s → x ≡ emitted-in H tag o s
+  order-counted f x e g q = rw e (order-refused o tag s f [] x g (counted-some o) (counted-goes H o e) q)
 
-  pub order-unsaved : (f : Fault) (x : Outcome) → index-holds H o ≡ true → saves-hold (H .mask) o ≡ false → fault-number f ≡ fault o → x ≡ put 0 (unsaved-fault (fault-number f)) [] s → x ≡ emitted-in H tag o s
-  order-unsaved f x e g h q = rw (e, g) (q ∙ put-fault 0 tag (unsaved-fault (fault-number f)) [] (code o) s (unsaved-some (fault-number f)) ∙ ap (λ (k : ℕ). put tag (unsaved-fault k) (code o) s) h)
+  pub order-unsaved : (f : Fault) (ts : List ℕ) (x : Outcome) → index-holds H o ≡ true → saves-hold (H .mask) o ≡ false → fault-number f ≡ unsaved-fault (fault o) → ts ≡ targets (items o)
+      → x ≡ settled (verdict (earlier (fault-number f) 0) [] ts 0 s) s s → x ≡ emitted-in H tag o s
+  order-unsaved f ts x e g h t q = rw (e, g) (order-refused o tag s f ts x h (unsaved-some (fault o)) t q)
 
   pub order-goes : index-holds H o ≡ true → saves-hold (H .mask) o ≡ true → emitted tag o s ≡ emitted-in H tag o s
   order-goes e f = rw (e, f)

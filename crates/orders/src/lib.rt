@@ -6,12 +6,12 @@ ghost use Prim.Native.Nat.{_≤_};
 ghost use lib.Dec.{leb};
 ghost use lib.ListN.{length};
 ghost use Rattle.assembler.specs.Item.{instr};
-ghost use Rattle.assembler.specs.State.{before, after, Answered};
-ghost use Rattle.assembler.specs.Put.{put};
-ghost use Rattle.assembler.specs.Plan.{fault-number, tail-items, tail-fault};
+ghost use Rattle.assembler.specs.State.{before, after};
+ghost use Rattle.assembler.specs.Put.{targets};
+ghost use Rattle.assembler.specs.Plan.{fault-number, tail-items, tail-fault, goes-to};
 ghost use Rattle.orders.specs.Code.{code};
 ghost use Rattle.orders.specs.Fault.{fault as fault-of, operand-fault};
-ghost use Rattle.orders.specs.Emitted.{emitted, count-fault, unsaved-fault, emitted-in};
+ghost use Rattle.orders.specs.Emitted.{items, emitted, count-fault, unsaved-fault, emitted-in};
 ghost use Rattle.orders.specs.Inner.Parts.{instrs, rest-of};
 
 pub mod named;
@@ -21,6 +21,7 @@ use assembler::Answer;
 use assembler::Asm;
 use assembler::EmitResult;
 use assembler::Fault;
+use assembler::Goes;
 use assembler::JumpKind;
 use assembler::Jumps;
 use assembler::Labels;
@@ -30,7 +31,6 @@ use ast::Head;
 use ast::Operand;
 use ast::Order;
 use encoder::ZERO;
-use refusal::Refusal;
 pub use write::NO_ROOM;
 pub use write::write_binary;
 pub use write::write_fused;
@@ -106,16 +106,6 @@ fn behind(o: Order) -> Rest
     }
 }
 
-fn jump_count(t: Tail) -> usize
-    ensures { λ r. ⌜ (r ≡ length (tail-items t)) × (r ≤ 2) ⌝ }
-{
-    match t {
-        Tail::Nothing => 0,
-        Tail::One(_, _, _) => 1,
-        Tail::Pair(_, _, _) => 2,
-    }
-}
-
 // Instructions and the jumps behind them: asked for as a whole, then written.
 fn place(
     o: Order,
@@ -129,12 +119,12 @@ fn place(
     requires { ⌜ (fault-of o ≡ 0) × (code o ≡ map instr (instrs o) ++ tail-items t) × (tail-fault t ≡ 0) ⌝ }
     ensures { λ x. ⌜ after x labels jumps buf ≡ emitted tag o (before asm labels jumps buf) ⌝ }
 {
-    let j = jump_count(t);
+    let g = assembler::goes_of(t);
     let d = assembler::check_whole(
         Fault::Nothing,
         Sets::Nothing,
-        write::needed(o, buf.len(), asm.len) + j,
-        j,
+        g,
+        write::needed(o, buf.len(), asm.len) + assembler::go_count(g),
         buf,
         labels,
         asm,
@@ -168,7 +158,7 @@ pub fn emit(
     let f = fault(o);
     let k = assembler::fault_number(f);
     if k != 0 {
-        return assembler::check_whole(f, Sets::Nothing, 0, 0, buf, labels, asm);
+        return assembler::check_whole(f, Sets::Nothing, Goes::Nowhere, 0, buf, labels, asm);
     }
     let r = behind(o);
     match r {
@@ -189,18 +179,29 @@ fn count_fault(o: Order) -> Fault
     }
 }
 
-// 11, behind what else is refused of the order and of the record.
-fn unsaved(f: Fault, buf: &[u8], labels: &Labels, asm: Asm) -> EmitResult
-    ensures { λ r. ⌜ Answered (put 0 (unsaved-fault (fault-number f)) []) asm r labels buf ⌝ }
+// 11, behind what else is refused of the order.
+fn unsaved(f: Fault) -> Fault
+    ensures { λ r. ⌜ fault-number r ≡ unsaved-fault (fault-number f) ⌝ }
 {
-    let d = assembler::check_whole(f, Sets::Nothing, 0, 0, buf, labels, asm);
-    let a = d.answer;
-    match a {
-        Answer::Refused(_, _) => d,
-        Answer::Accepted => EmitResult {
-            asm,
-            answer: Answer::Refused(Refusal::Unsaved, 0),
-        },
+    if assembler::fault_number(f) == 0 {
+        Fault::Unsaved
+    } else {
+        f
+    }
+}
+
+// Where the jumps of an order go, if it has no fault.
+fn goes(o: Order) -> Goes
+    ensures { λ g. ⌜ goes-to g ≡ targets (items o) ⌝ }
+{
+    if assembler::fault_number(fault(o)) != 0 {
+        return Goes::Nowhere;
+    }
+    let r = behind(o);
+    match r {
+        Rest::Jumps(t) => assembler::goes_of(t),
+        Rest::Label(_) => Goes::Nowhere,
+        Rest::Alone(t) => assembler::goes_of(t),
     }
 }
 
@@ -220,7 +221,23 @@ pub fn emit_in(
         if ast::saves_hold(head.mask, o) {
             return emit(o, tag, buf, labels, jumps, asm);
         }
-        return unsaved(fault(o), buf, labels, asm);
+        return assembler::check_whole(
+            unsaved(fault(o)),
+            Sets::Nothing,
+            goes(o),
+            0,
+            buf,
+            labels,
+            asm,
+        );
     }
-    assembler::check_whole(count_fault(o), Sets::Nothing, 0, 0, buf, labels, asm)
+    assembler::check_whole(
+        count_fault(o),
+        Sets::Nothing,
+        Goes::Nowhere,
+        0,
+        buf,
+        labels,
+        asm,
+    )
 }

@@ -14,6 +14,7 @@ mod reason;
 pub use listing::first_foreign;
 pub use listing::lines_text;
 pub use listing::view_text;
+pub use reason::put_text;
 pub use reason::reason_line;
 pub use reason::refusal_text;
 

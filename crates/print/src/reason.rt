@@ -36,7 +36,7 @@ const FOREIGN: [u8; 72] =
     *b"foreign: no instruction here has the word, or the last word is cut short";
 
 // s from the first byte on.
-fn put_text(s: &[u8], out: &mut [u8]) -> Text
+pub fn put_text(s: &[u8], out: &mut [u8]) -> Text
     ensures { λ r. ⌜ Puts (now (s .entry)) 0 (now (out .entry)) r (now (out .exit)) ⌝ }
 {
     let n = s.len();

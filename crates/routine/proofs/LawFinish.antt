@@ -3,7 +3,7 @@ use mathlib.Core.Path.{_≡_, refl, sym, ap, subst, _∙_}
 use mathlib.Core.Bool.{Bool, true, false, not, _||_, cond}
 use mathlib.Core.List.{List, [], _∷_}
 use mathlib.Core.Option.{Option, none, some}
-use Prim.Native.Nat.{ℕ, zero, suc, _+_, _-_, _/_, _%_, _^_, _≤_, _<_}
+use Prim.Native.Nat.{ℕ, zero, suc, _+_, _-_, _*_, _/_, _%_, _^_, _≤_, _<_}
 use native.Mathlib.Nat.{add-zero, zero-add}
 use native.Mathlib.Omega.{arith}
 use borrow.Author.Tests.{le-leb, lt-ltb, le-ltb, eq-eqb, ltb-true, ltb-false}
@@ -17,7 +17,7 @@ use Rattle.assembler.specs.Label.{is-set}
 use Rattle.assembler.specs.Memory.{Jump, jump-at, tag-at, jumps-of}
 use Rattle.assembler.proofs.Tags.{tags-of}
 use Rattle.assembler.specs.State.{State}
-use Rattle.assembler.specs.Put.{jumps, labels}
+use Rattle.assembler.specs.Put.{jumps, targets, labels, times}
 use Rattle.assembler.specs.Resolved.{label-place, jumps-in}
 use Rattle.assembler.specs.declared.JumpKind.{JumpKind}
 use Rattle.assembler.specs.declared.JumpKind.the-variants.{Auipc, Ld, Jalr, Fld, Beq, Bne}
@@ -30,7 +30,7 @@ use Rattle.call.specs.Layout.{span, items, place, constants-offset}
 use Rattle.call.proofs.Items.{within, resolved-length}
 use Rattle.routine.specs.Routine.{unset, far, first-line, jump-lines, finished, refused-at}
 use Rattle.routine.specs.Run.{finish-run}
-use Rattle.routine.proofs.LawRoom.{span-words, laid-sound, set-among}
+use Rattle.routine.proofs.LawRoom.{span-words, laid-sound, set-among, made-among, made-few}
 use Rattle.routine.proofs.LawFit.{Fit, fit-labelled}
 use Rattle.routine.proofs.LawParts.{Left, Agrees, laid-unmade}
 
@@ -87,13 +87,16 @@ none-passes t m i (suc n) e = by (t (jump-at m i)) refl (λ q. none-passes t m (
 
 -- ---- labels and jumps of placed items
 
-entry-good : (len : ℕ) (o : Option ℕ) → ((p : ℕ) → o ≡ some p → (p ≤ len) × (p % 4 ≡ 0)) → len ≤ 65536 → label-good len (entry o) ≡ true
-entry-good len none h l = refl
-entry-good len (some p) h l =
+entry-good : (len n : ℕ) (o : Option ℕ) → ((p : ℕ) → o ≡ some p → (p ≤ len) × (p % 4 ≡ 0)) → len ≤ 65536 → n ≤ 4096 → label-good len (entry o + 2 ^ 32 * n) ≡ true
+entry-good len n none h l f =
+    let a : (0 + 2 ^ 32 * n) / 2 ^ 32 ≤ 4096 = omega arith in
+    let b : (0 + 2 ^ 32 * n) % 2 ^ 32 ≡ 0 = omega arith in
+    rw (le-leb ((0 + 2 ^ 32 * n) / 2 ^ 32) 4096 a, eq-eqb ((0 + 2 ^ 32 * n) % 2 ^ 32) 0 b)
+entry-good len n (some p) h l f =
     let q = h p refl in
-    let a : (p + 1) / 2 ^ 32 ≡ 0 = omega arith in
-    let b : (p + 1) % 2 ^ 32 - 1 ≡ p = omega arith in
-    rw (a, b, le-leb p len (q .0), eq-eqb (p % 4) 0 (q .1)) (or-true (not (is-set (p + 1))))
+    let a : (p + 1 + 2 ^ 32 * n) / 2 ^ 32 ≤ 4096 = omega arith in
+    let b : (p + 1 + 2 ^ 32 * n) % 2 ^ 32 - 1 ≡ p = omega arith in
+    rw (le-leb ((p + 1 + 2 ^ 32 * n) / 2 ^ 32) 4096 a, b, le-leb p len (q .0), eq-eqb (p % 4) 0 (q .1)) (or-true (not (is-set (p + 1 + 2 ^ 32 * n))))
   where
     or-true : (t : Bool) → (t || true) ≡ true
     or-true true = refl
@@ -150,8 +153,9 @@ module _ (b : List ℕ) (is : List Item) (ts : List ℕ) (s : State) (a : Repres
       each : (l : ℕ) → l < 2039 → label-good (s .asm .len) (getD (s .labels) l 0) ≡ true
       each l h =
           let w = a .within in
+          let m : times l (targets is) ≤ 4096 = omega (arith, made-few b is ts s a l h, made-among b is ts s a l h, a .few) in
           rw (a .set-labels l h)
-          (entry-good (s .asm .len) (label-place l 0 is) (λ p e. let q = within l 0 p is e in (omega (arith, len-span), omega arith)) (omega (arith, a .len)))
+          (entry-good (s .asm .len) (times l (targets is)) (label-place l 0 is) (λ p e. let q = within l 0 p is e in (omega (arith, len-span), omega arith)) (omega (arith, a .len)) m)
 
   jump-is : (j : Jump) → Sound (s .asm .len) j → jump-number (s .labels) (s .asm .len) j ≡ by-tests (unset is j) (far is j)
   unfolding jump-number
@@ -245,6 +249,7 @@ module _ (b : List ℕ) (p : Program) (s : State) (a : Represents b (items p) (j
         asm = rw (a .len, span-words (items p), a .count);
         within = omega (arith, resolved-length (place p) 0 (items p), span-words (items p));
         buf = ap (λ (t : State). t .buf) (sym g) ∙ finish-represents b (items p) (jump-lines p) s a (fit-labelled (items p) f) e;
+        few = a .few;
         set-labels = a .set-labels;
         noted = a .noted;
         tagged = a .tagged;

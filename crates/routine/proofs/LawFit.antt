@@ -18,7 +18,7 @@ use Rattle.ast.specs.declared.Head.{Head}
 use Rattle.ast.specs.declared.Order.{Order}
 use Rattle.ast.specs.declared.Order.the-variants.{Unary, Scratched, Binary, Fused, Ifelse, LoadConst, Load, Save, BranchIf, SetLabel}
 use Rattle.assembler.specs.Item.{Item, instr, raw, jump, label}
-use Rattle.assembler.specs.Put.{jumps, labels}
+use Rattle.assembler.specs.Put.{jumps, targets, labels}
 use Rattle.assembler.specs.declared.JumpKind.the-variants.{Bne}
 use Rattle.accesses.specs.Code.{li-code, sub-stack-code, allocate-stack-code, load-int-code, load-float-code, save-float-code}
 use Rattle.reading.specs.Size.{frame-size, stack-size}
@@ -197,7 +197,7 @@ labels-instrs [] = refl
 labels-instrs (i ∷ is) = labels-instrs is
 
 jumps-instrs : (is : List Instr) → jumps (map instr is) ≡ 0
-unfolding jumps
+unfolding jumps targets
 jumps-instrs [] = refl
 jumps-instrs (i ∷ is) = jumps-instrs is
 
@@ -240,7 +240,7 @@ unfolding reloads labels
 reloads-labels mask = rw (labels-instrs (map reload (saved mask)))
 
 pub reloads-jumps : (mask : ℕ) → jumps (reloads mask) ≡ 0
-unfolding reloads jumps
+unfolding reloads jumps targets
 reloads-jumps mask = jumps-instrs (map reload (saved mask))
 
 -- ---- an order's labels

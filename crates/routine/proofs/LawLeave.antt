@@ -15,7 +15,7 @@ use Rattle.assembler.specs.Bytes.{room}
 use Rattle.assembler.specs.Constant.{constant-items, constant-fault}
 use Rattle.ast.specs.Constant.{constant-bits}
 use Rattle.assembler.specs.State.{State}
-use Rattle.assembler.specs.Put.{jumps, labels, put}
+use Rattle.assembler.specs.Put.{jumps, targets, labels, put}
 use Rattle.assembler.proofs.Items.{jumps-append, labels-append}
 use Rattle.frame_code.specs.Items.{epilogue, reloads}
 use Rattle.frame_code.specs.Fault.{epilogue-fault}
@@ -40,7 +40,7 @@ Unused k l = 1024 + k ≤ l → l ≤ 2031 → ⊥
 
 -- what was placed has room
 space-left : (b : List ℕ) (is : List Item) (ts : List ℕ) (s : State) → Represents b is ts s → space-number (length b) is [] ≡ 0
-unfolding span jumps
+unfolding span jumps targets
 space-left b is ts s a =
     let w = a .within in
     rw (le-leb (span is + 0) (room (length b)) (omega (arith, span-words is)), le-leb (jumps is + 0) 4096 (omega (arith, a .few)))
@@ -55,7 +55,7 @@ module _ (b : List ℕ) (line : ℕ) (x : Program) (g : Program → Answer Progr
   constants-agrees : (cs : List Constant) (k : ℕ) (is : List Item) (ts : List ℕ) (s : State) → Represents b is ts s → Each (Unused k) (labels is) → k + length cs ≤ 1008
       → ((t : State) → Represents b (is ++ constants-from k (map constant-bits cs)) ts t → Agrees b (g x) (f t))
       → Agrees b (then (unless (space-number (length b) is (constants-from k (map constant-bits cs))) line x) g) (constants-run line k cs s f)
-  unfolding constants-from constants-run jumps labels
+  unfolding constants-from constants-run jumps targets labels
   constants-agrees [] k is ts s a u h more = rw (space-left b is ts s a) (more s (rw (append-nil is) a))
   constants-agrees (c ∷ cs) k is ts s a u h more =
       part-agrees b is ts s a (constant-items k c) 0 (constant-fault k) (omega arith, tt) (refl, tt) (rw (le-leb k 1007 (omega arith))) line

@@ -18,13 +18,13 @@ use Rattle.deck.specs.Judge as Deck
 use Rattle.assembler.specs.Item.{Item}
 use Rattle.ast.specs.Constant.{constant-bits}
 use Rattle.assembler.specs.State.{State}
-use Rattle.assembler.specs.Put.{jumps, labels, put}
+use Rattle.assembler.specs.Put.{jumps, targets, labels, put}
 use Rattle.assembler.proofs.Items.{labels-append}
 use Rattle.reading.specs.Line.{Line, order, constant}
 use Rattle.orders.specs.Code.{code, line-code}
 use Rattle.orders.specs.Emitted.{emitted-in}
 use Rattle.orders.specs.Fault.{fault}
-use Rattle.orders.proofs.Whole.{deck-fault}
+use Rattle.orders.proofs.Whole.{deck-fault, items-all}
 use Rattle.ast.specs.Counts.{epilogue-holds}
 use Rattle.finish.proofs.Represents.{Represents}
 use Rattle.reading.specs.Program.{Program, constants}
@@ -110,7 +110,7 @@ module _ (b : List ℕ) (p : Program) (cs : List Constant) (s : State) (a : Goin
   going-order o u e t = going-on (order o) cs u t (code-fit o e) (code-labels o e .small) (a .bits ∙ sym (constants-order (p .lines) o)) (a .few)
 
   going-constant : (c : Constant) → length cs < 1008 → Going b (with-line p (constant c)) (cs ++ (c ∷ [])) s
-  unfolding line-code jumps labels
+  unfolding line-code jumps targets labels
   going-constant c h =
       going-on (constant c) (cs ++ (c ∷ [])) s (rw (append-nil (entry p ++ body (p .lines)), append-nil (tags-so-far p)) (a .laid)) tt tt
       (map-last cs c ∙ ap (λ (bs : List ℕ). bs ++ (constant-bits c ∷ [])) (a .bits) ∙ sym (constants-last (p .lines) c))
@@ -124,7 +124,7 @@ module _ (b : List ℕ) (p : Program) (cs : List Constant) (s : State) (a : Goin
     refuses = laid-refuses b (entry p ++ body (p .lines)) (tags-so-far p) s (a .laid)
 
     order-agrees : (o : Order) → fault o ≡ 0 → Agrees b (then (then (unless (order-number (length b) p o) (next-line p) (order o)) F) K) (next (emitted-in (p .head) (next-line p) o s) (next-line p) (more cs))
-    order-agrees o e = rw (deck-fault (p .head) o e) (by (index-holds (p .head) o) (saves-hold (p .head .mask) o))
+    order-agrees o e = rw (deck-fault (p .head) o e, items-all o e) (by (index-holds (p .head) o) (saves-hold (p .head .mask) o))
       where
         by : (t u : Bool)
             → Agrees b (then (then (unless (cond t (cond u (room-number (length b) (entry p ++ body (p .lines)) (code o)) 11) 9) (next-line p) (order o)) F) K)
@@ -133,8 +133,8 @@ module _ (b : List ℕ) (p : Program) (cs : List Constant) (s : State) (a : Goin
             rw (then-then (unless (room-number (length b) (entry p ++ body (p .lines)) (code o)) (next-line p) (order o)) F K)
             (put-agrees b (entry p ++ body (p .lines)) (tags-so-far p) s (a .laid) (code o) (next-line p) 0 (fit-labelled (code o) (code-fit o e)) (code-labels o e .once) refl (next-line p) (more cs) Line (order o) (λ l. then (F l) K)
             (λ t l. m (order o) cs t (going-order o t e l)))
-        by true false = fault-agrees b (entry p ++ body (p .lines)) (tags-so-far p) s (a .laid) (code o) (next-line p) 10 (λ z. omega arith) (λ z. omega arith) (next-line p) (more cs)
-        by false u = fault-agrees b (entry p ++ body (p .lines)) (tags-so-far p) s (a .laid) (code o) (next-line p) 8 (λ z. omega arith) (λ z. omega arith) (next-line p) (more cs)
+        by true false = fault-agrees b (entry p ++ body (p .lines)) (tags-so-far p) s (a .laid) (code o) (next-line p) 10 (fit-labelled (code o) (code-fit o e)) (λ z. omega arith) (λ z. omega arith) (next-line p) (more cs)
+        by false u = fault-agrees b (entry p ++ body (p .lines)) (tags-so-far p) s (a .laid) (code o) (next-line p) 8 (fit-labelled (code o) (code-fit o e)) (λ z. omega arith) (λ z. omega arith) (next-line p) (more cs)
 
     constant-agrees : (c : Constant) → Agrees b (then (then (unless (constant-number p) (next-line p) (constant c)) F) K) (next (constant-run (length cs) s) (next-line p) (more (cs ++ (c ∷ []))))
     constant-agrees c =

@@ -11,18 +11,19 @@ use Rattle.assembler.specs.Bytes.{written, room}
 use Rattle.assembler.specs.Memory.{jumps-of}
 use Rattle.assembler.proofs.Tags.{tags-of}
 use Rattle.assembler.specs.State.{State}
-use Rattle.assembler.specs.Put.{words, jumps, labels, twice, placed, put-number, settled, put}
+use Rattle.base.proofs.Bools.{join}
+use Rattle.assembler.specs.Put.{words, jumps, labels, placed, put-number, settled, put}
 use Rattle.assembler.specs.Resolved.{label-place, jumps-in}
 use Rattle.assembler.proofs.Checks.{v-fault}
 use Rattle.assembler.proofs.Steps.{put-done, settled-no}
-use Rattle.finish.proofs.Represents.{Represents, Labelled, entry}
+use Rattle.finish.proofs.Represents.{Represents, Labelled, entry-of}
 use Rattle.finish.proofs.All.{put-represents}
 use Rattle.finish.proofs.Behind.{written-behind}
 use Rattle.reading.specs.Program.{Program}
 use Rattle.call.specs.Layout.{items, code-length, routine-words}
 use Rattle.routine.specs.Routine.{then, unless, shared, room-number, jump-lines, summary-of}
 use Rattle.routine.specs.Run.{RunOutcome, refused-at, next}
-use Rattle.routine.proofs.LawRoom.{Once, laid-size, laid-sound, put-room, space-number, room-space, space-none, space-part}
+use Rattle.routine.proofs.LawRoom.{Once, laid-size, laid-sound, numbers-known, put-room, space-number, room-space, space-none, space-part}
 
 -- ---- agreement
 
@@ -31,7 +32,8 @@ pub record Left (b : List ℕ) (p : Program) (s : State) : Type 0 where
   pub asm : s .asm ≡ record { len = code-length p; jumps = jumps (items p); closed = true }
   pub within : 4 * length (routine-words p) ≤ room (length b)
   pub buf : s .buf ≡ written b 0 (routine-words p)
-  pub set-labels : (l : ℕ) → l < 2039 → getD (s .labels) l 0 ≡ entry (label-place l 0 (items p))
+  pub few : jumps (items p) ≤ 4096
+  pub set-labels : (l : ℕ) → l < 2039 → getD (s .labels) l 0 ≡ entry-of (items p) l
   pub noted : jumps-of (s .jumps) 0 (jumps (items p)) ≡ jumps-in 0 (items p)
   pub tagged : tags-of (s .jumps) 0 (jumps (items p)) ≡ jump-lines p
 
@@ -63,10 +65,10 @@ module _ (b : List ℕ) (is : List Item) (ts : List ℕ) (s : State) (a : Repres
   laid-refuses n line = (refl, laid-unmade)
 
   -- a fault that is neither 1 nor 3 is what is told: the record is open and sound
-  pub fault-agrees : (js : List Item) (tag k : ℕ) → (suc k ≡ 1 → ⊥) → (suc k ≡ 3 → ⊥) → (line : ℕ) (f : State → RunOutcome) → Agrees b (refused (suc k) line) (next (put tag (suc k) js s) line f)
+  pub fault-agrees : (js : List Item) (tag k : ℕ) → Labelled js → (suc k ≡ 1 → ⊥) → (suc k ≡ 3 → ⊥) → (line : ℕ) (f : State → RunOutcome) → Agrees b (refused (suc k) line) (next (put tag (suc k) js s) line f)
   unfolding put
-  fault-agrees js tag k h g line f =
-      let q : suc k ≡ put-number (suc k) js s = v-fault (suc k) (twice (s .labels) (labels js)) (length (words js)) (jumps js) (length (s .buf)) (s .asm) (a .unclosed) h g (laid-sound b is ts s a) (λ z. omega arith) in
+  fault-agrees js tag k lab h g line f =
+      let q : suc k ≡ put-number (suc k) js s = v-fault (suc k) _ _ _ _ (a .unclosed) h g (join _ _ (numbers-known b is ts s a js lab) (laid-sound b is ts s a)) (λ z. omega arith) in
       rw (← q, settled-no (suc k) s (placed tag js s) (λ z. omega arith)) (laid-refuses (suc k) line)
 
   module _ (js : List Item) (tag fault : ℕ) (h : Labelled js) (o : Once (labels js)) (z : fault ≡ 0) where

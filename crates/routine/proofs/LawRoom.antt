@@ -1,25 +1,29 @@
 -- Over a state that items were placed in, an order is refused exactly where the plain definition refuses it. Assumes nothing.
-use mathlib.Core.Path.{_≡_, refl, sym, ap, _∙_}
+use mathlib.Core.Path.{_≡_, refl, sym, ap, ap₂, _∙_}
 use mathlib.Core.Bool.{Bool, true, false, not, _&&_, _||_, cond}
 use mathlib.Core.List.{List, [], _∷_, _++_}
 use mathlib.Core.Option.{Option, none, some}
 use Prim.Native.Nat.{ℕ, suc, _+_, _*_, _%_, _^_, _≤_, _<_}
 use native.Mathlib.Omega.{arith}
-use borrow.Author.Tests.{eqb-true, eqb-false, eq-eqb, ne-eqb, leb-false, lt-leb}
+use borrow.Author.Tests.{eqb-true, eqb-false, eq-eqb, ne-eqb, leb-true, leb-false, lt-leb}
 use lib.Dec.{eqb, leb}
 use lib.ListN.{length, getD}
 use Rattle.base.specs.Tests.{member}
 use Rattle.base.proofs.Each.{Each}
+use Rattle.base.proofs.Bools.{and-false, join}
 use Rattle.assembler.specs.Item.{Item, instr, raw, jump, label}
 use Rattle.assembler.specs.Bytes.{room}
-use Rattle.assembler.specs.Label.{is-set}
+use Rattle.assembler.specs.Label.{is-set, made}
 use Rattle.assembler.specs.State.{State, sound, fits}
-use Rattle.assembler.specs.Put.{words, jumps, labels, twice, verdict, put-number}
+use Rattle.assembler.specs.Put.{words, jumps, targets, labels, twice, times, number-holds, numbers-sound, numbers-fit, ranked, put-number}
 use Rattle.assembler.specs.Resolved.{label-place}
 use Rattle.assembler.proofs.Items.{jumps-append}
+use Rattle.assembler.proofs.Numbers.{all-is, holds-is}
 use Rattle.assembler.proofs.Writes.{length-written}
 use Rattle.finish.proofs.Represents.{Represents, Labelled, entry}
 use Rattle.finish.proofs.Append.{label-within}
+use Rattle.finish.proofs.Each.{low-half}
+use Rattle.finish.proofs.All.{jumps-are}
 use Rattle.finish.proofs.Both.{sound-is}
 use Rattle.call.specs.Layout.{span}
 use Rattle.call.proofs.Items.{span-append}
@@ -47,6 +51,27 @@ labelled-each (instr i ∷ is) h = labelled-each is h
 labelled-each (raw w ∷ is) h = labelled-each is h
 labelled-each (jump k l r ∷ is) h = labelled-each is (h .1)
 labelled-each (label l ∷ is) h = (h .0, labelled-each is (h .1))
+
+-- jumps go to labels
+targets-low : (is : List Item) → Labelled is → (l : ℕ) → 0 < times l (targets is) → l < 2039
+unfolding targets
+targets-low [] h l k = absurd (omega arith)
+targets-low (instr i ∷ is) h l k = targets-low is h l k
+targets-low (raw w ∷ is) h l k = targets-low is h l k
+targets-low (jump c m r ∷ is) h l k = by (eqb l m) refl k (targets-low is (h .1) l)
+  where
+    by : (t : Bool) → eqb l m ≡ t → 0 < cond t 1 0 + times l (targets is) → (0 < times l (targets is) → l < 2039) → l < 2039
+    by true q k f = let z : l ≡ m = eqb-true l m q in omega (arith, h .0)
+    by false q k f = f (omega arith)
+targets-low (label m ∷ is) h l k = targets-low is (h .1) l k
+
+cond-small : (t : Bool) → cond t 1 0 ≤ 1
+cond-small true = omega arith
+cond-small false = omega arith
+
+pub times-few : (l : ℕ) (ts : List ℕ) → times l ts ≤ length ts
+times-few l [] = omega arith
+times-few l (t ∷ ts) = omega (arith, times-few l ts, cond-small (eqb l t))
 
 abbrev pub is-none : Option ℕ → Bool
 is-none none = true
@@ -81,6 +106,10 @@ twice-shared m ms h (l ∷ ls) e o = rw (h l (e .0), o .0, twice-shared m ms h l
 
 -- ---- an order over a state
 
+ranked-none : (c g t f : Bool) → c ≡ false → g ≡ true → ranked 0 c g t f ≡ cond t 4 (cond f 0 7)
+unfolding ranked
+ranked-none c g t f p q = rw (p, q)
+
 module _ (b : List ℕ) (is : List Item) (ts : List ℕ) (s : State) (a : Represents b is ts s) where
   pub laid-size : length (s .buf) ≡ length b
   laid-size = ap length (a .buf) ∙ length-written b 0 (words is)
@@ -96,21 +125,49 @@ module _ (b : List ℕ) (is : List Item) (ts : List ℕ) (s : State) (a : Repres
   set-among l h =
       let w = a .within in
       ap is-set (a .set-labels l h)
+      ∙ ap (λ (x : ℕ). not (eqb x 0)) (low-half (label-place l 0 is) (times l (targets is)))
       ∙ entry-set (label-place l 0 is) (λ p e. omega (arith, label-within l 0 p is e))
       ∙ place-among l 0 is
 
-  verdict-is : (t : Bool) (w j : ℕ) → verdict 0 t w j (length (s .buf)) (s .asm) ≡ cond t 4 (cond (fits (length (s .buf)) (s .asm) w j) 0 7)
-  unfolding verdict
-  verdict-is t w j = rw (laid-sound, a .unclosed)
+  -- and how many jumps go to it
+  pub made-among : (l : ℕ) → l < 2039 → made (getD (s .labels) l 0) ≡ times l (targets is)
+  made-among l h = ap made (a .set-labels l h) ∙ by (label-place l 0 is) refl
+    where
+      by : (o : Option ℕ) → label-place l 0 is ≡ o → made (entry o + 2 ^ 32 * times l (targets is)) ≡ times l (targets is)
+      by none q = omega arith
+      by (some p) q = let k = label-within l 0 p is q in let w = a .within in omega arith
 
-  fits-span : (js : List Item) → fits (length (s .buf)) (s .asm) (length (words js)) (jumps js) ≡ (leb (span is + span js) (room (length b)) && leb (jumps is + jumps js) 4096)
-  unfolding fits
-  fits-span js = rw (a .len, a .count, span-words is, span-words js, laid-size)
+  pub made-few : (l : ℕ) → l < 2039 → made (getD (s .labels) l 0) ≤ jumps is
+  made-few l h = omega (arith, made-among l h, times-few l (targets is), jumps-are is)
 
-  pub put-room : (js : List Item) → Labelled js → Once (labels js) → put-number 0 js s ≡ room-number (length b) is js
-  put-room js h o =
-      verdict-is (twice (s .labels) (labels js)) (length (words js)) (jumps js)
-      ∙ rw (twice-shared (s .labels) (labels is) set-among (labels js) (labelled-each js h) o, fits-span js)
+  module _ (js : List Item) (h : Labelled js) where
+    pub numbers-known : numbers-sound (s .labels) (targets js) ≡ true
+    numbers-known =
+        all-is (number-holds (s .labels) 0) (targets js)
+        (λ l k. let q = targets-low js h l k in holds-is (s .labels) 0 l q (omega (arith, made-few l q, a .few)))
+
+    numbers-room : jumps is + jumps js ≤ 4096 → numbers-fit (s .labels) (targets js) ≡ true
+    numbers-room r =
+        all-is (λ (k : ℕ). number-holds (s .labels) (times k (targets js)) k) (targets js)
+        (λ l k. let q = targets-low js h l k in holds-is (s .labels) (times l (targets js)) l q (omega (arith, made-few l q, times-few l (targets js), jumps-are js)))
+
+    fits-span : fits (length (s .buf)) (s .asm) (length (words js)) (length (targets js)) ≡ (leb (span is + span js) (room (length b)) && leb (jumps is + jumps js) 4096)
+    unfolding fits
+    fits-span = rw (a .len, a .count, span-words is, span-words js, laid-size, ← jumps-are js)
+
+    -- where the jumps fit, so do the numbers
+    fits-all : numbers-fit (s .labels) (targets js) && fits (length (s .buf)) (s .asm) (length (words js)) (length (targets js)) ≡ (leb (span is + span js) (room (length b)) && leb (jumps is + jumps js) 4096)
+    fits-all = rw fits-span (by (leb (span is + span js) (room (length b))) (leb (jumps is + jumps js) 4096) refl)
+      where
+        by : (t u : Bool) → leb (jumps is + jumps js) 4096 ≡ u → numbers-fit (s .labels) (targets js) && (t && u) ≡ t && u
+        by t true q = rw (numbers-room (leb-true (jumps is + jumps js) 4096 q))
+        by true false q = and-false (numbers-fit (s .labels) (targets js))
+        by false false q = and-false (numbers-fit (s .labels) (targets js))
+
+    pub put-room : Once (labels js) → put-number 0 js s ≡ room-number (length b) is js
+    put-room o =
+        ranked-none _ _ _ _ (a .unclosed) (join _ _ numbers-known laid-sound)
+        ∙ ap₂ (λ (t u : Bool). cond t 4 (cond u 0 7)) (twice-shared (s .labels) (labels is) set-among (labels js) (labelled-each js h) o) fits-all
 
 -- ---- new labels: only room counts
 

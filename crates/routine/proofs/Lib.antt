@@ -12,3 +12,4 @@ pub mod Lined
 pub mod Onward
 pub mod Placed
 pub mod Quick
+pub mod Counted

@@ -4,5 +4,7 @@ pub mod Routine
 pub mod Answer
 -- the routine over lent memory, part by part
 pub mod Run
+-- the law: the numbers of jumps that a routine leaves add up
+pub mod Counted
 -- what only private functions promise
 pub mod Inner

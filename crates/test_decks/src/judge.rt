@@ -3,12 +3,21 @@ ghost use mathlib.Core.Path.{_≡_};
 ghost use Prim.Native.Nat.{_≤_};
 ghost use Rattle.test_decks.specs.Inner.Bytes.{hash-of};
 use crate::piece::ROOM;
+use assembler::Asm;
+use assembler::Jumps;
+use assembler::Labels;
 use ast::Frame;
 use routine::RoutineAnswer;
+use routine::RoutineResult;
 use test_rows::Outcome;
 
 // What stands in a buffer before the routine has it.
 const MARK: u8 = 165;
+
+// And in label and jump memory: a label that is set, with more jumps than there are.
+const SPOILED_LABEL: u64 = 0x123456789abcdef1;
+
+const SPOILED_JUMP: u32 = 0xfedcba98;
 
 // What a row comes to, and the bytes of the deck at hand.
 pub struct Came {
@@ -64,7 +73,7 @@ fn agrees(t: Numbers, s: &[u8]) -> bool {
 // ---- the buffer
 
 // A polynomial of the bytes at 257, modulo the prime 2^54 - 33.
-fn hash(s: &[u8]) -> u64
+pub(crate) fn hash(s: &[u8]) -> u64
     ensures { λ r. ⌜ r ≡ hash-of 0 (now (s .entry)) ⌝ }
 {
     let mut h: u64 = 0;
@@ -108,23 +117,48 @@ fn stands(buf: &[u8; ROOM], end: usize, size: usize, s: &[u8]) -> bool {
 
 // ---- rows
 
-fn handed(file: &[u8], buf: &mut [u8], n: usize, size: usize) -> Numbers {
-    if n > file.len() {
-        return told(RoutineAnswer::Refused(refusal::Refusal::Closed, 0));
+// What no row expects.
+fn unknown() -> RoutineResult {
+    let asm = Asm {
+        len: 0,
+        jumps: 0,
+        closed: false,
+    };
+    RoutineResult {
+        asm,
+        answer: RoutineAnswer::Refused(refusal::Refusal::Closed, 0),
     }
-    if size > buf.len() {
-        return told(RoutineAnswer::Refused(refusal::Refusal::Closed, 0));
-    }
-    told(routine::routine(&file[0..n], &mut buf[0..size]))
 }
 
-// The deck's answer and its buffer are the row's.
+fn handed(
+    file: &[u8],
+    buf: &mut [u8],
+    n: usize,
+    size: usize,
+    labels: &mut Labels,
+    jumps: &mut Jumps,
+) -> RoutineResult {
+    if n > file.len() {
+        return unknown();
+    }
+    if size > buf.len() {
+        return unknown();
+    }
+    routine::routine_in(&file[0..n], &mut buf[0..size], labels, jumps)
+}
+
+// The deck's answer, its buffer and its list are the row's.
 fn answered(s: &[u8], n: usize, file: &[u8; ROOM], buf: &mut [u8; ROOM]) -> bool {
     let size = crate::row::column(s, 0) as usize;
     *buf = [MARK; ROOM];
-    let t = handed(file, buf, n, size);
+    let mut labels = [SPOILED_LABEL; assembler::LABELS];
+    let mut jumps = [SPOILED_JUMP; assembler::JUMPS];
+    let r = handed(file, buf, n, size, &mut labels, &mut jumps);
+    let asm = r.asm;
+    let answer = r.answer;
+    let t = told(answer);
     let end = if t.kind == 0 { 0 } else { t.a as usize };
-    agrees(t, s) && stands(buf, end, size, s)
+    agrees(t, s) && stands(buf, end, size, s) && crate::list::agrees(&labels, asm, t.kind != 0, s)
 }
 
 // Word i of the row stands in the buffer.

@@ -81,6 +81,17 @@ fn tail(r: Row) -> Tail {
     }
 }
 
+fn jump_kind(k: u32) -> JumpKind {
+    match k {
+        0 => JumpKind::Auipc,
+        1 => JumpKind::Ld,
+        2 => JumpKind::Jalr,
+        3 => JumpKind::Fld,
+        4 => JumpKind::Beq,
+        _ => JumpKind::Bne,
+    }
+}
+
 fn finishing(
     buf: &mut [u8; 65536],
     labels: &mut Labels,
@@ -121,6 +132,7 @@ fn assembling(
         0x12 => assembler::set_label(r.a, buf, labels, jumps, asm),
         0x13 | 0x14 => assembler::append_const(r.a, constant(r), buf, labels, jumps, asm),
         0x15 => finishing(buf, labels, jumps, asm),
+        0x1f => assembler::jump(jump_kind(r.a), r.b, r.c, 0, buf, labels, jumps, asm),
         _ => repeat(times(r), plan(r), tail(r), buf, labels, jumps, asm),
     }
 }
@@ -176,8 +188,9 @@ fn answered(
 ) -> EmitResult {
     let k = r.kind;
     match k {
-        0x10..=0x1c => assembling(r, buf, labels, jumps, asm),
+        0x10..=0x1f => assembling(r, buf, labels, jumps, asm),
         0x20..=0x28 => access(r, buf, labels, jumps, asm),
+        0x74 => crate::named::load_in(r, buf, labels, jumps, asm),
         0x30..=0x7f => crate::named::ordered(r, buf, labels, jumps, asm),
         0x80..=0x85 => framed(r, buf, labels, jumps, asm),
         _ => unknown(asm),
@@ -191,6 +204,18 @@ fn aligned(n: u32, c: Case) -> Case {
     }
 }
 
+// ---- what is lent
+
+// Label l has had n jumps made to it: the high half of its entry. Its place stays.
+fn lend_number(l: u32, n: u32, labels: &mut Labels) {
+    let i = l as usize;
+    if assembler::LABELS <= i {
+        return;
+    }
+    let e = labels[i];
+    labels[i] = quad((e % 4294967296) as u32, n);
+}
+
 pub(crate) fn by_kind(
     r: Row,
     buf: &mut [u8; 65536],
@@ -200,6 +225,13 @@ pub(crate) fn by_kind(
 ) -> Case {
     if r.kind == 0x16 {
         return aligned(r.a, c);
+    }
+    if r.kind == 0x1d {
+        lend_number(r.a, r.b, labels);
+        return c;
+    }
+    if r.kind == 0x1e {
+        return crate::case::lent(c, crate::row::record(r));
     }
     let asm = c.asm;
     crate::case::done(c, answered(r, buf, labels, jumps, asm))

@@ -54,6 +54,13 @@ pub(crate) fn checked(c: Case, ok: bool) -> Case {
     d
 }
 
+// Another record.
+pub(crate) fn lent(c: Case, asm: Asm) -> Case {
+    let mut d = c;
+    d.asm = asm;
+    d
+}
+
 // n words further.
 pub(crate) fn moved(c: Case, n: usize) -> Case {
     let mut d = c;
@@ -76,7 +83,7 @@ pub(crate) fn refused(c: Case, number: u8, place: u32) -> Case {
     d
 }
 
-fn same(a: Asm, b: Asm) -> bool {
+pub(crate) fn same(a: Asm, b: Asm) -> bool {
     a.len == b.len && a.jumps == b.jumps && a.closed == b.closed
 }
 

@@ -4,8 +4,10 @@ use crate::row::Read;
 use crate::row::Row;
 use assembler::Jumps;
 use assembler::Labels;
+use refusal::Refusal;
 use test_rows::Outcome;
 use test_rows::Tally;
+use unused::Unused;
 
 const STDOUT: i32 = 1;
 
@@ -102,6 +104,73 @@ fn answer(c: Case, r: Row) -> Case {
     crate::case::checked(c, c.number == r.a && c.place == r.b)
 }
 
+// ---- labels and their numbers, the record, the list of unused labels
+
+// What stands in the list's memory before it.
+const MARK: u32 = 0xffffffff;
+
+fn entry_of(labels: &Labels, l: u32) -> u64 {
+    let i = l as usize;
+    if assembler::LABELS <= i {
+        return u64::MAX;
+    }
+    labels[i]
+}
+
+// Jumps made to label a, and its place plus 1 or 0.
+fn entry(c: Case, r: Row, labels: &Labels) -> Case {
+    let e = entry_of(labels, r.a);
+    let ok = e / 4294967296 == r.b as u64 && e % 4294967296 == r.c as u64;
+    crate::case::checked(c, ok)
+}
+
+fn at_most(n: usize) -> usize {
+    if n < 65536 { n } else { 65536 }
+}
+
+fn further(n: usize) -> usize {
+    if n < 64512 { n + 1024 } else { 65536 }
+}
+
+// Length, jumps and the closed mark; and zeros behind the length, further than any call writes.
+fn record(c: Case, r: Row, buf: &[u8; 65536]) -> Case {
+    let asm = c.asm;
+    let a = at_most(asm.len);
+    let e = further(asm.len);
+    let ok = crate::case::same(asm, crate::row::record(r)) && crate::case::blank(buf, a, e);
+    crate::case::checked(c, ok)
+}
+
+fn nth(out: &[u32; assembler::LABELS], i: usize) -> u32 {
+    if assembler::LABELS <= i {
+        return MARK;
+    }
+    out[i]
+}
+
+// So many labels are listed, the first three as the row has them, and nothing is written behind the last.
+fn lists(r: Row, n: u32, out: &[u32; assembler::LABELS]) -> bool {
+    n == r.a
+        && nth(out, 0) == r.b
+        && nth(out, 1) == r.c
+        && nth(out, 2) == r.d
+        && nth(out, n as usize) == MARK
+}
+
+// The list is refused so, and nothing is written.
+fn refuses(r: Row, why: Refusal, place: u32, out: &[u32; assembler::LABELS]) -> bool {
+    refusal::number(why) as u32 == r.a && place == r.b && nth(out, 0) == MARK
+}
+
+fn list(c: Case, r: Row, labels: &Labels) -> Case {
+    let mut out = [MARK; assembler::LABELS];
+    let ok = match unused::unused_labels(labels, c.asm, &mut out) {
+        Unused::Labels(n) => r.kind == 0x0c && lists(r, n, &out),
+        Unused::Refused(why, place) => r.kind == 0x0d && refuses(r, why, place, &out),
+    };
+    crate::case::checked(c, ok)
+}
+
 // A call; the first one behind an answer starts on fresh memory.
 fn called(c: Case, r: Row, buf: &mut [u8; 65536], labels: &mut Labels, jumps: &mut Jumps) -> Case {
     if c.open {
@@ -117,6 +186,9 @@ fn next(c: Case, r: Row, buf: &mut [u8; 65536], labels: &mut Labels, jumps: &mut
     match k {
         0x01..=0x07 => crate::case::checked(code(c, r, buf), c.number == 0),
         0x08..=0x09 => answer(c, r),
+        0x0a => entry(c, r, labels),
+        0x0b => record(c, r, buf),
+        0x0c..=0x0d => list(c, r, labels),
         _ => called(c, r, buf, labels, jumps),
     }
 }

@@ -5,7 +5,9 @@ use assembler::EmitResult;
 use assembler::Jumps;
 use assembler::Labels;
 use ast::Binary;
+use ast::Frame;
 use ast::Fused;
+use ast::Head;
 use ast::Order;
 use ast::Place;
 use ast::Scratched;
@@ -237,4 +239,23 @@ pub(crate) fn ordered(
         return by_name(o, buf, labels, jumps, asm);
     }
     asm_mut::through(o, 0, buf, labels, jumps, asm)
+}
+
+// A constant's load in a deck whose line 1 has the mask c.
+pub(crate) fn load_in(
+    r: Row,
+    buf: &mut [u8],
+    labels: &mut Labels,
+    jumps: &mut Jumps,
+    asm: Asm,
+) -> EmitResult {
+    let head = Head {
+        frame: Frame::Indirect,
+        cap: 16,
+        states: 0,
+        obs: 0,
+        last: 0,
+        mask: r.c,
+    };
+    orders::emit_in(head, 0, Order::LoadConst(r.a, r.b), buf, labels, jumps, asm)
 }

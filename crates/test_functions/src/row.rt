@@ -1,4 +1,5 @@
 // A row: its kind and four numbers, in hexadecimal digits.
+use assembler::Asm;
 use test_rows::Hex;
 
 pub struct Row {
@@ -31,4 +32,13 @@ pub(crate) fn of(s: &[u8]) -> Read {
         return Read::Malformed;
     };
     Read::Is(Row { kind, a, b, c, d })
+}
+
+// Length, jumps and the closed mark of a row.
+pub(crate) fn record(r: Row) -> Asm {
+    Asm {
+        len: r.a as usize,
+        jumps: r.b as usize,
+        closed: r.c != 0,
+    }
 }

@@ -25,7 +25,7 @@ abbrev values : List Value
 values = choice TK.the-type TK′.the-laws TK′.the-copy TK′.the-plain tt TK′.mir refl ∷ number w32 ∷ number w32 ∷ number w32 ∷ []
 
 abbrev does : Tuple values → State → Outcome
-does vs = put (vs .1 .1 .1 .0) (jump-fault (vs .1 .0) (vs .1 .1 .0)) (jump (vs .0) (vs .1 .0) (vs .1 .1 .0) ∷ [])
+does vs = put (vs .1 .1 .1 .0) (jump-fault (vs .1 .1 .0)) (jump (vs .0) (vs .1 .0) (vs .1 .1 .0) ∷ [])
 
 pub jump-spec : {M : Type 1} → stated.statement M
 unfolding code.routine tablesOf

@@ -3,7 +3,7 @@ use mathlib.Core.Path.{_≡_, sym, _∙_}
 use denote.Ref.{now}
 use borrow.Author.Needs.{needs}
 use Rattle.assembler.specs.State.{State, state}
-use Rattle.assembler.specs.Put.{put-number}
+use Rattle.assembler.specs.Put.{twice, put-number}
 use Rattle.assembler.specs.Constant.{constant-items, constant-fault}
 use Rattle.assembler.proofs.Steps.{put-refused, put-done, constant-refused, constant-number, constant-placed}
 use Rattle.assembler.proofs.append_const.Statement.{statement}
@@ -43,6 +43,7 @@ refused-with-requires c κs =
     (omega arith, c .number .ensures .1)
 
 returns : tie.Need-returns
+unfolding twice
 returns c =
     let s = c .before .before .before .before .before in
     put-refused _ _ _ _ (c .refused-with .result) _ (constant-refused (s .args .k) (s .args .c) (first s) _ (c .before .before .if1 .taken) (c .before .number .ensures .0)) (λ e. omega (arith, c .before .number .ensures .2 e)) (c .refused-with .ensures)

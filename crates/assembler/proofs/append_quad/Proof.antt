@@ -3,13 +3,13 @@ use mathlib.Core.Path.{sym, _∙_}
 use mathlib.Core.List.{[], _∷_}
 use borrow.Author.Needs.{needs}
 use Rattle.assembler.proofs.Items.{placed-raw}
-use Rattle.assembler.specs.Put.{words, jumps, labels, twice}
+use Rattle.assembler.specs.Put.{words, jumps, targets, labels, twice}
 use Rattle.assembler.proofs.Steps.{put-refused, put-done}
 use Rattle.assembler.proofs.append_quad.Statement.{statement}
 use Rattle.assembler.proofs.append_quad.Tie as tie
 
 returns : tie.Need-returns
-unfolding words jumps labels twice
+unfolding words jumps targets labels twice
 returns c = put-refused _ _ _ _ (c .refused-with .result) _ (c .before .before .number .ensures .0) (c .before .if1 .taken) (c .refused-with .ensures)
 
 put-quad-requires : tie.Need-put-quad-requires
@@ -20,7 +20,7 @@ add-t8 : tie.Need-add-t8
 add-t8 c = omega (arith, c .before .before .before .before .before .number .ensures .2 (c .before .before .before .before .if1 .left))
 
 returns-2 : tie.Need-returns-2
-unfolding words jumps labels twice
+unfolding words jumps targets labels twice
 returns-2 c = put-done _ _ _ _ _ (sym (c .before .before .before .before .before .number .ensures .0) ∙ c .before .before .before .before .if1 .left) (rw (c .before .before .put-quad .ensures) (sym (placed-raw 0 (_ ∷ _ ∷ []) _)))
 
 pub append-quad-spec : {M : Type 1} → statement M

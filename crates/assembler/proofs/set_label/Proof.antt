@@ -3,7 +3,7 @@ use native.Mathlib.Omega.{arith}
 use mathlib.Core.Path.{_≡_, sym, _∙_}
 use borrow.Author.Needs.{needs}
 use Rattle.assembler.specs.State.{state}
-use Rattle.assembler.specs.Put.{jumps, labels, with-label, place, placed}
+use Rattle.assembler.specs.Put.{twice, with-label, place, placed}
 use Rattle.assembler.proofs.Steps.{put-refused, put-done, label-refused, label-number}
 use Rattle.assembler.proofs.set_label.Statement.{statement}
 use Rattle.assembler.proofs.set_label.Tie as tie
@@ -14,6 +14,7 @@ refused-with-requires c κs =
     (omega arith, c .number .ensures .1)
 
 returns : tie.Need-returns
+unfolding twice
 returns c =
     let a = c .before .before .before .before .args in
     put-refused _ _ _ _ (c .refused-with .result) _ (label-refused (a .l) (state (a .asm) (now (a .labels)) (now (a .jumps)) (now (a .buf))) _ (c .before .before .if1 .taken) (c .before .number .ensures .0)) (λ e. omega (arith, c .before .number .ensures .2 e)) (c .refused-with .ensures)

@@ -3,7 +3,7 @@ use mathlib.Core.Path.{refl, sym, ap, _∙_}
 use mathlib.Core.List.{List, [], _++_}
 use denote.Ref.{now}
 use Rattle.assembler.specs.Item.{Item}
-use Rattle.assembler.specs.Put.{jumps, put}
+use Rattle.assembler.specs.Put.{jumps, targets, put}
 use Rattle.assembler.specs.State.{state}
 use Rattle.frame_code.specs.Items.{times-over}
 use Rattle.frame_code.specs.Inner.Copies.{copy-first, copy-each}
@@ -16,7 +16,7 @@ use Rattle.frames.proofs.copies.Statement.{statement}
 use Rattle.frames.proofs.copies.Tie as tie
 
 returns : tie.Need-returns
-unfolding jumps
+unfolding jumps targets
 returns c =
     let p = c .before .before .before .before .before .before in
     let a = p .before .before .before .args in

@@ -36,10 +36,10 @@ to-jump c = c .before .before .before .before .before .before
 abbrev to-checked : tie.After-buf2 → tie.Then1
 to-checked c = c .before .before .before .before .before
 
-abbrev to-counts : tie.After-precheck → tie.After-copy-jumps
+abbrev to-counts : tie.After-precheck → tie.After-end-goes
 to-counts c = c .before .before .before .before
 
-abbrev start : tie.After-copy-jumps → tie.Start
+abbrev start : tie.After-end-goes → tie.Start
 start c = c .before .before .before .before
 
 -- ---- what is known there
@@ -53,7 +53,7 @@ whole c =
     let n = to-counts c in
     let s = start n in
     checks (epilogue-indirect (s .args .head)) (first s) _ _ (c .precheck .ensures)
-    (end-number (s .args .head) (first s) _ _ _ (n .before .before .end-sets .ensures .0) (n .before .copy-words .ensures .0) (n .copy-jumps .ensures .0))
+    (end-number (s .args .head) (first s) _ _ _ (n .before .before .end-sets .ensures .0) (n .end-goes .ensures) (n .before .copy-words .ensures .0))
 
 copies-requires : tie.Need-copies-requires
 copies-requires c κs =
@@ -101,7 +101,6 @@ indirect-end-spec =
     (λ c κs. search needs)
     (λ c. search needs)
     (λ c κs. search needs)
-    (λ c. search needs)
     (λ c κs. search needs)
     (λ c κs. search needs)
     (λ c κs. search needs)

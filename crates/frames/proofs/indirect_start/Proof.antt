@@ -47,10 +47,10 @@ to-enter c = c .before .before .before .before .before
 abbrev to-checked : tie.After-buf2 → tie.Then1
 to-checked c = c .before .before .before .before .before
 
-abbrev to-counts : tie.After-precheck → tie.After-copy-jumps
+abbrev to-counts : tie.After-precheck → tie.After-start-goes
 to-counts c = c .before .before .before .before
 
-abbrev to-sizes : tie.After-copy-jumps → tie.After-size-of2
+abbrev to-sizes : tie.After-start-goes → tie.After-size-of2
 to-sizes c = c .before .before .before .before .before
 
 abbrev start : tie.After-size-of2 → tie.Start
@@ -70,7 +70,7 @@ whole c =
     let mem = n .before .before .before .sub-words .ensures .0 ∙ ap (λ (k : ℕ). length (sub-stack-code k)) (z .before .size-of .ensures .0) in
     let stack = n .before .allocate-words .ensures .0 ∙ ap (λ (k : ℕ). length (allocate-stack-code k)) (z .size-of2 .ensures .0) in
     checks (prologue-indirect (s .args .head)) (first s) _ _ (c .precheck .ensures)
-    (start-number (s .args .head) (first s) _ _ _ _ _ (n .before .before .before .before .start-sets .ensures .0) mem (n .before .before .copy-words .ensures .0) stack (n .copy-jumps .ensures .0))
+    (start-number (s .args .head) (first s) _ _ _ _ _ (n .before .before .before .before .start-sets .ensures .0) (n .start-goes .ensures) mem (n .before .before .copy-words .ensures .0) stack)
 
 copies-requires : tie.Need-copies-requires
 copies-requires c κs =
@@ -135,7 +135,6 @@ indirect-start-spec =
     (λ c κs. search needs)
     (λ c. search needs)
     (λ c κs. search needs)
-    (λ c. search needs)
     (λ c κs. search needs)
     (λ c κs. search needs)
     (λ c κs. search needs)

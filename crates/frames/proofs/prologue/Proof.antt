@@ -10,6 +10,7 @@ use Rattle.frame_code.specs.Items.{prologue}
 use Rattle.frames.proofs.Parts.{faulted}
 use Rattle.frames.proofs.Counts.{no-fault, a-fault}
 use borrow.Author.Needs.{needs}
+use Rattle.assembler.specs.Plan.{goes-to}
 use Rattle.frames.proofs.prologue.Statement.{statement}
 use Rattle.frames.proofs.prologue.Tie as tie
 
@@ -19,7 +20,7 @@ abbrev to-counts : tie.After-prologue-by-frame → tie.Then1
 to-counts c = c .before .before .before .before
 
 abbrev to-counts-2 : tie.After-precheck → tie.Else1
-to-counts-2 c = c .before .before .before .before
+to-counts-2 c = c .before .before .before .before .before
 
 abbrev start : tie.After-prologue-holds → tie.Start
 start c = c .before .before
@@ -46,10 +47,11 @@ returns c =
 
 returns-2 : tie.Need-returns-2
 returns-2 c =
+    let g = c .before .before .before .before .before .before in
     let h = to-counts-2 (c .before .before) in
     let s = start (h .before) in
     let H = s .args .head in
-    faulted (s .args .tag) 9 _ (prologue H) (first s) _ (a-fault H (sym (h .before .prologue-holds .ensures) ∙ h .if1 .left)) (λ z. omega arith) (c .before .before .precheck .ensures)
+    faulted (s .args .tag) 9 _ (prologue H) (goes-to (g .prologue-goes .result)) (first s) _ (a-fault H (sym (h .before .prologue-holds .ensures) ∙ h .if1 .left)) (λ z. omega arith) (g .prologue-goes .ensures) (c .before .before .precheck .ensures)
 
 pub prologue-spec : {M : Type 1} → statement M
 prologue-spec =
@@ -59,6 +61,7 @@ prologue-spec =
     prologue-by-frame-requires
     (λ c. search needs)
     returns
+    (λ c κs. search needs)
     (λ c κs. search needs)
     (λ c. search needs)
     returns-2)

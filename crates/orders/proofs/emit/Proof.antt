@@ -1,5 +1,5 @@
 use mathlib.Core.Path.{_≡_, sym, _∙_}
-use mathlib.Core.List.{_++_, map}
+use mathlib.Core.List.{[], _++_, map}
 use denote.Ref.{now}
 use Rattle.assembler.specs.Item.{instr}
 use Rattle.assembler.specs.State.{State, state}
@@ -8,7 +8,7 @@ use Rattle.orders.specs.Code.{code}
 use Rattle.orders.specs.Fault.{fault}
 use Rattle.orders.specs.Inner.Parts.{instrs}
 use Rattle.orders.specs.declared.Rest.{Rest}
-use Rattle.orders.proofs.Whole.{rest-items, rest-fault, Bare, behind-as, order-refused, order-label, order-alone}
+use Rattle.orders.proofs.Whole.{rest-items, rest-fault, Bare, behind-as, items-none, order-refused, order-label, order-alone}
 use borrow.Author.Needs.{needs}
 use Rattle.orders.proofs.emit.Statement.{statement}
 use Rattle.orders.proofs.emit.Tie as tie
@@ -23,7 +23,8 @@ returns c =
     let n = t .before in
     let f = n .before in
     let s = f .before .before in
-    order-refused (s .args .o) (s .args .tag) (whole s) (f .fault .result) _ (f .fault .ensures) (λ q. t .if1 .taken (n .fault-number .ensures .0 ∙ q)) (c .check-whole .ensures (now (s .args .jumps)))
+    let bad : fault (s .args .o) ≡ 0 → ⊥ = λ q. t .if1 .taken (n .fault-number .ensures .0 ∙ f .fault .ensures ∙ q) in
+    order-refused (s .args .o) (s .args .tag) (whole s) (f .fault .result) [] _ (f .fault .ensures) bad (items-none (s .args .o) bad) (c .check-whole .ensures (now (s .args .jumps)))
 
 -- ---- an order that is not refused, and what stands behind its instructions
 

@@ -1,0 +1,4 @@
+-- the line that sets a label
+pub mod Scan
+-- the text of a list
+pub mod Text
