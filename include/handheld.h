@@ -11,10 +11,12 @@
    - No memory of a call overlaps another one's of the same call.
    - 256 KiB of stack.
 
-   What the loader owes, who copies the code to where it will run: the proofs assume that fetches see
-   memory as it is. So behind the last byte copied, and before the first call, `fence.i` is executed on
-   the hart that will run the code, and no hart runs a routine while its bytes are being replaced. Flags
-   and traps of float arithmetic are not modelled; nothing may hang on them.
+   What the loader owes, who copies the code to where it will run: that place is a multiple of 8, since the
+   controller traps an 8-byte access at any other address, and constants are at multiples of 8 in the code
+   (the buffer that a function here fills may lie anywhere). The proofs assume that fetches see memory as it
+   is. So behind the last byte copied, and before the first call, `fence.i` is executed on the hart that will
+   run the code, and no hart runs a routine while its bytes are being replaced. Flags and traps of float
+   arithmetic are not modelled; nothing may hang on them. docs/DECK.md has all terms of a call.
 
    A refusal is one of the numbers below; 0 is none. refusal_text says it in words. */
 #ifndef HANDHELD_H
@@ -58,8 +60,8 @@ enum {
 enum {
     DECK_TOLD_NUMBER,
     DECK_TOLD_LINE,
-    DECK_TOLD_LENGTH,    /* of the code, constants included, in bytes */
-    DECK_TOLD_OFFSET,    /* where constants start; the length where there are none */
+    DECK_TOLD_LENGTH,    /* of the code, constants and the nop before them included, in bytes */
+    DECK_TOLD_OFFSET,    /* where constants start, a multiple of 8; the length where there are none */
     DECK_TOLD_CONSTANTS, /* how many */
     DECK_TOLD_JUMPS,
     DECK_TOLD_FRAME,     /* 0 fast, 1 indirect */
@@ -67,7 +69,8 @@ enum {
 };
 
 /* A deck file's routine into buf, from its first byte on, with zeros behind it; a refused file leaves
-   zeros. Answers the number. */
+   zeros. Where it has constants and the code before them does not end at a multiple of 8, one nop
+   (0x00000013, never run) stands between. It is copied to a multiple of 8. Answers the number. */
 uint32_t deck_emit(const uint8_t *file, size_t file_length, uint8_t *buf, size_t buf_length,
                    uint32_t told[DECK_TOLD]);
 
@@ -101,7 +104,7 @@ uint32_t code_listing(const uint8_t *code, size_t code_length, size_t offset, ui
 /* What deck_listing and deck_view tell. */
 enum {
     DECK_LISTED_LINE,   /* of the refusal; 0 where there is none */
-    DECK_LISTED_LENGTH, /* of the code, constants included, in bytes; 0 where the file is refused */
+    DECK_LISTED_LENGTH, /* of the code, as DECK_TOLD_LENGTH, in bytes; 0 where the file is refused */
     DECK_LISTED_TEXT,   /* how long the text is; 0 where out is too short, which is then as it was */
     DECK_LISTED
 };
@@ -153,13 +156,17 @@ enum {
    268,435,455, so that its offset, 8 times the index, is at most 0x7FFFFFFF, and a larger one is
    DECK_VALUE. DECK_COUNT comes for k of load_const alone, above 1,007; DECK_BASE and DECK_UNSAVED
    never come. Of two refusals the first of these is answered: DECK_LINE, DECK_CLOSED, DECK_REGISTER,
-   DECK_LABEL, DECK_VALUE, DECK_COUNT, DECK_TWICE, DECK_FULL. */
+   DECK_LABEL, DECK_VALUE, DECK_COUNT, DECK_TWICE, DECK_FULL. What the words do is proved where the cell or
+   constant that they access is at a multiple of 8. */
 uint32_t order_emit(const uint8_t *line, size_t line_length, uint32_t tag, uint8_t *buf, size_t buf_length,
                     uint64_t labels[DECK_LABELS], uint32_t jumps[DECK_JUMPS], uint64_t record[ORDER_RECORD]);
 
 /* The constant that a line `float` or `bits` of a deck file says, byte 10 included, as constant k, the
    one that load_const of k loads. Its 8 bytes go behind those written, and are no code: constants
-   belong behind the last order. Refused with the first of these that holds, which changes nothing:
+   belong behind the last order. Nothing is put before them: they are to be added at a length that is a
+   multiple of 8, else nothing is promised of a load_const of them. At any other length the caller appends a nop
+   first: the word 0x00000013 into the buffer behind the bytes written, and 4 more in ORDER_LENGTH (to_eights in
+   examples/c/main.c). Refused with the first of these that holds, which changes nothing:
    DECK_LINE (any other line), DECK_CLOSED, DECK_VALUE (a float beyond 2^53, or the record), DECK_COUNT
    (k above 1,007), DECK_TWICE (constant k is there already), DECK_FULL. Answers the number. */
 uint32_t order_constant(const uint8_t *line, size_t line_length, uint32_t k, uint8_t *buf, size_t buf_length,

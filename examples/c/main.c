@@ -118,6 +118,16 @@ static void lay_constant(const char *line, uint32_t k, uint64_t record[ORDER_REC
     reason(number);
 }
 
+/* A nop where the next byte would not be at a multiple of 8: constants are to stand there. */
+static void to_eights(uint64_t record[ORDER_RECORD]) {
+    static const uint8_t nop[4] = {0x13};
+    uint64_t length = record[ORDER_LENGTH];
+    if (length % 8 == 0 || length + sizeof nop > sizeof code) return;
+    memcpy(code + length, nop, sizeof nop);
+    record[ORDER_LENGTH] += sizeof nop;
+    printf("a nop at %" PRIu64 "\n", length);
+}
+
 /* Orders, and behind them the constants that they load, each with its number among the constants. */
 static void by_hand(const char *const *lines, uint32_t count, const char *const *constants, uint32_t constant_count) {
     uint64_t record[ORDER_RECORD] = {0};
@@ -125,6 +135,7 @@ static void by_hand(const char *const *lines, uint32_t count, const char *const 
     memset(code, 0, sizeof code);
     memset(labels, 0, sizeof labels);
     for (uint32_t i = 0; i < count; i++) lay(lines[i], i + 1, record);
+    if (constant_count) to_eights(record);
     for (uint32_t k = 0; k < constant_count; k++) lay_constant(constants[k], k, record);
     uint32_t number = order_finish(code, sizeof code, labels, jumps, record, told);
     printf("%" PRIu32 " finish: place %" PRIu32 ", tag %" PRIu32 ", length %" PRIu64 ", jumps %" PRIu64 ", closed %" PRIu64 "\n",

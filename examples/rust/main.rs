@@ -165,7 +165,18 @@ mod handheld {
             }
         }
 
-        /// The constant that a line says, as constant k.
+        /// A nop where the next byte would not be at a multiple of 8: constants are to stand there. Its place, if there is one.
+        pub fn to_eights(&mut self) -> Option<usize> {
+            let at = self.record[0] as usize;
+            if at % 8 == 0 || at + 4 > self.buf.len() {
+                return None;
+            }
+            self.buf[at..at + 4].copy_from_slice(&0x00000013u32.to_le_bytes());
+            self.record[0] += 4;
+            Some(at)
+        }
+
+        /// The constant that a line says, as constant k. To be called at a length that is a multiple of 8.
         pub fn constant(&mut self, line: &[u8], k: u32) -> u32 {
             unsafe {
                 c::order_constant(
@@ -286,6 +297,11 @@ fn by_hand(lines: &[&str], constants: &[&str]) {
     let mut orders = handheld::Orders::new();
     for (i, line) in lines.iter().enumerate() {
         lay(&mut orders, line, i as u32 + 1);
+    }
+    if !constants.is_empty() {
+        if let Some(at) = orders.to_eights() {
+            println!("a nop at {at}");
+        }
     }
     for (k, line) in constants.iter().enumerate() {
         lay_constant(&mut orders, line, k as u32);

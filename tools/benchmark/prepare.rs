@@ -73,6 +73,9 @@ fn read_deck(r: &mut RiscV, registers: &[Reg; 32], text: &str) {
     } else {
         r.epilogue_indirect(cap, states, obs, last);
     }
+    if !values.is_empty() {
+        to_eights(r);
+    }
     r.add_consts(&values);
     r.apply_jumps();
 }
@@ -187,6 +190,7 @@ fn ends(name: &str, n: Vec<i64>) -> Step {
             let mask = used(n[0]);
             Box::new(move |r| r.load_used_registers(&mask))
         }
+        "to_eights" => Box::new(to_eights),
         "add_consts" => {
             let values: Vec<f64> = n.chunks(2).map(|h| double(h[0], h[1])).collect();
             Box::new(move |r| r.add_consts(&values))

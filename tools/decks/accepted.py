@@ -3,7 +3,7 @@
 `accepted()` gives (bytes, size of the buffer). The scratch of `frac` and `sign` is f11, the one that the Rust has."""
 import random
 
-from generate import CELL, full, good, jumpy, large, line, long_file, rich, text
+from generate import CELL, ends, filled, full, good, jumpy, large, line, long_file, rich, text
 from reference import CODE, orders, routine
 
 SEED = 20261115
@@ -113,6 +113,65 @@ def labels():
     yield from (rich(r) for _ in range(20))
 
 
+FLOAT, BITS = "float,1\n", "bits,3ff0000000000000\n"
+ONE, TWO = "fast,0,1,0,0,0\n", "fast,0,2,0,0,0\n"
+LOAD, GET = "load_const,0,0\n", "get,0,mem,0\n"
+# Document 02, point 7, by hand: a deck, its length, where its constants start (its end, where it has none), and where the `nop` stands.
+EIGHTS = [
+    ([ONE], 84, 84, None),
+    ([ONE, FLOAT], 96, 88, 84),
+    ([ONE, BITS], 96, 88, 84),
+    ([ONE, FLOAT, BITS], 104, 88, 84),
+    ([ONE, FLOAT * 3], 112, 88, 84),
+    ([TWO], 88, 88, None),
+    ([TWO, FLOAT], 96, 88, None),
+    ([TWO, FLOAT, BITS], 104, 88, None),
+    ([ONE, GET], 88, 88, None),
+    ([ONE, FLOAT, GET], 96, 88, None),
+    ([ONE, LOAD, FLOAT], 104, 96, 92),
+    ([ONE, FLOAT, LOAD], 104, 96, 92),
+    ([ONE, GET, LOAD, FLOAT], 104, 96, None),
+    ([ONE, LOAD, "load_const,1,1\n", FLOAT * 2], 120, 104, 100),
+    ([ONE, "branch,0,7,1\n", FLOAT, "label,7\n"], 112, 104, 100),
+    ([TWO, "branch,0,7,1\n", "label,7\n", FLOAT], 112, 104, None),
+    (["fast,16,1,0,0,256\n", FLOAT], 104, 96, 92),
+    (["indirect,0,0,0,0,0\n", BITS], 136, 128, None),
+    (["indirect,0,1,0,0,0\n"], 156, 156, None),
+    (["indirect,0,1,0,0,0\n", "float,-3\n"], 168, 160, 156),
+    (["indirect,16,2,1,1,0\n", LOAD, "float,-3\n"], 232, 224, 220),
+]
+# The same at the end of a whole buffer: bytes of code, constants, length.
+BRINKS = [(65536, 0, 65536), (65532, 0, 65532), (65528, 1, 65536), (65524, 0, 65524), (65524, 1, 65536), (65520, 1, 65528),
+          (65520, 2, 65536), (65516, 1, 65528), (65516, 2, 65536), (65512, 3, 65536), (65508, 3, 65536), (65508, 2, 65528)]
+
+
+def filled_to(head, size, constants):
+    """A deck of so many bytes of code, and constants."""
+    before, behind, _ = ends(head)
+    return [*filled(head, size // 4, before + behind), *[FLOAT] * constants]
+
+
+def worked(lines, size, length, offset, nop):
+    """The deck, of which the reference must say what was worked out."""
+    told = routine(text(lines), size)
+    place = offset - 4 if told.constants and told.words[offset // 4 - 1] == 0x13 else None
+    assert (4 * len(told.words), told.offset, place) == (length, offset, nop), lines[:9]
+    return lines, size
+
+
+def eights():
+    """Each in the whole buffer, in one just long enough, and in some of up to 8 bytes more."""
+    for lines, length, offset, nop in EIGHTS:
+        for size in (CODE, length, length + 1, length + 3, length + 7, length + 8 - length % 8):
+            yield worked(lines, size, length, offset, nop)
+    for size in range(97, 104):
+        yield worked([ONE, FLOAT], size, 96, 88, 84)
+    for head in (("fast", 300, 1, 0, 0, 0), ("indirect", 300, 2, 1, 1, 0)):
+        for code, constants, length in BRINKS:
+            offset = length - 8 * constants
+            yield worked(filled_to(head, code, constants), CODE, length, offset, code if offset > code else None)
+
+
 def accepted():
     r, rows = random.Random(SEED), []
     for head in HEADS:
@@ -122,6 +181,7 @@ def accepted():
     for i in range(160):
         rows.append((good(r, scratch=11, without=("sign",) if i % 4 else (), count=r.choice([5, 15, 30]), backward=True), CODE))
     rows += [(lines, CODE) for lines in labels()]
+    rows += eights()
     seen, told = set(), []
     for lines, size in rows:
         deck = text(lines)

@@ -3,8 +3,9 @@
 
     fresh.py SEED COUNT | target/bin/test_decks
 
-Unlike `deckwords`, the program lends buffers of any size: one in five here isn't 65,536 bytes. Behind them come a quarter as many decks
-that are rich in labels: the rows have the list of labels that nobody jumps to.
+Unlike `deckwords`, the program lends buffers of any size: one in five here isn't 65,536 bytes, and every accepted deck with constants is
+tried again in one around its own length, where the `nop` before them may lack room. Behind them come a quarter as many decks that are
+rich in labels: the rows have the list of labels that nobody jumps to.
 """
 import random
 import sys
@@ -21,15 +22,28 @@ def answer_row(deck, size):
         return refused_row(r.number, r.line, size)
 
 
+def told(deck, size):
+    sys.stdout.write("".join(deck_rows(deck)) + answer_row(deck, size))
+
+
+def around(deck, r):
+    """A size around the length of an accepted deck with constants; none of others."""
+    try:
+        made = routine(deck)
+    except Refused:
+        return []
+    return [4 * len(made.words) - r.choice([-1, 0, 1, 4, 8 * made.constants, 8 * made.constants + 4])] if made.constants else []
+
+
 def main():
     seed, count = map(int, sys.argv[1:])
     r = random.Random(f"sizes {seed}")
     for deck in decks(seed, count):
         size = r.choice([0, 3, 4, 300, 500, 65535, 65537, 70000, r.randint(0, 3000)]) if r.random() < 0.2 else CODE
-        sys.stdout.write("".join(deck_rows(deck)) + answer_row(deck, size))
+        for room in (size, *around(deck, r)):
+            told(deck, room)
     for _ in range(count // 4):
-        deck = text(rich(r))
-        sys.stdout.write("".join(deck_rows(deck)) + answer_row(deck, CODE))
+        told(text(rich(r)), CODE)
 
 
 if __name__ == "__main__":

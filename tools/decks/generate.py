@@ -219,7 +219,7 @@ def filled(head, words, first=0):
 
 
 def full(r, spare=0, head=None):
-    """A deck whose code ends `spare` words before the buffer's end (behind it, where that is negative)."""
+    """A deck whose code ends `spare` words before the buffer's end (behind it, where that is negative), a `nop` before constants apart."""
     head = head or (r.choice(["fast", "indirect"]), r.choice([257, 300]), r.randint(0, 8), r.randint(1, 40), 0, some_mask(r))
     before, behind, _ = ends(head)
     constants = r.choice([0, 0, 1, 5])

@@ -3,10 +3,10 @@
 
     record.py RUSTDIR [--out crates/test_decks] [--check]
 
-Accepted decks come from accepted.py; their words are the Rust's, built unchanged from RUSTDIR behind tools/oracle's driver. The Rust's
-`sign` has other words than document 01's (docs/DIFFERENCES.md): where a deck has the order, the driver has document 01's words for it, and
-the deck's row says so. Refused decks come from refused.py, with document 01's numbers. reference.py, a third writing of document 01, must
-agree with both.
+Accepted decks come from accepted.py; their words are the Rust's, built unchanged from RUSTDIR behind tools/oracle's driver, which appends
+document 02's `nop` before constants where the Rust's length is no multiple of 8. The Rust's `sign` has other words than document 01's
+(docs/DIFFERENCES.md): where a deck has the order, the driver has document 01's words for it, and the deck's row says so. Refused decks
+come from refused.py, with document 01's numbers. reference.py, a third writing of document 01, must agree with both.
 
 A row has 128 bytes: a letter, numbers of eight hexadecimal digits, text, spaces, byte 10.
     d times count text              count bytes more of the deck, so many times; a tilde is a line's end

@@ -1,6 +1,6 @@
 #!/usr/bin/env python3
 """Document 01 once more, independent of the proved code: from a deck file's bytes to its words, or to number and line of its refusal; and
-of document 02's point 2 the labels that nobody jumps to.
+of document 02 point 2, the labels that nobody jumps to, and point 7, constants on eights.
 
     reference.py [--buffer BYTES] < FILE        prints what `deckwords` prints
     reference.py --labels < FILE                prints what `decklabels` prints
@@ -282,9 +282,15 @@ def routine(file, size=CODE):
     return close(code, h, constants, len(lines), body, at)
 
 
+def padding(length, constants):
+    """Document 02, point 7: one `nop` before constants that would start at no multiple of 8."""
+    return [addi(ZERO, ZERO, 0)] if constants and length % 8 else []
+
+
 def close(code, h, constants, last, body, at):
     """All that follows the body, and finishing."""
     code.place([*reloads(h), *epilogue(h)], last)
+    code.place(padding(4 * len(code.words), constants), last)
     offset = 4 * len(code.words)
     for k, c in enumerate(constants):
         code.place([("label", CONST + k), c % 2**32, c >> 32], last)

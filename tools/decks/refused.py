@@ -2,6 +2,7 @@
 beside it (of document 01, or a point of docs/DECISIONS.md), and never computed by a reader of decks.
 
 `refused()` gives (bytes, number, line, size of the buffer, sentence)."""
+from accepted import FLOAT, GET, LOAD, ONE, TWO, filled_to
 from generate import CELL, PLACES, ends, filled, line, text
 from reference import CODE, FIELDS, orders
 
@@ -30,6 +31,7 @@ UNSET = "number 5: a jump's label has no place at finishing"
 NO_CONSTANT = "decision 10: no such constant is 5 at its line"
 SAVED = "count: cap at least 16 if the mask has a preserved register"
 MALFORMED = "decision 7: a malformed field gives 12 before any other field's size"
+EIGHTS = "02, point 7: one nop before the constants; code after the body that doesn't fit is placed at the last line"
 
 
 def swapped(told, at, word):
@@ -207,6 +209,30 @@ def rooms(out):
         out.whole([line(*head), "minus,1,2,32\n"], 1, 2, FIRST, 4 * before)
 
 
+def eights(out):
+    """The `nop` before constants needs room too: a deck, the bytes of its code, of all, the line that has 5 where there is room, or 0."""
+    rows = [([ONE, FLOAT], 84, 96, 0), ([ONE, FLOAT, FLOAT], 84, 104, 0), ([TWO, FLOAT], 88, 96, 0), ([ONE, LOAD, FLOAT], 92, 104, 0),
+            ([ONE, GET, LOAD, FLOAT], 96, 104, 0), (["indirect,0,1,0,0,0\n", FLOAT], 156, 168, 0),
+            ([ONE, "branch,0,0,0\n", FLOAT], 100, 112, 2), ([ONE, FLOAT, "branch,0,0,0\n"], 100, 112, 3),
+            ([TWO, "branch,0,0,0\n", FLOAT], 104, 112, 2), ([ONE, "load_const,0,1\n", FLOAT], 92, 104, 2), ([ONE, LOAD], 92, 92, 2)]
+    for lines, code, length, unset_at in rows:
+        for size in range(code, length):
+            out.whole(lines, 7, len(lines), EIGHTS if code % 8 else BEHIND, size)
+        out.whole(lines, 7, len(lines), BEHIND, code - 1)
+        if unset_at:
+            for size in (length, length + 1, length + 8, CODE):
+                out.whole(lines, 5, unset_at, UNSET, size)
+    for head in (("fast", 300, 1, 0, 0, 0), ("indirect", 300, 2, 1, 1, 0)):
+        for code, constants in ((65536, 1), (65532, 1), (65528, 2), (65524, 2), (65516, 3), (65512, 4), (65508, 4)):
+            lines = filled_to(head, code, constants)
+            out.whole(lines, 7, len(lines), BEHIND)
+        # 5 of a label that is set nowhere comes where all fits
+        before, after, _ = ends(head)
+        for code, number in ((65524, 5), (65528, 5), (65532, 7), (65536, 7)):
+            lines = [*filled(head, code // 4, before + after + 4), "branch,1,9,0\n", FLOAT]
+            out.whole(lines, number, len(lines) - (number == 5), "decision 13: 7 at the last line, before any 5")
+
+
 def jumps(out):
     most = "number 7: the jump doesn't fit (at most 4,096 jumps)"
     # the prologue has 0, 1 or 2 jumps, and each line here two
@@ -310,7 +336,7 @@ def several(out):
 
 def refused():
     out = List()
-    for part in (registers, values, labels, unset, unsaved, cells, counts, rooms, jumps, files, forms, heads, odd_fields, several):
+    for part in (registers, values, labels, unset, unsaved, cells, counts, rooms, eights, jumps, files, forms, heads, odd_fields, several):
         part(out)
     seen, rows = set(), []
     for row in out.rows:

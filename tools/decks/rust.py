@@ -1,4 +1,5 @@
-"""The Rust's side of a deck: its functions called in document 01's sequence, through the driver in tools/oracle."""
+"""The Rust's side of a deck: its functions called in document 01's sequence, through the driver in tools/oracle. Before `add_consts` the
+driver appends document 02's `nop` where the Rust's own length is no multiple of 8."""
 import pathlib
 import struct
 import sys
@@ -38,7 +39,7 @@ def steps(file):
     told += [step(name, v) for name, v in body if name not in ("float", "bits")]
     told += [("load_used_registers", mask), (f"epilogue_{frame}", cap, states, obs, last)]
     if bits:
-        told.append(("add_consts", *(half for b in bits for half in (b % 2**32, b >> 32))))
+        told += [("to_eights",), ("add_consts", *(half for b in bits for half in (b % 2**32, b >> 32)))]
     told.append(("apply_jumps",))
     return ";".join(" ".join(map(str, t)) for t in told), sum(name == "sign" for name, _ in body)
 

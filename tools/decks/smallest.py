@@ -9,7 +9,7 @@ that lines of so many bytes have is counted (some twenty kinds, each as often as
 """
 from reference import orders, routine
 
-WORDS, JUMPS = 16384, 4096
+WORDS, JUMPS, NOP = 16384, 4096, 0x13
 NAMES = orders.names("unary", "scratched", "binary", "fused")
 REGISTERS = [",".join([name, *"0" * (len(orders.FIELDS[name]) - 1), last]) for name in NAMES for last in "01"]
 CELLS = [f"{n},0,{p},{i}" for n in ("get", "put") for p in ("mem", "stack", "param") for i in (0, 256)]
@@ -21,7 +21,9 @@ SAVED = [8, 9, *range(18, 28)]
 
 
 def words(lines):
-    return len(routine("".join(line + "\n" for line in lines).encode()).words)
+    """Without the `nop` before constants: 16,384 is even, so with it no more files have too many."""
+    told = routine("".join(line + "\n" for line in lines).encode())
+    return len(told.words) - (told.constants > 0 and told.words[told.offset // 4 - 1] == NOP)
 
 
 def most(lines, limit):

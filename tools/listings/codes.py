@@ -53,18 +53,19 @@ REFUSED_EXAMPLES = [
     (code_of([NOP]) + b"\x13\0", 6, 2, 0, BEFORE),
 ]
 
-# Document 01's sample, whose 21 words are its `fast,0,1,0,0,0`; and a routine with a constant (`load_const`, `minus`, `put`, `float,3`).
+# Document 01's sample, whose 21 words are its `fast,0,1,0,0,0`; and a routine with a constant (`load_const`, `minus`, `put`, `float,3`),
+# before which a `nop` stands.
 SAMPLE = [int(w, 16) for w in """
     fe010113 00113023 00813423 00913823 01513c23 00010433 ff010113 000104b3 ff010113 00010ab3 00a4b027
     00000513 0004b507 00040133 00013083 00813403 01013483 01813a83 02010113 00a54533 00008067""".split()]
-CONSTANT = [*SAMPLE[:11], 0x00000297, 0x0382B087, 0x0A157553, 0x00A4B027, *SAMPLE[11:], 0x00000000, 0x40080000]
+CONSTANT = [*SAMPLE[:11], 0x00000297, 0x03C2B087, 0x0A157553, 0x00A4B027, *SAMPLE[11:], NOP, 0x00000000, 0x40080000]
 
 
 def accepted():
     """Words and the constants' offset."""
     yield from ((words, at) for words, at, _ in ACCEPTED_EXAMPLES)
     yield SAMPLE, 84
-    yield CONSTANT, 100
+    yield CONSTANT, 104
     for at in range(0, 24, 4):  # the constants may start at every word, and at the end
         yield GOOD, at
     yield [NOP, *BAD], 4  # words of no instruction, at the constants' offset and behind it

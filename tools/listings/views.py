@@ -41,6 +41,7 @@ def data(at, *halves):
 # ---- worked examples
 
 HEAD = "fast,0,2,0,0,0\n"  # its code has 88 bytes, and `load_const` 8
+ODD = "fast,0,1,0,0,0\n"  # its code has 84, so that a `nop` comes before constants
 POINTER = "bits,0000004000001234\n"
 NEITHER = data(88, HYPHENS, HYPHENS)
 EXAMPLES = [
@@ -68,6 +69,11 @@ EXAMPLES = [
      data(88, *[HYPHENS] * 2000, *["00000000", "40080000"] * 8)),
     (HEAD + "float,3\n" * 1000 + POINTER * 8, data(88, *["00000000", "40080000"] * 1000, *["00001234", "00000040"] * 8),
      data(88, *["00000000", "40080000"] * 1000, *[HYPHENS] * 16)),
+    (ODD + POINTER, data(88, "00001234", "00000040"), NEITHER),
+    (ODD + "bits,0000001300000013\n", data(88, "00000013", "00000013"), NEITHER),  # the word of a `nop`, in a constant
+    (ODD + "load_const,0,1\nfloat,3\n" + POINTER, data(96, "00000000", "40080000", "00001234", "00000040"),
+     data(96, "00000000", "40080000", HYPHENS, HYPHENS)),
+    (ODD + "load_const,0,1\n" + POINTER, "refused,5,2\n", None),
 ]
 
 

@@ -4,24 +4,30 @@
     python3 tools/machine_table/make_rows.py            write Rows.antt anew
     python3 tools/machine_table/make_rows.py --check    only say whether Rows.antt is what would be written
     python3 tools/machine_table/make_rows.py --count    rows by instruction
+    python3 tools/machine_table/make_rows.py --machine  compare the rows with tools/decks/machine.py, a machine of ours
 
 Needs Debian's gcc-riscv64-linux-gnu, binutils-riscv64-linux-gnu and qemu-user. The rows were made with
 qemu-riscv64 7.2.22 (Debian 1:7.2+dfsg-7+deb12u18), GNU as 2.40 and gcc 12.2.0.
 
 Each test is one instruction in assembler text with the values of some registers and one cell. GNU as gives the word, and
 harness.c (built here, run by qemu-riscv64) runs it once and says what all registers, the rounding mode, the pc and memory are
-then. Nothing is computed here: a row's right side is what the outside machine gave. Two short lists are not run: words that are
-no instruction of ours (`NOT`; docs/DECISIONS.md, 51: they have no next state), and what float instructions ask of any `Floats`
-(`ASKED`; the Manual says it).
+then. Nothing is computed here: a row's right side is what the outside machine gave. Three short lists are not run: words that are
+no instruction of ours (`NOT`; docs/DECISIONS.md, 51: they have no next state), accesses at no multiple of 8 (`TRAPPED`; document 02,
+point 7, says that they have none either; qemu does them), and what float instructions ask of any `Floats` (`ASKED`; the Manual
+says it).
 """
 import collections
 import pathlib
+import re
 import struct
 import subprocess
 import sys
 import tempfile
 
 HERE = pathlib.Path(__file__).resolve().parent
+sys.path.insert(0, str(HERE.parent / "decks"))
+from machine import DO, Bytes, Machine, Stopped  # noqa: E402
+
 TARGET = HERE.parent.parent / "crates" / "machine" / "proofs" / "Rows.antt"
 
 PC = 0x40400000
@@ -171,14 +177,14 @@ test("jalr x1, -2048(x6)", {6: 2048 + 68})
 
 # ---------------------------------------------------------------- loads and stores
 
-group("memory", "Loads and stores: the cell is what is read or written, at any address.")
+group("memory", "Loads and stores: the cell is what is read or written, at any multiple of 8.")
 OLD = 0x1122334455667788
 for op, r in [("ld", "x5"), ("fld", "f5")]:
     test(f"{op} {r}, 0(x6)", {6: CELL + 16}, cell=(CELL + 16, MIX))
     test(f"{op} {r}, -2048(x6)", {6: CELL + 2048 + 8}, cell=(CELL + 8, OLD))
     test(f"{op} {r}, 2047(x6)", {6: CELL + 1}, cell=(CELL + 2048, MIX))
-    test(f"{op} {r}, 2047(x6)", {6: CELL + 6}, cell=(CELL + 2053, OLD))
-    test(f"{op} {r}, -1(x6)", {6: CELL + 4096 + 4}, cell=(CELL + 4096 + 3, ONES - 1))
+    test(f"{op} {r}, 2047(x6)", {6: CELL + 9}, cell=(CELL + 2056, OLD))
+    test(f"{op} {r}, -1(x6)", {6: CELL + 4096 + 1}, cell=(CELL + 4096, ONES - 1))
     test(f"{op} {r}, 48(x0)", cell=(48, MIX))
     test(f"{op} {r}, 16(x6)", {6: TOP - 8}, cell=(8, OLD))
     test(f"{op} {r}, -8(x6)", {6: 24}, cell=(16, PAYLOAD))
@@ -188,14 +194,14 @@ test("fld f0, 0(x31)", {31: CELL + 16}, cell=(CELL + 16, SIGNALLING))
 for op, r in [("sd", "x7"), ("fsd", "f7")]:
     new = {"x": {}, "f": {}}
     new[r[0]] = {7: MIX}
-    for n, base, at in [(0, 16, 16), (-2048, 2056, 8), (2047, 1, 2048), (2047, 6, 2053), (-1, 4100, 4099), (8, 3, 11)]:
+    for n, base, at in [(0, 16, 16), (-2048, 2056, 8), (2047, 1, 2048), (2047, 9, 2056), (-1, 4097, 4096), (5, 3, 8)]:
         test(f"{op} {r}, {n}(x6)", {6: CELL + base, **new["x"]}, new["f"], cell=(CELL + at, OLD))
     test(f"{op} {r}, 48(x0)", new["x"], new["f"], cell=(48, OLD))
     test(f"{op} {r}, 16(x6)", {6: TOP - 8, **new["x"]}, new["f"], cell=(8, OLD))
 test("sd x0, 0(x6)", {6: CELL + 16}, cell=(CELL + 16, OLD))
-test("sd x6, -5(x6)", {6: CELL + 16}, cell=(CELL + 11, OLD))
+test("sd x6, -5(x6)", {6: CELL + 21}, cell=(CELL + 16, OLD))
 test("fsd f0, 0(x6)", {6: CELL + 16}, {0: SIGNALLING}, cell=(CELL + 16, OLD))
-test("fsd f31, 3(x6)", {6: CELL + 16}, {31: NZERO}, cell=(CELL + 19, OLD))
+test("fsd f31, 3(x6)", {6: CELL + 13}, {31: NZERO}, cell=(CELL + 16, OLD))
 
 group("parts", "Loads of a part of the cell and of bytes beside it.")
 for op, r in [("ld", "x5"), ("fld", "f5")]:
@@ -351,6 +357,33 @@ NOT = [
 # at a pc that is a multiple of 4, and the word of an instruction at one that isn't
 NOT = [(t, PC) for t in NOT] + [("add x5, x6, x7", PC + k) for k in (1, 2, 3)]
 
+# ---------------------------------------------------------------- accesses that trap
+
+# Not run: qemu does an access at any address. That these have no next state is what document 02 says: text, and what x6 holds.
+TRAPPED = []
+for op, r in [("ld", "x5"), ("sd", "x7"), ("fld", "f5"), ("fsd", "f7")]:
+    # every distance from a multiple of 8, by the base alone
+    TRAPPED += [(f"{op} {r}, 0(x6)", CELL + 16 + k) for k in range(1, 8)]
+    # by the offset alone
+    TRAPPED += [(f"{op} {r}, {n}(x6)", CELL + 2048) for n in (1, 4, 7, -1, -4, 2044, 2047, -2047)]
+    # by both
+    TRAPPED += [(f"{op} {r}, {n}(x6)", CELL + base) for n, base in [(2047, 6), (-2048, 2052), (-1, 4100), (8, 3)]]
+    # at and around 2^64
+    round_the_top = [(0, ONES), (0, TOP - 4), (0, TOP - 7), (12, TOP - 8), (2, ONES), (-8, 4), (-2048, 1)]
+    TRAPPED += [(f"{op} {r}, {n}(x6)", x6) for n, x6 in round_the_top]
+    TRAPPED += [(f"{op} {r}, 0(x6)", MIN + 4), (f"{op} {r}, 4(x0)", CELL), (f"{op} {r}, -4(x0)", CELL)]
+TRAPPED += [("ld x0, 4(x6)", CELL), ("ld x6, 4(x6)", CELL), ("sd x0, 4(x6)", CELL), ("sd x6, 4(x6)", CELL)]
+TRAPPED += [("fld f0, 4(x6)", CELL), ("ld x5, 0(x6)", 0x1001)]
+
+
+def address(text, x6):
+    offset, base = re.search(r"(-?[0-9]+)\(x([06])\)", text).groups()
+    return (int(offset) + (x6 if base == "6" else 0)) % TOP
+
+
+if not all(address(*t) % 8 for t in TRAPPED):
+    sys.exit("an access at a multiple of 8 does not trap")
+
 
 # ---------------------------------------------------------------- what float instructions ask of `Floats`
 
@@ -423,6 +456,30 @@ def run(tests, words, folder):
     return out
 
 
+def on_ours(word, pc, x, f, rm, cell):
+    """One step of tools/decks/machine.py, as harness.c tells of one; None where there is no next state."""
+    memory = Bytes()
+    memory.store(cell[0], cell[1].to_bytes(8, "little"))
+    memory.store(pc, word.to_bytes(4, "little"))
+    ours = Machine(memory, pc, [x.get(r, plain_x(r)) if r else 0 for r in range(32)], [f.get(r, plain_f(r)) for r in range(32)], rm)
+    try:
+        ours.step()
+    except Stopped:
+        return None
+    return [ours.pc, ours.mode, cell[0], int.from_bytes(memory.read(cell[0], 8), "little"), *ours.x[1:], *ours.f]
+
+
+def compare(tests, words, outs):
+    """Our machine's steps with the outside one's; those of NOT and TRAPPED must be none."""
+    known = [(t, w, out) for t, w, out in zip(tests, words, outs) if t.text.split()[0] in DO]
+    wrong = [t.text for t, w, out in known if on_ours(w, t.pc, t.x, t.f, t.rm, t.cell) != out]
+    starts = [(w, pc, {}) for (_, pc), w in zip(NOT, words[len(tests) :])]
+    starts += [(w, PC, {6: x6}) for (_, x6), w in zip(TRAPPED, words[len(tests) + len(NOT) :])]
+    wrong += [f"{w:#010x}" for w, pc, x in starts if on_ours(w, pc, x, {}, 0, (CELL, 0)) is not None]
+    print(f"{len(known)} rows of {len(tests)}, {len(starts)} without a next state: differ {len(wrong)}", *wrong[:5])
+    sys.exit(len(wrong) > 0)
+
+
 def number(v):
     return str(v) if v < 10000 else f"{v:#x}"
 
@@ -472,16 +529,18 @@ def main():
     count = collections.Counter(t.text.split()[0] for t in tests)
     if set(count) != set(OPERATIONS):
         sys.exit("not the instructions of isa")
-    if not set(sys.argv[1:]) <= {"--check", "--count"}:
+    if not set(sys.argv[1:]) <= {"--check", "--count", "--machine"}:
         sys.exit(__doc__)
     if "--count" in sys.argv:
         print(" ".join(f"{k} {n}" for k, n in sorted(count.items())), "| total", sum(count.values()))
         return
     asked = [(k, *a) for k in ASKED for a in ASKED[k]]
-    texts = [t.text for t in tests] + [t for t, _ in NOT] + [a[1] for a in asked]
+    texts = [t.text for t in tests] + [t for t, _ in NOT + TRAPPED] + [a[1] for a in asked]
     with tempfile.TemporaryDirectory() as folder:
         words = words_of(texts, pathlib.Path(folder))
         outs = run(tests, words, pathlib.Path(folder))
+    if "--machine" in sys.argv:
+        compare(tests, words, outs)
     text = HEAD
     rows = iter(zip(tests, words, outs))
     for name, comment, ts in groups:
@@ -495,6 +554,12 @@ def main():
         text += f"    -- {t}\n    {'∷ ' if k else ''}({w:#010x}, {pc:#x})\n"
     text += "    ∷ []\n"
     rest = iter(words[len(tests) + len(NOT) :])
+    text += "\n-- Loads and stores at no multiple of 8, and what x6 holds, the base of nearly all: there is no next state. "
+    text += "By document 02, point 7,\n"
+    text += "-- not by the outside machine, which doesn't trap.\nunfoldable pub trapped : List (ℕ × ℕ)\ntrapped =\n"
+    for k, (t, x6) in enumerate(TRAPPED):
+        text += f"    -- {t}\n    {'∷ ' if k else ''}({next(rest):#010x}, {number(x6)})\n"
+    text += "    ∷ []\n"
     for kind, name in [("f", "f5"), ("x", "x5")]:
         text += f"\n-- A word, the state's mode, and what {name} is then for any `Floats`: by the Manual, not by the outside machine.\n"
         text += f"unfoldable pub asked-{kind} : List (ℕ × ℕ × (Floats → ℕ))\nasked-{kind} =\n"
@@ -507,7 +572,7 @@ def main():
         sys.exit(0 if same else 1)
     TARGET.parent.mkdir(parents=True, exist_ok=True)
     TARGET.write_text(text)
-    print(len(tests), "rows,", len(NOT), "without a next state,", len(asked), "for any `Floats`")
+    print(len(tests), "rows,", len(NOT), "without a next state,", len(TRAPPED), "that trap,", len(asked), "for any `Floats`")
 
 
 main()

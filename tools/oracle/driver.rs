@@ -40,6 +40,13 @@ fn location(place: i64, idx: u32) -> Loc {
     }
 }
 
+// Document 02, point 7: one `nop` where the length so far is no multiple of 8. Constants follow.
+fn to_eights(a: &mut RiscV) {
+    if a.a.ip() % 8 != 0 {
+        a.a.append_word(0x00000013);
+    }
+}
+
 impl crate::Ask for crate::Oracle {
     fn ask(&self, line: &str) -> String {
         let config = Config::new(crate::runnable::CompilerType::RiscV, 0).unwrap();
@@ -68,6 +75,7 @@ fn do_step(a: &mut RiscV, name: &str, n: &[i64]) -> Option<u64> {
         "lo" => return Some(lo(n[0] as u32) as u64),
         "pad" => (0..n[0]).for_each(|_| a.a.append_word(0)),
         "append_word" => a.a.append_word(u(0)),
+        "to_eights" => to_eights(a),
         "append_quad" => a.append_quad(n[0] as u64 | (n[1] as u64) << 32),
         "set_label" | "label" => a.set_label(&label(n[0])),
         "apply_jumps" => a.apply_jumps(),

@@ -5,7 +5,7 @@ use mathlib.Core.List.{List, [], _∷_, _++_}
 use Prim.Native.Nat.{ℕ, _+_, _%_, _^_, _≤_, _<_}
 use native.Mathlib.Omega.{arith}
 use borrow.Author.Tests.{ltb-true, ltb-false}
-use lib.Dec.{T, eqb, ltb, leb, leb→le, le→leb}
+use lib.Dec.{T, eqb, ltb, leb, leb→le}
 use lib.IntN.{pos}
 use Rattle.isa.specs.Instr.{Instr, R, I, S, ADD, LD, FLD, FSD}
 use Rattle.machine.specs.Word.{w64, upd, load8, store8}
@@ -20,7 +20,7 @@ use Rattle.machine.proofs.Straight.{aligned, at-first, path-run}
 use Rattle.accesses.specs.Code.{li-code, point-code, access-code}
 use Rattle.accesses.specs.Fault.{offset-limit, access-fault, last-pair}
 use Rattle.accesses.specs.Stands.{Stands, Goes, behind, cell-at, with-t0}
-use Rattle.accesses.proofs.Then.{leads, through, behind-both}
+use Rattle.accesses.proofs.Then.{leads, leads-at, through, behind-both}
 use Rattle.base.proofs.Bools.{passed}
 use Rattle.accesses.proofs.LoadImmediate.{eight, li-runs}
 
@@ -64,7 +64,7 @@ module _ (Q : Floats) (s : State) (b n : ℕ) (hn : n ≤ offset-limit) where
       let x : ℕ → ℕ = setx (s .x) 5 (n % 2 ^ 64) in
       through Q is js s x (s .f) _
       (li-runs 5 (pos n) (omega arith) (omega arith) Q s)
-      (leads Q js _ _ (omega arith) tt (rw (point-x (s .x) b n e) (behind-both Q is js s x (s .f) _ (s .f) (s .mem))))
+      (leads Q js _ _ (omega arith) tt tt (rw (point-x (s .x) b n e) (behind-both Q is js s x (s .f) _ (s .f) (s .mem))))
 
   -- An access through t0 does what a direct one does: X on registers, and f and m.
   pub access-runs : (near : ℕ) (is : ℕ → ℕ → List Instr) (X : (ℕ → ℕ) → ℕ → ℕ) (f m : ℕ → ℕ) → b < 32 → (ltb n near ≡ false → eqb b 5 ≡ false)
@@ -84,36 +84,42 @@ module _ (Q : Floats) (s : State) (b n : ℕ) (hn : n ≤ offset-limit) where
 
 -- ---- direct accesses, at the address a
 
-module _ (Q : Floats) (s : State) (b n a : ℕ) (hb : b < 32) (hn : n < 2048) (e : w64 (getx s b + n) ≡ a) where
+module _ (Q : Floats) (s : State) (b n a : ℕ) (hb : b < 32) (hn : n < 2048) (e : w64 (getx s b + n) ≡ a) (h8 : a % 8 ≡ 0) where
   addr : w64 (getx s b + n % 2 ^ 64) ≡ a
   addr = wrap-r (getx s b) n ∙ e
 
+  even : w64 (getx s b + n % 2 ^ 64) % 8 ≡ 0
+  even = rw addr h8
+
   pub load-float-direct : (d : ℕ) → d < 32 → Stands (I FLD d b (pos n) ∷ []) s → Goes Q (I FLD d b (pos n) ∷ []) s (behind (I FLD d b (pos n) ∷ []) s (s .x) (upd (s .f) d (load8 (s .mem) a)) (s .mem))
   unfolding effect apply
-  load-float-direct d hd = leads Q _ s _ (omega arith) tt (rw addr)
+  load-float-direct d hd = leads-at Q _ s _ (omega arith, even, tt) tt (rw addr)
 
   pub load-int-direct : (d : ℕ) → d < 32 → Stands (I LD d b (pos n) ∷ []) s → Goes Q (I LD d b (pos n) ∷ []) s (behind (I LD d b (pos n) ∷ []) s (setx (s .x) d (load8 (s .mem) a)) (s .f) (s .mem))
   unfolding effect apply
-  load-int-direct d hd = leads Q _ s _ (omega arith) tt (rw addr)
+  load-int-direct d hd = leads-at Q _ s _ (omega arith, even, tt) tt (rw addr)
 
   pub save-float-direct : (d : ℕ) → d < 32 → Stands (S FSD b d (pos n) ∷ []) s → Goes Q (S FSD b d (pos n) ∷ []) s (behind (S FSD b d (pos n) ∷ []) s (s .x) (s .f) (store8 (s .mem) a (s .f d)))
   unfolding effect apply
-  save-float-direct d hd = leads Q _ s _ (omega arith) tt (rw addr)
+  save-float-direct d hd = leads-at Q _ s _ (omega arith, even, tt) tt (rw addr)
 
-module _ (Q : Floats) (s : State) (b n a a′ : ℕ) (hb : b < 32) (hn : n < 2040) (e : w64 (getx s b + n) ≡ a) (e′ : w64 (getx s b + (n + 8)) ≡ a′) (d : ℕ) (hd : d ≤ last-pair) where
+module _ (Q : Floats) (s : State) (b n a a′ : ℕ) (hb : b < 32) (hn : n < 2040) (e : w64 (getx s b + n) ≡ a) (e′ : w64 (getx s b + (n + 8)) ≡ a′) (d : ℕ) (hd : d ≤ last-pair) (h8 : a % 8 ≡ 0) (h8′ : a′ % 8 ≡ 0) where
   ahead : w64 (getx s b + (n + 8) % 2 ^ 64) ≡ a′
   ahead = wrap-r (getx s b) (n + 8) ∙ e′
 
+  pair-even : (w64 (getx s b + n % 2 ^ 64) % 8 ≡ 0) × (w64 (getx s b + (n + 8) % 2 ^ 64) % 8 ≡ 0)
+  pair-even = (even Q s b n a hb (omega arith) e h8, rw ahead h8′)
+
   pub load-pair-direct : Stands (I FLD d b (pos n) ∷ I FLD (d + 1) b (pos (n + 8)) ∷ []) s → Goes Q (I FLD d b (pos n) ∷ I FLD (d + 1) b (pos (n + 8)) ∷ []) s (behind (I FLD d b (pos n) ∷ I FLD (d + 1) b (pos (n + 8)) ∷ []) s (s .x) (upd (upd (s .f) d (load8 (s .mem) a)) (d + 1) (load8 (s .mem) a′)) (s .mem))
   unfolding effect apply
-  load-pair-direct = leads Q _ s _ (omega arith) tt (rw (addr Q s b n a hb (omega arith) e, ahead, eight (s .pc)))
+  load-pair-direct = leads-at Q _ s _ (omega (arith, pair-even .0, pair-even .1)) tt (rw (addr Q s b n a hb (omega arith) e h8, ahead, eight (s .pc)))
 
   -- the first store misses the second word
   pub save-pair-direct : Apart a 8 (next s) 4 → Stands (S FSD b d (pos n) ∷ S FSD b (d + 1) (pos (n + 8)) ∷ []) s → Goes Q (S FSD b d (pos n) ∷ S FSD b (d + 1) (pos (n + 8)) ∷ []) s (behind (S FSD b d (pos n) ∷ S FSD b (d + 1) (pos (n + 8)) ∷ []) s (s .x) (s .f) (store8 (store8 (s .mem) a (s .f d)) a′ (s .f (d + 1))))
   unfolding effect apply
   save-pair-direct h o =
       let is : List Instr = S FSD b d (pos n) ∷ S FSD b (d + 1) (pos (n + 8)) ∷ [] in
-      let p = addr Q s b n a hb (omega arith) e in
+      let p = addr Q s b n a hb (omega arith) e h8 in
       let q : execs Q is s ≡ behind is s (s .x) (s .f) (store8 (store8 (s .mem) a (s .f d)) a′ (s .f (d + 1))) = rw (p, ahead, eight (s .pc)) in
       rw (← q)
-      (path-run Q (Among (s .pc) 2) is s (omega arith) (at-first (s .pc) 1 (o .sound .pc), o .aligned, o .code .0, ((1, omega arith, refl), aligned s (o .aligned), rw p (load4-store (s .mem) a (s .f d) (next s) h ∙ o .code .1 .0), tt)))
+      (path-run Q (Among (s .pc) 2) is s (omega (arith, pair-even .0, pair-even .1)) (at-first (s .pc) 1 (o .sound .pc), o .aligned, o .code .0, ((1, omega arith, refl), aligned s (o .aligned), rw p (load4-store (s .mem) a (s .f d) (next s) h ∙ o .code .1 .0), tt)))

@@ -60,8 +60,8 @@ module _ (d : ℕ) (z : ℤ) (hd : d < 32) where
         To b k = Stands (form b k) s → Goes Q (form b k) s (behind (form b k) s (setx (s .x) d (twos 64 z)) (s .f) (s .mem))
 
         by : (b : Bool) → Valids (form b (low-op z)) → To b (low-op z)
-        by true v = let e : w64 (0 + twos 64 z) ≡ twos 64 z = omega (arith, twos-small z) in leads Q (form true ADDI) s _ v tt (rw e)
+        by true v = let e : w64 (0 + twos 64 z) ≡ twos 64 z = omega (arith, twos-small z) in leads Q (form true ADDI) s _ v tt tt (rw e)
         by false v =
             low-cases (To false) z h
-            (λ p. leads Q (form false ADDI) s _ v tt (rw (eight (s .pc), setx-then (λ u. w64 (u + twos 64 (lo (twos 32 z)))) (s .x) d (upper (pos (hi (twos 32 z)))) (twos 64 z) (parts z p))))
-            (λ n e t. leads Q (form false ADDIW) s _ v tt (rw (eight (s .pc), setx-then (λ u. sext 32 (u + twos 64 (lo (twos 32 z)))) (s .x) d (upper (pos (hi (twos 32 z)))) (twos 64 z) (rw e (top-parts n t (rw e at h))))))
+            (λ p. leads Q (form false ADDI) s _ v tt tt (rw (eight (s .pc), setx-then (λ u. w64 (u + twos 64 (lo (twos 32 z)))) (s .x) d (upper (pos (hi (twos 32 z)))) (twos 64 z) (parts z p))))
+            (λ n e t. leads Q (form false ADDIW) s _ v tt tt (rw (eight (s .pc), setx-then (λ u. sext 32 (u + twos 64 (lo (twos 32 z)))) (s .x) d (upper (pos (hi (twos 32 z)))) (twos 64 z) (rw e (top-parts n t (rw e at h))))))

@@ -21,7 +21,7 @@ use Rattle.accesses.specs.Fault.{offset-limit, one-fault, last-pair, pai
 use Rattle.accesses.specs.Inner.Plans.{one-code, pair-code}
 use Rattle.accesses.specs.declared.Cell.{Cell}
 use Rattle.accesses.specs.declared.Cell.the-variants.{LoadFloat, SaveFloat, LoadInt}
-use Rattle.accesses.specs.Stands.{Stands, Goes, behind, Leaves, cell-at, Misses, with-t0}
+use Rattle.accesses.specs.Stands.{Stands, Goes, behind, cell-at, one-cell, two-cells, Accessible, AccessLeaves, Misses, with-t0}
 use Rattle.accesses.proofs.Then.{valids-join}
 use Rattle.accesses.proofs.LoadImmediate.{li-valid}
 use Rattle.accesses.proofs.Access.{Accepted, accepted, access-runs, load-float-direct, load-int-direct, save-float-direct, load-pair-direct, save-pair-direct}
@@ -94,31 +94,31 @@ module _ (d b n : ℕ) (h : one-fault d b n ≡ 0) where
   load-int-valid = let p = one-fits in access-valid near _ b n (p .1) (λ l. omega arith) (omega arith)
 
   -- the float register holds the cell
-  pub load-float-runs : Leaves (load-float-code d b n) (with-t0 near b n) (λ s. upd (s .f) d (load8 (s .mem) (cell-at s b n))) (λ s. s .mem)
+  pub load-float-runs : AccessLeaves (one-cell b n) (load-float-code d b n) (with-t0 near b n) (λ s. upd (s .f) d (load8 (s .mem) (cell-at s b n))) (λ s. s .mem)
   unfolding setx upd
-  load-float-runs Q s =
+  load-float-runs Q s c =
       let p = one-fits in
       access-runs Q s b n (one-ok .within-limit) near _ (λ x. x) _ _ (p .1) (one-ok .base-free)
-      (λ l. load-float-direct Q s b n _ (p .1) l refl d (p .0))
-      (λ l. load-float-direct Q _ 5 0 _ (omega arith) (omega arith) (at-zero (getx s b) n) d (p .0))
+      (λ l. load-float-direct Q s b n _ (p .1) l refl (c .eights .0) d (p .0))
+      (λ l. load-float-direct Q _ 5 0 _ (omega arith) (omega arith) (at-zero (getx s b) n) (c .eights .0) d (p .0))
 
   -- the register holds the cell; x0 stays 0
-  pub load-int-runs : Leaves (load-int-code d b n) (λ s. setx (with-t0 near b n s) d (load8 (s .mem) (cell-at s b n))) (λ s. s .f) (λ s. s .mem)
+  pub load-int-runs : AccessLeaves (one-cell b n) (load-int-code d b n) (λ s. setx (with-t0 near b n s) d (load8 (s .mem) (cell-at s b n))) (λ s. s .f) (λ s. s .mem)
   unfolding setx upd
-  load-int-runs Q s =
+  load-int-runs Q s c =
       let p = one-fits in
       access-runs Q s b n (one-ok .within-limit) near _ (λ x. setx x d (load8 (s .mem) (cell-at s b n))) _ _ (p .1) (one-ok .base-free)
-      (λ l. load-int-direct Q s b n _ (p .1) l refl d (p .0))
-      (λ l. load-int-direct Q _ 5 0 _ (omega arith) (omega arith) (at-zero (getx s b) n) d (p .0))
+      (λ l. load-int-direct Q s b n _ (p .1) l refl (c .eights .0) d (p .0))
+      (λ l. load-int-direct Q _ 5 0 _ (omega arith) (omega arith) (at-zero (getx s b) n) (c .eights .0) d (p .0))
 
   -- the cell holds the float register
-  pub save-float-runs : Leaves (save-float-code d b n) (with-t0 near b n) (λ s. s .f) (λ s. store8 (s .mem) (cell-at s b n) (s .f d))
+  pub save-float-runs : AccessLeaves (one-cell b n) (save-float-code d b n) (with-t0 near b n) (λ s. s .f) (λ s. store8 (s .mem) (cell-at s b n) (s .f d))
   unfolding setx upd
-  save-float-runs Q s =
+  save-float-runs Q s c =
       let p = one-fits in
       access-runs Q s b n (one-ok .within-limit) near _ (λ x. x) _ _ (p .1) (one-ok .base-free)
-      (λ l. save-float-direct Q s b n _ (p .1) l refl d (p .0))
-      (λ l. save-float-direct Q _ 5 0 _ (omega arith) (omega arith) (at-zero (getx s b) n) d (p .0))
+      (λ l. save-float-direct Q s b n _ (p .1) l refl (c .eights .0) d (p .0))
+      (λ l. save-float-direct Q _ 5 0 _ (omega arith) (omega arith) (at-zero (getx s b) n) (c .eights .0) d (p .0))
 
 -- ---- pairs
 
@@ -147,13 +147,13 @@ module _ (d b n : ℕ) (h : pair-fault d b n ≡ 0) where
   save-complex-valid = let p = pair-fits in access-valid near-pair _ b n (p .1) (λ l. omega arith) (omega arith)
 
   -- both float registers hold their cells
-  pub load-complex-runs : Leaves (load-complex-code d b n) (with-t0 near-pair b n) (λ s. upd (upd (s .f) d (load8 (s .mem) (cell-at s b n))) (d + 1) (load8 (s .mem) (cell-at s b (n + 8)))) (λ s. s .mem)
+  pub load-complex-runs : AccessLeaves (two-cells b n) (load-complex-code d b n) (with-t0 near-pair b n) (λ s. upd (upd (s .f) d (load8 (s .mem) (cell-at s b n))) (d + 1) (load8 (s .mem) (cell-at s b (n + 8)))) (λ s. s .mem)
   unfolding setx upd
-  load-complex-runs Q s =
+  load-complex-runs Q s c =
       let p = pair-fits in
       access-runs Q s b n (pair-ok .within-limit) near-pair _ (λ x. x) _ _ (p .1) (pair-ok .base-free)
-      (λ l. load-pair-direct Q s b n _ _ (p .1) l refl refl d (p .0))
-      (λ l. load-pair-direct Q _ 5 0 _ _ (omega arith) (omega arith) (at-zero (getx s b) n) (at-eight (getx s b) n) d (p .0))
+      (λ l. load-pair-direct Q s b n _ _ (p .1) l refl refl d (p .0) (c .eights .0) (c .eights .1 .0))
+      (λ l. load-pair-direct Q _ 5 0 _ _ (omega arith) (omega arith) (at-zero (getx s b) n) (at-eight (getx s b) n) d (p .0) (c .eights .0) (c .eights .1 .0))
 
   module _ (Q : Floats) (s : State) where
     -- the first cell and the code have no byte in common
@@ -171,13 +171,13 @@ module _ (d b n : ℕ) (h : pair-fault d b n ≡ 0) where
         rw e (last-word (cell-at s b n) (s .pc) (k + 1) (omega (arith, point-length b n)) (rw (far-form near-pair _ b n l, length-append (point-code b n) _, g) at a))
 
     -- both cells hold their float registers, where the first misses the code
-    pub save-complex-runs : Away → Stands (save-complex-code d b n) s → Goes Q (save-complex-code d b n) s (behind (save-complex-code d b n) s (with-t0 near-pair b n s) (s .f) (store8 (store8 (s .mem) (cell-at s b n) (s .f d)) (cell-at s b (n + 8)) (s .f (d + 1))))
+    pub save-complex-runs : Accessible (two-cells b n s) → Away → Stands (save-complex-code d b n) s → Goes Q (save-complex-code d b n) s (behind (save-complex-code d b n) s (with-t0 near-pair b n s) (s .f) (store8 (store8 (s .mem) (cell-at s b n) (s .f d)) (cell-at s b (n + 8)) (s .f (d + 1))))
     unfolding setx upd
-    save-complex-runs away =
+    save-complex-runs c away =
         let p = pair-fits in
         access-runs Q s b n (pair-ok .within-limit) near-pair _ (λ x. x) _ _ (p .1) (pair-ok .base-free)
-        (λ l. save-pair-direct Q s b n _ _ (p .1) l refl refl d (p .0) (last-near l away))
-        (λ l. save-pair-direct Q _ 5 0 _ _ (omega arith) (omega arith) (at-zero (getx s b) n) (at-eight (getx s b) n) d (p .0) (last-far l away))
+        (λ l. save-pair-direct Q s b n _ _ (p .1) l refl refl d (p .0) (c .eights .0) (c .eights .1 .0) (last-near l away))
+        (λ l. save-pair-direct Q _ 5 0 _ _ (omega arith) (omega arith) (at-zero (getx s b) n) (at-eight (getx s b) n) d (p .0) (c .eights .0) (c .eights .1 .0) (last-far l away))
 
 -- ---- by what the access does
 

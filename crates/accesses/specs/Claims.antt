@@ -21,28 +21,35 @@ use Rattle.assembler.specs.declared.JumpKind.the-variants.{Auipc, Jalr}
 use Rattle.accesses.specs.Code.{near, near-pair, li-code, load-float-code, save-float-code, load-int-code}
 use Rattle.accesses.specs.Code.{load-complex-code, save-complex-code, sub-stack-code, add-stack-code, allocate-stack-code}
 use Rattle.accesses.specs.Fault.{li-fault, one-fault, pair-fault, stack-fault}
-use Rattle.accesses.specs.Stands.{Stands, Goes, behind, Leaves, cell-at, Misses, with-t0, with-size}
+use Rattle.accesses.specs.Stands.{Stands, Goes, behind, Leaves, cell-at, one-cell, two-cells, Accessible, AccessLeaves, Misses, with-t0, with-size}
 
--- From every state at its words an accepted access leaves these registers, float registers and memory.
+-- From every state at its words, with its cells accessible, an accepted access leaves these registers, float registers and memory.
 pub record Claim : Type 0 where
   -- the register holds z, any number of 32 bits with a sign, sign-extended to 64 bits
   pub li : (d : ℕ) (z : ℤ) → mag z < 2 ^ 31 → li-fault d ≡ 0
       → Leaves (li-code d z) (λ s. setx (s .x) d (twos 64 z)) (λ s. s .f) (λ s. s .mem)
   -- the register holds the cell at base + n
   pub load-float : (d base n : ℕ) → one-fault d base n ≡ 0
-      → Leaves (load-float-code d base n) (with-t0 near base n) (λ s. upd (s .f) d (load8 (s .mem) (cell-at s base n))) (λ s. s .mem)
+      → AccessLeaves (one-cell base n) (load-float-code d base n) (with-t0 near base n)
+      (λ s. upd (s .f) d (load8 (s .mem) (cell-at s base n)))
+      (λ s. s .mem)
   pub load-int : (d base n : ℕ) → one-fault d base n ≡ 0
-      → Leaves (load-int-code d base n) (λ s. setx (with-t0 near base n s) d (load8 (s .mem) (cell-at s base n))) (λ s. s .f) (λ s. s .mem)
+      → AccessLeaves (one-cell base n) (load-int-code d base n)
+      (λ s. setx (with-t0 near base n s) d (load8 (s .mem) (cell-at s base n)))
+      (λ s. s .f)
+      (λ s. s .mem)
   -- the cell holds the register
   pub save-float : (r base n : ℕ) → one-fault r base n ≡ 0
-      → Leaves (save-float-code r base n) (with-t0 near base n) (λ s. s .f) (λ s. store8 (s .mem) (cell-at s base n) (s .f r))
+      → AccessLeaves (one-cell base n) (save-float-code r base n) (with-t0 near base n) (λ s. s .f)
+      (λ s. store8 (s .mem) (cell-at s base n) (s .f r))
   -- two registers, with the cells at base + n and base + n + 8
   pub load-complex : (d base n : ℕ) → pair-fault d base n ≡ 0
-      → Leaves (load-complex-code d base n) (with-t0 near-pair base n)
+      → AccessLeaves (two-cells base n) (load-complex-code d base n) (with-t0 near-pair base n)
       (λ s. upd (upd (s .f) d (load8 (s .mem) (cell-at s base n))) (d + 1) (load8 (s .mem) (cell-at s base (n + 8))))
       (λ s. s .mem)
   -- where the first cell is not among the words
   pub save-complex : (r base n : ℕ) → pair-fault r base n ≡ 0 → (Q : Floats) (s : State)
+      → Accessible (two-cells base n s)
       → Misses (cell-at s base n) (save-complex-code r base n) s
       → Stands (save-complex-code r base n) s
       → Goes Q (save-complex-code r base n) s

@@ -1,7 +1,7 @@
 -- A machine at the words of a list of instructions, and behind them: the form in which the accesses' theorems are stated.
 use mathlib.Core.Path.{_≡_}
 use mathlib.Core.Bool.{cond}
-use mathlib.Core.List.{List}
+use mathlib.Core.List.{List, [], _∷_}
 use Prim.Native.Nat.{ℕ, _+_, _*_, _%_, _^_, _<_}
 use lib.Dec.{ltb}
 use lib.IntN.{ℤ}
@@ -33,9 +33,32 @@ behind is s x f m = record { pc = w64 (s .pc + 4 * length is); x = x; f = f; rm 
 abbrev pub Leaves : List Instr → (x f m : State → ℕ → ℕ) → Type 0
 Leaves is x f m = (Q : Floats) (s : State) → Stands is s → Goes Q is s (behind is s (x s) (f s) (m s))
 
+-- ---- cells
+
 -- where an access reads or writes
 abbrev pub cell-at : State → (base offset : ℕ) → ℕ
 cell-at s base n = w64 (getx s base + n)
+
+-- the cell of a single access, and the two of a pair
+abbrev pub one-cell : (base offset : ℕ) → State → List ℕ
+one-cell base n s = cell-at s base n ∷ []
+
+abbrev pub two-cells : (base offset : ℕ) → State → List ℕ
+two-cells base n s = cell-at s base n ∷ cell-at s base (n + 8) ∷ []
+
+-- each address is a multiple of 8
+abbrev pub Eights : List ℕ → Type 0
+Eights [] = Unit {0}
+Eights (c ∷ cs) = (c % 8 ≡ 0) × Eights cs
+
+-- What is asked of words that access these cells: "where its accesses are at multiples of 8" (document 02, point 7).
+pub record Accessible (cells : List ℕ) : Type 0 where
+  pub eights : Eights cells
+
+-- `Leaves`, of words that access cells.
+abbrev pub AccessLeaves : (cells : State → List ℕ) → List Instr → (x f m : State → ℕ → ℕ) → Type 0
+AccessLeaves cells is x f m =
+    (Q : Floats) (s : State) → Accessible (cells s) → Stands is s → Goes Q is s (behind is s (x s) (f s) (m s))
 
 -- none of the eight bytes at a is one of the words'
 abbrev pub Misses : (a : ℕ) → List Instr → State → Type 0

@@ -3,7 +3,7 @@ use mathlib.Core.Path.{_≡_, refl, sym, subst}
 use mathlib.Core.Bool.{Bool, true, false, _&&_, cond}
 use mathlib.Core.List.{List, [], _∷_, flatMap}
 use mathlib.Core.Option.{some}
-use Prim.Native.Nat.{ℕ, zero, suc, _+_, _-_, _^_, _≤_, _<_}
+use Prim.Native.Nat.{ℕ, zero, suc, _+_, _-_, _%_, _^_, _≤_, _<_}
 use native.Mathlib.Omega.{arith}
 use borrow.Author.Tests.{le-leb, lt-leb, lt-ltb}
 use lib.Dec.{T, eqb, ltb, leb, ltb→lt}
@@ -31,7 +31,7 @@ use Rattle.frame_code.specs.Items.{repeated, prologue, saves, reloads, epilogue
 use Rattle.reading.specs.Program.{Program, constants}
 use Rattle.reading.specs.Plain.{Reading, with-cell, means, with-meaning, does, Reads, none-read, line-read}
 use Rattle.reading.specs.Terms.{table-cell, start, Clear, frame, regions, Terms}
-use Rattle.call.specs.Layout.{span, body, constants-from, items, place, code-length, routine-words}
+use Rattle.call.specs.Layout.{span, body, padding, constants-from, items, place, code-length, routine-words}
 use Rattle.call.proofs.Good.{GoodOrder, Good}
 use Rattle.call.specs.Returned.{Returned}
 use Rattle.call.proofs.Claim.{Called}
@@ -117,6 +117,10 @@ module _ (bs : List ℕ) (f : ℕ → ℕ) where
   machine-terms k n h l =
       record {
         code-aligned = refl;
+        block-aligned = λ h. absurd h;
+        table-aligned = λ h. absurd h;
+        cells-aligned = λ h. absurd h;
+        params-aligned = λ h. absurd (omega arith);
         ra-aligned = refl;
         ra-outside = λ w. omega (arith, w .1);
         sp-aligned = refl;
@@ -131,7 +135,7 @@ abbrev pub sample : Program
 sample = record { head = record { frame = Fast; cap = 0; states = 1; obs = 0; last = 0; mask = 0 }; lines = [] }
 
 sample-length : code-length sample ≡ 84
-unfolding items span body constants constants-from prologue epilogue saves reloads saved li-code sub-stack-code add-stack-code
+unfolding items span body constants padding constants-from prologue epilogue saves reloads saved li-code sub-stack-code add-stack-code
 sample-length = refl
 
 sample-good : Good sample
@@ -183,7 +187,7 @@ product =
     }
 
 product-length : code-length product ≡ 204
-unfolding items span body constants constants-from prologue epilogue saves reloads saved repeated line-code code binary-code access-code point-code li-code sub-stack-code add-stack-code allocate-stack-code
+unfolding items span body constants padding constants-from prologue epilogue saves reloads saved repeated line-code code binary-code access-code point-code li-code sub-stack-code add-stack-code allocate-stack-code
 product-length = refl
 
 -- every order of some lines has P
@@ -240,6 +244,10 @@ unfolding upd
 block-terms =
     record {
       code-aligned = refl;
+      block-aligned = λ h. refl;
+      table-aligned = λ h. absurd h;
+      cells-aligned = λ h. absurd h;
+      params-aligned = λ h. refl;
       ra-aligned = refl;
       ra-outside = λ w. omega (arith, w .1);
       sp-aligned = refl;
@@ -331,6 +339,10 @@ unfolding upd load8 with-bytes
 table-terms =
     record {
       code-aligned = refl;
+      block-aligned = λ h. absurd h;
+      table-aligned = λ h. refl;
+      cells-aligned = λ h. both-cells;
+      params-aligned = λ h. refl;
       ra-aligned = refl;
       ra-outside = λ w. omega (arith, w .1);
       sp-aligned = refl;
@@ -339,6 +351,11 @@ table-terms =
       obs-cells = λ h. only-obs;
     }
   where
+    both-cells : (i : ℕ) → i < 2 → table-cell (product .head) table i % 8 ≡ 0
+    both-cells zero h = refl
+    both-cells (suc zero) h = refl
+    both-cells (suc (suc i)) h = absurd (omega arith)
+
     only-state : (i : ℕ) → i < 1 → Clear (table-cell (product .head) table i) (frame (product .head) table ∷ [])
     only-state zero h = omega arith
     only-state (suc i) h = absurd (omega arith)

@@ -1,15 +1,15 @@
 -- From the terms of a call to where the body starts: behind prologue and saves the machine stands at the reading's start.
 use mathlib.Core.Path.{_≡_, refl, ap, sym, _∙_}
 use mathlib.Core.Logic.{_⊎_, inl, inr}
-use mathlib.Core.Bool.{Bool, true, false, not, _&&_, _||_, cond}
+use mathlib.Core.Bool.{Bool, true, false, not, _||_, cond}
 use mathlib.Core.List.{List, [], _∷_, _++_, List·Memᴰ, List·Memᴰ·head, List·Memᴰ·tail, List·Memᴰ·not-nil, List·Memᴰ·cases-cons}
-use Prim.Native.Nat.{ℕ, zero, suc, _+_, _-_, _*_, _^_, _≤_, _<_}
+use Prim.Native.Nat.{ℕ, _+_, _*_, _^_, _≤_, _<_}
 use native.Mathlib.Omega.{arith}
 use borrow.Author.Tests.{ltb-true, ltb-false, eqb-true, eqb-false, leb-true}
-use lib.Dec.{T, eqb, ltb, leb, eqb·suc-zero}
+use lib.Dec.{T, eqb, ltb, leb}
 use lib.ListN.{length}
 use Rattle.ast.specs.Count.{cells, param-count, cell-count}
-use Rattle.machine.specs.Word.{w64, upd, dist, load8}
+use Rattle.machine.specs.Word.{w64, dist, load8}
 use Rattle.machine.specs.Floats.{Floats}
 use Rattle.machine.specs.State.{State, Sound}
 use Rattle.machine.specs.Step.{CodeAt}
@@ -31,7 +31,7 @@ use Rattle.ast.proofs.Masked.{none-saved}
 use Rattle.frame_code.proofs.Ends.{mem-at, indirect, PrologueTerms, PrologueDone}
 use Rattle.frame_code.proofs.Opened.{opens}
 use Rattle.reading.specs.Program.{Program}
-use Rattle.reading.specs.Terms.{table-used, frame-bytes, bottom, base, as-called, table-cell, state-value, stack-value, start-cells, start-f, start, Terms}
+use Rattle.reading.specs.Terms.{frame-bytes, bottom, base, as-called, table-cell, state-value, stack-value, start-cells, start, Terms}
 use Rattle.call.specs.Layout.{span, body, items, place, entry, exit, code-items, data-items, code-length, routine-words}
 use Rattle.call.proofs.Offset.{line-offset}
 use Rattle.call.proofs.Good.{Good}
@@ -85,7 +85,7 @@ module _ (Q : Floats) (p : Program) (g : Good p) (s : State) (o : Sound s) (c : 
         counts = and-l (prologue-holds H) _ (g .counts);
         room-for-saves = saves-room H (g .cap);
         sound = o;
-        start = t .code-aligned;
+        start = omega (arith, t .code-aligned);
         fits = lying .top;
         sp = lying .sp;
         code = entry-part p (s .mem) (s .pc) (o .pc) c;
@@ -97,6 +97,9 @@ module _ (Q : Floats) (p : Program) (g : Good p) (s : State) (o : Sound s) (c : 
         states-apart = λ h i k x b d f. t .state-cells h i k .0 (dist (table-cell H s i) x) d (rw (dist-back (table-cell H s i) x b) f);
         block-fits = lying .block-top;
         block-apart = λ h x b d f. lying .block-frame h x (inside (s .x 10) (8 * cells H) x (lying .block-top h) b d) f;
+        frame-aligned = lying .frame-aligned;
+        table-aligned = t .table-aligned;
+        states-aligned = λ h i k. t .cells-aligned h i (omega arith);
       }
 
   pub opened : (u : State) × PrologueDone Q H (place p) s (bottom H s) u
@@ -161,6 +164,7 @@ module _ (Q : Floats) (p : Program) (g : Good p) (s : State) (o : Sound s) (c : 
         code-fits = lying .code-top;
         off-code = lying .off-code;
         bases = bases;
+        bases-aligned = lying .bases-aligned;
         code =
             let e = resolved-length (place p) 0 (items p) in
             code-kept (s .mem) (ready .mem) (s .pc) (routine-words p) (omega (arith, lying .code-top))

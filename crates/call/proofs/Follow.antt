@@ -25,7 +25,9 @@ use Rattle.reading.specs.Meaning.{Exit, on, to, Written, Meaning, meaning}
 use Rattle.reading.specs.Line.{Line, order, constant, weight}
 use Rattle.orders.specs.Code.{code, line-code}
 use Rattle.orders.specs.Code as O
-use Rattle.orders.specs.Does.{At, OrderDoes, cell-value, const-value, written, exit-address}
+use Rattle.accesses.specs.Stands.{Accessible}
+use Rattle.ast.specs.Uses.{uses}
+use Rattle.orders.specs.Does.{accessed, At, OrderDoes, cell-value, const-value, written, exit-address}
 use Rattle.orders.proofs.Does.{order-does}
 use Rattle.orders.proofs.Laws.{line-length}
 use Rattle.reading.specs.Program.{Program}
@@ -35,8 +37,9 @@ use Rattle.call.proofs.Offset.{line-offset}
 use Rattle.call.proofs.Good.{GoodOrder, Good}
 use Rattle.call.proofs.Items.{resolved-length}
 use Rattle.call.proofs.Whole.{line-part, constant-part, offset-next, offset-four, offset-exit, offset-small, user-place, constants-place, placed, In-code, part-in}
+use Rattle.call.proofs.Padding.{offset-eight}
 use Rattle.call.proofs.Cells.{Inside, Rooms, Fine, stored, stored-cells, stored-rest}
-use Rattle.call.proofs.Means.{same-meaning, fine-cells, exit-label}
+use Rattle.call.proofs.Means.{accessible, same-meaning, fine-cells, exit-label}
 
 -- registers that lines leave alone, and that the end of a call rests on: sp, gp, tp, s0..s11
 abbrev pub lasting : ℕ → Bool
@@ -83,11 +86,12 @@ module _ (Q : Floats) (p : Program) (A : Place → ℕ) (start : ℕ) (x0 m0 : �
   pub record Ground : Type 0 where
     pub good : Good p
     pub rooms : Rooms A n
-    pub start-aligned : start % 4 ≡ 0
+    pub start-aligned : start % 8 ≡ 0
     pub start-small : start < 2 ^ 64
     pub code-fits : start + code-length p ≤ 2 ^ 64
     pub off-code : (q : Place) (x : ℕ) → Inside (A q) (n q) x → start ≤ x → x < start + code-length p → ⊥
     pub bases : (q : Place) → 0 < n q → x0 (O.base q) ≡ A q
+    pub bases-aligned : (q : Place) → 0 < n q → A q % 8 ≡ 0
     pub code : CodeAt m0 start (routine-words p)
 
   module _ (g : Ground) where
@@ -140,15 +144,22 @@ module _ (Q : Floats) (p : Program) (A : Place → ℕ) (start : ℕ) (x0 m0 : �
         stands =
             record {
               sound = h .sound;
-              start-aligned = g .start-aligned;
+              start-aligned = omega (arith, g .start-aligned);
               here-aligned = offset-four p (r .line);
               here-small = offset-small p (g .good) (r .line);
               pc = h .pc;
               code = rw (h .pc) (line-part p (s .mem) start (g .start-small) (code-now r s h) (r .line) (order o) e);
             }
 
+        -- its accesses are at multiples of 8
+        reaches : Accessible (accessed (place p) start s (uses o .operand))
+        reaches =
+            accessible (place p) start s (p .head) (p .lines) o (fits .index) (fits .named) (fits .fault-free)
+            (λ q i l. rw (base-now r s h q (omega arith)) (omega (arith, g .bases-aligned q (omega arith))))
+            (λ k l b. rw (constants-place p (g .good) k l b) (omega (arith, g .start-aligned, offset-eight p (omega arith))))
+
         done : OrderDoes (place p) start Q here o s
-        done = order-does Q (place p) (placed p (g .good)) start here o (fits .fault-free) s stands
+        done = order-does Q (place p) (placed p (g .good)) start here o (fits .fault-free) s stands reaches
 
         -- the machine's readers are the reading's
         meant : meaning Q (s .f) (s .rm) (cell-value s) (const-value (place p) start s) o ≡ means Q p o r

@@ -141,4 +141,7 @@ module _ (Q : Floats) (p : Program) (g : Good p) (s : State) (o : Sound s) (c : 
             code-apart = code-off;
             frame-apart = λ x b d v. l .obs-off (v .0) (v .1) (v .2) x b (v .3) .1 (inside (bottom H s) (frame-bytes H s) x (l .top) b d);
             table-apart = λ v x b d w. l .obs-off (w .0) (w .1) (w .2) x b (w .3) .2 (inside (s .x 11) (16 * cells H) x (l .table-top v) b d);
+            frame-aligned = l .frame-aligned;
+            table-aligned = t .table-aligned;
+            obs-aligned = λ v i k. t .cells-aligned v (H .states + i) (omega arith);
           }

@@ -3,6 +3,7 @@ pub mod Good
 pub mod Claim
 pub mod Items
 pub mod Labels
+pub mod Padding
 pub mod Placing
 pub mod Whole
 pub mod Cells
@@ -16,4 +17,5 @@ pub mod Bytes
 pub mod Left
 pub mod Call
 pub mod Words
+pub mod Underway
 pub mod Calls

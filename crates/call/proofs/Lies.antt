@@ -2,7 +2,7 @@
 use mathlib.Core.Path.{_≡_, refl, sym, subst, fun-ext}
 use mathlib.Core.Bool.{Bool, true, false, not, _&&_}
 use mathlib.Core.List.{[], _∷_}
-use Prim.Native.Nat.{ℕ, zero, suc, _+_, _-_, _*_, _^_, _≤_, _<_}
+use Prim.Native.Nat.{ℕ, zero, suc, _+_, _-_, _*_, _%_, _^_, _≤_, _<_}
 use native.Mathlib.Omega.{arith}
 use lib.Dec.{T, eqb, leb, leb→le}
 use Rattle.ast.specs.Count.{cells, cell-count}
@@ -26,11 +26,13 @@ pub record Lies (H : Head) (len : ℕ) (s : State) : Type 0 where
   -- the frame, from its bottom up
   pub top : bottom H s + frame-bytes H s ≤ 2 ^ 64
   pub sp : s .x 2 ≡ w64 (bottom H s + frame-bytes H s)
+  pub frame-aligned : bottom H s % 16 ≡ 0
   pub code-top : s .pc + len ≤ 2 ^ 64
   pub code-frame : (x : ℕ) → Within (code len s) x → Within (frame H s) x → ⊥
   -- the cells
   pub mem-base : T (holds-mem (H .frame) (s .x 11)) → base H s Mem ≡ bottom H s + stack-size H
   pub rooms : Rooms (base H s) (cell-count H)
+  pub bases-aligned : (q : Place) → 0 < cell-count H q → base H s q % 8 ≡ 0
   pub off-code : (q : Place) (x : ℕ) → Inside (base H s q) (cell-count H q) x → s .pc ≤ x → x < s .pc + len → ⊥
   -- the places of ra and other whole-number registers are no cells
   pub off-places : (q : Place) (x : ℕ) → Inside (base H s q) (cell-count H q) x → bottom H s + below-saves H (s .x 11) ≤ x → x < bottom H s + frame-bytes H s → ⊥
@@ -52,13 +54,22 @@ pub record Lies (H : Head) (len : ℕ) (s : State) : Type 0 where
 sp-back : (x n : ℕ) → x < 2 ^ 64 → n ≤ 2 ^ 64 → x ≡ w64 (w64 (x + (2 ^ 64 - n)) + n)
 sp-back x n h l = omega arith
 
+bottom-even : (x n : ℕ) → x % 16 ≡ 0 → n % 16 ≡ 0 → n ≤ 2 ^ 64 → w64 (x + (2 ^ 64 - n)) % 16 ≡ 0
+bottom-even x n h k l = omega arith
+
+above-even : (b n : ℕ) → b % 16 ≡ 0 → n % 16 ≡ 0 → w64 (b + n) % 8 ≡ 0
+above-even b n h k = omega arith
+
+half-even : (b : ℕ) → b % 16 ≡ 0 → b % 8 ≡ 0
+half-even b h = omega arith
+
 -- a region of 0 bytes ends somewhere too
 ending : (a n : ℕ) → a < 2 ^ 64 → (0 < n → a + n ≤ 2 ^ 64) → a + n ≤ 2 ^ 64
 ending a zero h k = omega arith
 ending a (suc n) h k = k (omega arith)
 
 -- sizes hold their cells
-sized : (n : ℕ) → n ≤ 4096 → (8 * n ≤ align16 (8 * n)) × (0 < align16 (8 * n)) × (align16 (8 * n) ≤ 40000)
+sized : (n : ℕ) → n ≤ 4096 → (8 * n ≤ align16 (8 * n)) × (0 < align16 (8 * n)) × (align16 (8 * n) ≤ 40000) × (align16 (8 * n) % 16 ≡ 0)
 sized n h = omega arith
 
 -- ---- a frame that starts at b: ss bytes with ns cells of `stack`, fs bytes with nm cells of `mem`, sv bytes of places
@@ -130,14 +141,25 @@ module _ (cap states obs last mask : ℕ) (len : ℕ) (s : State) (o : Sound s) 
     abbrev b1 : ℕ
     b1 = bottom (head Fast) s
 
-    m1 : (8 * (states + obs) ≤ fs) × (0 < fs) × (fs ≤ 40000)
+    m1 : (8 * (states + obs) ≤ fs) × (0 < fs) × (fs ≤ 40000) × (fs % 16 ≡ 0)
     m1 = sized (states + obs) (few Fast g .1)
 
-    s1 : (8 * cap ≤ ss) × (0 < ss) × (ss ≤ 40000)
+    s1 : (8 * cap ≤ ss) × (0 < ss) × (ss ≤ 40000) × (ss % 16 ≡ 0)
     s1 = sized cap (few Fast g .0)
 
     top1 : b1 + (ss + fs + 32) ≤ 2 ^ 64
     top1 = t .separate .2 .0 (omega (arith, m1 .1))
+
+    even1 : b1 % 16 ≡ 0
+    even1 = bottom-even (s .x 2) (ss + fs + 32) (t .sp-aligned) (sum fs ss (m1 .3) (s1 .3)) (omega (arith, m1 .2, s1 .2))
+      where
+        sum : (a b : ℕ) → a % 16 ≡ 0 → b % 16 ≡ 0 → (b + a + 32) % 16 ≡ 0
+        sum a b h k = omega arith
+
+    bases1 : (q : Place) → 0 < cell-count (head Fast) q → base (head Fast) s q % 8 ≡ 0
+    bases1 Mem h = above-even b1 ss even1 (s1 .3)
+    bases1 Stack h = half-even b1 even1
+    bases1 Param h = absurd (omega arith)
 
     in1 : (q : Place) (x : ℕ) → Inside (base (head Fast) s q) (cell-count (head Fast) q) x → Within (frame (head Fast) s) x
     in1 Mem x u = mem-frame b1 ss fs 32 (states + obs) cap (m1 .0) (s1 .0) top1 (m1 .1) x u
@@ -159,6 +181,8 @@ module _ (cap states obs last mask : ℕ) (len : ℕ) (s : State) (o : Sound s) 
         record {
           top = top1;
           sp = sp-back (s .x 2) (ss + fs + 32) (o .x 2) (omega (arith, m1 .2, s1 .2));
+          frame-aligned = even1;
+          bases-aligned = bases1;
           code-top = ending (s .pc) len (o .pc) (t .separate .0);
           code-frame = t .separate .1 .0;
           mem-base = λ h. mem-at b1 ss fs 32 (states + obs) cap (m1 .0) (s1 .0) top1 (m1 .1);
@@ -183,10 +207,10 @@ module _ (cap states obs last mask : ℕ) (len : ℕ) (s : State) (o : Sound s) 
   -- ---- an indirect frame
 
   module _ (g : T (epilogue-holds (head Indirect))) where
-    m2 : (8 * (states + obs) ≤ fs) × (0 < fs) × (fs ≤ 40000)
+    m2 : (8 * (states + obs) ≤ fs) × (0 < fs) × (fs ≤ 40000) × (fs % 16 ≡ 0)
     m2 = sized (states + obs) (few Indirect g .1)
 
-    s2 : (8 * cap ≤ ss) × (0 < ss) × (ss ≤ 40000)
+    s2 : (8 * cap ≤ ss) × (0 < ss) × (ss ≤ 40000) × (ss % 16 ≡ 0)
     s2 = sized cap (few Indirect g .0)
 
     -- the table is used
@@ -209,6 +233,17 @@ module _ (cap states obs last mask : ℕ) (len : ℕ) (s : State) (o : Sound s) 
       base2 Mem = rw e
       base2 Stack = rw e
       base2 Param = refl
+
+      even2 : b2 % 16 ≡ 0
+      even2 = bottom-even (s .x 2) (ss + fs + 64) (t .sp-aligned) (sum fs ss (m2 .3) (s2 .3)) (omega (arith, m2 .2, s2 .2))
+        where
+          sum : (a b : ℕ) → a % 16 ≡ 0 → b % 16 ≡ 0 → (b + a + 64) % 16 ≡ 0
+          sum a b h k = omega arith
+
+      bases2 : (q : Place) → 0 < cell-count (head Indirect) q → A2 q % 8 ≡ 0
+      bases2 Mem h = above-even b2 ss even2 (s2 .3)
+      bases2 Stack h = half-even b2 even2
+      bases2 Param h = t .params-aligned h
 
       mem2 : (x : ℕ) → Inside (A2 Mem) (states + obs) x → (b2 ≤ x) × (x < b2 + (ss + fs + 64))
       mem2 = mem-frame b2 ss fs 64 (states + obs) cap (m2 .0) (s2 .0) top2 (m2 .1)
@@ -258,6 +293,8 @@ module _ (cap states obs last mask : ℕ) (len : ℕ) (s : State) (o : Sound s) 
             sp = rw e (sp-back (s .x 2) (ss + fs + 64) (o .x 2) (omega (arith, m2 .2, s2 .2)));
             code-top = ending (s .pc) len (o .pc) (t .separate .0);
             code-frame = t .separate .1 .0;
+            frame-aligned = rw e even2;
+            bases-aligned = λ q h. rw (base2 q) (bases2 q h);
             mem-base = rw e (λ h. mem-at b2 ss fs 64 (states + obs) cap (m2 .0) (s2 .0) top2 (m2 .1));
             rooms = subst (λ (A : Place → ℕ). Rooms A (cell-count (head Indirect))) (fun-ext (λ q. sym (base2 q))) rooms2;
             off-code = λ q x u. code2 q x (rw (base2 q) at u);
@@ -294,6 +331,14 @@ module _ (cap states obs last mask : ℕ) (len : ℕ) (s : State) (o : Sound s) 
       base3 Stack = rw e
       base3 Param = refl
 
+      even3 : b3 % 16 ≡ 0
+      even3 = bottom-even (s .x 2) (ss + 0 + 64) (t .sp-aligned) (omega (arith, s2 .3)) (omega (arith, s2 .2))
+
+      bases3 : (q : Place) → 0 < cell-count (head Indirect) q → A3 q % 8 ≡ 0
+      bases3 Mem h = t .block-aligned (rw e tt)
+      bases3 Stack h = half-even b3 even3
+      bases3 Param h = t .params-aligned h
+
       stack3 : (x : ℕ) → Inside (A3 Stack) cap x → (b3 ≤ x) × (x < b3 + (ss + 0 + 64))
       stack3 = stack-frame b3 ss 0 64 0 cap (omega arith) (s2 .0) top3
 
@@ -326,6 +371,8 @@ module _ (cap states obs last mask : ℕ) (len : ℕ) (s : State) (o : Sound s) 
             sp = rw e (sp-back (s .x 2) (ss + 0 + 64) (o .x 2) (omega (arith, s2 .2)));
             code-top = ending (s .pc) len (o .pc) (t .separate .0);
             code-frame = t .separate .1 .0;
+            frame-aligned = rw e even3;
+            bases-aligned = λ q h. rw (base3 q) (bases3 q h);
             mem-base = rw e (λ h. absurd h);
             rooms = subst (λ (A : Place → ℕ). Rooms A (cell-count (head Indirect))) (fun-ext (λ q. sym (base3 q))) rooms3;
             off-code = λ q x u. code3 q x (rw (base3 q) at u);

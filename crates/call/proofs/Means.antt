@@ -2,13 +2,14 @@
 use mathlib.Core.Path.{_≡_, refl, ap}
 use mathlib.Core.Bool.{Bool, true, false, cond}
 use mathlib.Core.List.{List, [], _∷_}
-use Prim.Native.Nat.{ℕ, _^_, _≤_, _<_}
+use Prim.Native.Nat.{ℕ, _%_, _^_, _≤_, _<_}
 use native.Mathlib.Omega.{arith}
 use lib.Dec.{T, leb, leb→le, ltb→lt}
 use lib.ListN.{length}
 use Rattle.ast.specs.Count.{cell-count}
-use Rattle.ast.specs.Uses.{index-holds, registers-fit}
+use Rattle.ast.specs.Uses.{uses, index-holds, registers-fit}
 use Rattle.machine.specs.Floats.{Floats}
+use Rattle.machine.specs.State.{State}
 use Rattle.ast.specs.declared.Place.{Place}
 use Rattle.ast.specs.declared.Place.the-variants.{Stack}
 use Rattle.ast.specs.declared.Head.{Head}
@@ -17,7 +18,9 @@ use Rattle.ast.specs.declared.Order.the-variants.{Unary, Scratched, Binary, Fus
 use Rattle.base.proofs.Bools.{passed}
 use Rattle.reading.specs.Meaning.{on, to, jumps, meaning}
 use Rattle.reading.specs.Line.{Line}
+use Rattle.accesses.specs.Stands.{Accessible}
 use Rattle.orders.specs.Fault.{fault}
+use Rattle.orders.specs.Does.{cell, const-cell, accessed}
 use Rattle.reading.specs.Program.{constants}
 use Rattle.call.proofs.Good.{Named}
 use Rattle.call.proofs.Cells.{Fine}
@@ -30,6 +33,19 @@ branch-label c l e h = leb→le l 1023 (passed (leb l 1023) 0 2 (passed (registe
 pub const-number : (d k : ℕ) → fault (LoadConst d k) ≡ 0 → k ≤ 1007
 unfolding fault
 const-number d k h = leb→le k 1007 (passed (leb k 1007) 0 8 (passed (registers-fit (d ∷ [])) (cond (leb k 1007) 0 9) 0 h .1) .0)
+
+-- What an order accesses is accessible, where cells and constants are at multiples of 8.
+pub accessible : (places : ℕ → ℕ) (start : ℕ) (s : State) (H : Head) (ls : List Line) (o : Order) → T (index-holds H o) → Named ls o → fault o ≡ 0 → ((p : Place) (i : ℕ) → i < cell-count H p → cell s p i % 8 ≡ 0) → ((i : ℕ) → i ≤ 1007 → i < length (constants ls) → const-cell places start i % 8 ≡ 0) → Accessible (accessed places start s (uses o .operand))
+accessible places start s H ls (Unary u a b) h n e p q = record { eights = tt }
+accessible places start s H ls (Scratched u a b t) h n e p q = record { eights = tt }
+accessible places start s H ls (Binary u a b t) h n e p q = record { eights = tt }
+accessible places start s H ls (Fused u a b t v) h n e p q = record { eights = tt }
+accessible places start s H ls (Ifelse a b t i) h n e p q = record { eights = (p Stack i (ltb→lt i (H .cap) h), tt) }
+accessible places start s H ls (LoadConst a i) h n e p q = record { eights = (q i (const-number a i e) n, tt) }
+accessible places start s H ls (Load a r i) h n e p q = record { eights = (p r i (ltb→lt i (cell-count H r) h), tt) }
+accessible places start s H ls (Save a r i) h n e p q = record { eights = (p r i (ltb→lt i (cell-count H r) h), tt) }
+accessible places start s H ls (BranchIf a l t) h n e p q = record { eights = tt }
+accessible places start s H ls (SetLabel l) h n e p q = record { eights = tt }
 
 module _ (Q : Floats) (f : ℕ → ℕ) (rm : ℕ) where
   -- Two readers of cells and of constants give one meaning, where they agree on what the order reads.

@@ -30,11 +30,12 @@ use Rattle.base.proofs.Bools.{passed}
 use Rattle.frame_code.specs.Items.{code as instrs, obs-copy, at-epi, at-done, by-frame, repeated, closing, epilogue, epilogue-fast, epilogue-indirect, reloads}
 use Rattle.frame_code.proofs.Walk.{Stands}
 use Rattle.reading.specs.Program.{Program, constants, label-line}
-use Rattle.call.specs.Layout.{span, body, constants-from, entry, exit, code-items, data-items, items, constants-offset, code-length, place, routine-words}
+use Rattle.call.specs.Layout.{span, body, padding, constants-from, entry, exit, code-items, pad, data-items, items, constants-offset, code-length, place, routine-words}
 use Rattle.call.proofs.Offset.{line-offset}
 use Rattle.call.proofs.Good.{Good}
 use Rattle.call.proofs.Items.{span-append, span-four, resolved-append, resolved-length, Unset, unset-append, past, found, within, fresh-unset, stands-of, Worded, worded-append, worded-instrs, before-end}
 use Rattle.call.proofs.Labels.{Early, Late, entry-fresh, exit-fresh}
+use Rattle.call.proofs.Padding.{padding-is}
 use Rattle.call.proofs.Placing.{labelled, line-words, next-line, constant-place, constant-value, body-unset}
 
 -- ---- code in two parts
@@ -109,9 +110,12 @@ module _ (p : Program) where
     pub constant-part : (k : ℕ) → k < length (constants (p .lines)) → load8 m (w64 (a + (constants-offset p + 8 * k))) ≡ getD (constants (p .lines)) k 0
     unfolding items
     constant-part k h =
-        rw (← (add-assoc a (constants-offset p) (8 * k)))
-        (constant-value m (place p) (a + constants-offset p) (constants-offset p) 0 k (constants (p .lines)) h
-        (rw (zero-add (constants-offset p)) at (code-second m (place p) a 0 (code-items p) (data-items p) b c)))
+        let x : ℕ = span (code-items p) in
+        let y : ℕ = span (pad p) in
+        let d = code-second m (place p) a 0 (code-items p) (data-items p) b c in
+        rw (← (add-assoc a (x + y) (8 * k)), ← (add-assoc a x y))
+        (constant-value m (place p) (a + x + y) (0 + x + y) 0 k (constants (p .lines)) h
+        (rw (wrap-l (a + x) y) at (code-second m (place p) (w64 (a + x)) (0 + x) (pad p) (constants-from 0 (constants (p .lines))) (omega arith) d)))
 
   -- behind line n comes line n + 1; behind the last, the exit
   pub offset-next : (n : ℕ) (l : Line) → getElem? (p .lines) n ≡ some l → line-offset p (suc n) ≡ line-offset p n + span (line-code l)
@@ -154,7 +158,7 @@ module _ (p : Program) where
   back = omega (arith, closing-word (p .head) .0, span-append (reloads (p .head .mask)) (epilogue (p .head)))
 
   worded : Worded (items p)
-  unfolding items constants-from span
+  unfolding items padding constants-from span
   worded = by (constants (p .lines))
     where
       front : Worded (code-items p)
@@ -163,9 +167,12 @@ module _ (p : Program) where
           worded-append (entry p) (body (p .lines) ++ exit p) (omega (arith, back, span-append (body (p .lines)) (exit p)))
           (worded-append (body (p .lines)) (exit p) back (worded-append (reloads (p .head .mask)) (epilogue (p .head)) (w .0) (w .1)))
 
-      by : (bs : List ℕ) → Worded (code-items p ++ constants-from 0 bs)
+      by : (bs : List ℕ) → Worded (code-items p ++ (padding (span (code-items p)) (length bs) ++ constants-from 0 bs))
       by [] = rw (append-nil (code-items p)) front
-      by (b ∷ bs) = worded-append (code-items p) (constants-from 0 (b ∷ bs)) (omega arith) (constants-word 0 (b ∷ bs))
+      by (b ∷ bs) =
+          let is : List Item = padding (span (code-items p)) (length (b ∷ bs)) in
+          let js : List Item = constants-from 0 (b ∷ bs) in
+          worded-append (code-items p) (is ++ js) (omega (arith, span-append is js)) (worded-append is js (omega arith) (constants-word 0 (b ∷ bs)))
 
   module _ (g : Good p) where
     -- constant k's label is at the constant
@@ -176,9 +183,11 @@ module _ (p : Program) where
         unset-append (constant-label k) (entry p) (body (p .lines) ++ exit p) (entry-unset (constant-label k) (λ v. omega (arith, v .0)))
         (unset-append (constant-label k) (body (p .lines)) (exit p) (body-unset (constant-label k) (p .lines) (λ n j e q. omega (arith, label-low j (g .orders n (SetLabel j) e .fault-free)))) (exit-unset (constant-label k) (λ v. omega (arith, v .0))))
         in
-        let v = constant-place (0 + constants-offset p) 0 k (constants (p .lines)) l in
+        let x : ℕ = span (code-items p) in
+        let v = constant-place (0 + x + span (pad p)) 0 k (constants (p .lines)) l in
+        let w : Unset (constant-label k) (pad p) = padding-is (Unset (constant-label k)) tt tt x (length (constants (p .lines))) in
         let z : 0 + k ≡ k = omega arith in
-        rw (past (constant-label k) 0 (code-items p) (data-items p) u, rw z at v) (omega arith)
+        rw (past (constant-label k) 0 (code-items p) (data-items p) u, past (constant-label k) (0 + x) (pad p) (constants-from 0 (constants (p .lines))) w, rw z at v) (omega arith)
 
     -- the frames' labels are where the items set them
     pub exit-stands : (n : ℕ) → length (p .lines) ≤ n → Stands (place p) (line-offset p n) (exit p)

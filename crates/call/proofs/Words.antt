@@ -31,11 +31,12 @@ use Rattle.frame_code.specs.Items.{prologue, saves, reloads, epilogue}
 use Rattle.frame_code.proofs.Walk.{stands-left, stands-right}
 use Rattle.frame_code.proofs.Valid.{AllValid, prologue-valid, saves-valid, reloads-valid, epilogue-valid}
 use Rattle.reading.specs.Program.{Program, constants}
-use Rattle.call.specs.Layout.{span, body, constants-from, entry, exit, code-items, data-items, items, constants-offset, place, routine-words}
+use Rattle.call.specs.Layout.{span, body, nop, padding, constants-from, entry, exit, code-items, pad, constants-offset, place, routine-words}
 use Rattle.call.proofs.Offset.{line-offset}
 use Rattle.call.proofs.Good.{Good}
 use Rattle.call.proofs.Items.{resolved-append, resolved-length, Fresh}
 use Rattle.call.proofs.Labels.{Early, Late, entry-fresh, exit-fresh}
+use Rattle.call.proofs.Padding.{padding-is, front-items, front-span, words-parted}
 use Rattle.call.proofs.Whole.{entry-stands, exit-stands}
 
 -- each word is a valid instruction's
@@ -77,6 +78,11 @@ body-encoded at h (order o ∷ ls) f =
     rw (resolved-append at h (code o) (body ls))
     (encoded-join (resolved at h (code o)) _ (subst Encoded (code-words at h o) (encoded-words (resolve at h (code o)) (code-valid at h o (f 0 o refl))))
     (body-encoded at (h + span (code o)) ls (λ n o e. f (suc n) o e)))
+
+-- the nop's
+padding-encoded : (at : ℕ → ℕ) (h n k : ℕ) → Encoded (resolved at h (padding n k))
+unfolding resolved
+padding-encoded at h n k = padding-is (λ is. Encoded (resolved at h is)) tt ((nop, (omega arith, (omega arith, (omega arith, tt))), refl), tt) n k
 
 -- ---- words of 32 bits
 
@@ -128,21 +134,25 @@ module _ (p : Program) (g : Good p) where
       (encoded-join (resolved (place p) x (body (p .lines))) _ (body-encoded (place p) x (p .lines) (λ n o e. g .orders n o e .fault-free))
       (rw (take-length (p .lines)) at (encoded-items (place p) (line-offset p (length (p .lines))) (exit p) Late (exit-fresh (p .head)) exit-valid))))
 
+  front-encoded : Encoded (resolved (place p) 0 (front-items p))
+  front-encoded =
+      rw (resolved-append (place p) 0 (code-items p) (pad p))
+      (encoded-join (resolved (place p) 0 (code-items p)) _ code-encoded (padding-encoded (place p) _ (span (code-items p)) (length (constants (p .lines)))))
+
   -- Every word before the constants decodes to a valid instruction.
   pub decodes : (k : ℕ) → 4 * k < constants-offset p → (i : Instr) × Valid i × (decode (getD (routine-words p) k 0) ≡ some i)
-  unfolding items
   decodes k h =
-      let us : List ℕ = resolved (place p) 0 (code-items p) in
-      let l : k < length us = omega (arith, resolved-length (place p) 0 (code-items p)) in
-      let e = encoded-at us code-encoded k l in
-      (e .0, e .1, rw (resolved-append (place p) 0 (code-items p) (data-items p), List·getD-append us (resolved (place p) (0 + constants-offset p) (data-items p)) 0 k l, e .2) (decode-encode (e .0) (e .1)))
+      let us : List ℕ = resolved (place p) 0 (front-items p) in
+      let vs : List ℕ = resolved (place p) (0 + span (front-items p)) (constants-from 0 (constants (p .lines))) in
+      let l : k < length us = omega (arith, resolved-length (place p) 0 (front-items p), front-span p) in
+      let e = encoded-at us front-encoded k l in
+      (e .0, e .1, rw (words-parted p, List·getD-append us vs 0 k l, e .2) (decode-encode (e .0) (e .1)))
 
   -- Where the routine's bytes stand, its code stands.
   pub code-stands : (m : ℕ → ℕ) (a : ℕ) → a < 2 ^ 64 → Loaded m a (bytes (routine-words p)) → CodeAt m a (routine-words p)
-  unfolding items
   code-stands m a h b =
       let e : w64 a ≡ a = omega arith in
       rw e at (code-of-bytes m a (routine-words p)
-      (rw (resolved-append (place p) 0 (code-items p) (data-items p))
-      (small-join (resolved (place p) 0 (code-items p)) _ (small-encoded (resolved (place p) 0 (code-items p)) code-encoded) (small-constants (place p) _ 0 (constants (p .lines)) (g .bits))))
+      (rw (words-parted p)
+      (small-join (resolved (place p) 0 (front-items p)) _ (small-encoded (resolved (place p) 0 (front-items p)) front-encoded) (small-constants (place p) _ 0 (constants (p .lines)) (g .bits))))
       (rw (bytes-is (routine-words p)) at b))

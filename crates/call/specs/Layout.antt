@@ -1,7 +1,13 @@
--- The routine's words (document 01, "Added: the routine"): code from the lines, then the constants.
+-- The routine's words (document 01, "Added: the routine"): code from the lines, then the constants, at a multiple of 8.
+use mathlib.Core.Bool.{cond}
 use mathlib.Core.List.{List, [], _∷_, _++_}
 use mathlib.Core.Option.{Option·getD}
-use Prim.Native.Nat.{ℕ, suc, _+_}
+use Prim.Native.Nat.{ℕ, zero, suc, _+_, _%_}
+use lib.Dec.{eqb}
+use lib.IntN.{pos}
+use lib.ListN.{length}
+use Rattle.isa.specs.Register.{zero as x0}
+use Rattle.isa.specs.Instr.{Instr, I, ADDI}
 use Rattle.assembler.specs.Item.{Item, instr, raw, jump, label}
 use Rattle.assembler.specs.Constant.{quad}
 use Rattle.ast.specs.Constant.{constant-label}
@@ -24,6 +30,14 @@ unfoldable pub body : List Line → List Item
 body [] = []
 body (l ∷ ls) = line-code l ++ body ls
 
+abbrev pub nop : Instr
+nop = I ADDI x0 x0 (pos 0)
+
+-- "one `nop` before them if its length isn't a multiple of 8" (document 02, point 7): behind so many bytes, before so many constants
+unfoldable pub padding : (bytes constants : ℕ) → List Item
+padding n zero = []
+padding n (suc k) = cond (eqb (n % 8) 0) [] (instr nop ∷ [])
+
 -- constants from number k on, each at its label
 unfoldable pub constants-from : ℕ → List ℕ → List Item
 constants-from k [] = []
@@ -40,15 +54,19 @@ module _ (p : Program) where
   abbrev pub code-items : List Item
   code-items = entry ++ (body (p .lines) ++ exit)
 
+  -- between code and constants
+  abbrev pub pad : List Item
+  pad = padding (span code-items) (length (constants (p .lines)))
+
   abbrev pub data-items : List Item
-  data-items = constants-from 0 (constants (p .lines))
+  data-items = pad ++ constants-from 0 (constants (p .lines))
 
   unfoldable pub items : List Item
   items = code-items ++ data-items
 
   -- where constants start
   abbrev pub constants-offset : ℕ
-  constants-offset = span code-items
+  constants-offset = span code-items + span pad
 
   -- the routine's length in bytes
   abbrev pub code-length : ℕ

@@ -1,6 +1,6 @@
 -- DEMAND 3 of a file: from what the routine promises to what a call does.
 use mathlib.Core.Path.{_≡_, refl, sym, ap, subst, _∙_}
-use mathlib.Core.List.{List, [], _∷_}
+use mathlib.Core.List.{List}
 use Prim.Native.Nat.{ℕ, _+_, _*_, _%_, _≤_, _<_}
 use native.Mathlib.Omega.{arith}
 use lib.ListN.{length, getD, take, length-take, List·getD-append}
@@ -16,20 +16,21 @@ use Rattle.machine.proofs.Placed.{code-word}
 use Rattle.refusal.specs.Answer.{Answer, accepted, refused}
 use Rattle.assembler.specs.Bytes.{bytes}
 use Rattle.assembler.proofs.Writes.{length-bytes}
-use Rattle.reading.specs.Program.{Program}
-use Rattle.assembler.specs.Item.{Item, instr, raw, jump, label}
-use Rattle.call.specs.Layout.{span, code-items, data-items, items, place, code-length, constants-offset, routine-words}
+use Rattle.reading.specs.Program.{Program, constants}
+use Rattle.call.specs.Layout.{constants-from, code-items, pad, data-items, items, place, code-length, constants-offset, routine-words}
 use Rattle.call.proofs.Good.{Good}
 use Rattle.reading.specs.Terms.{start, Terms}
 use Rattle.call.specs.Returned.{Returned}
 use Rattle.call.proofs.Claim.{Called}
-use Rattle.call.proofs.Items.{span-append, resolved-length}
+use Rattle.call.proofs.Items.{span-append, span-four, resolved-length}
+use Rattle.call.proofs.Padding.{offset-eight}
 use Rattle.call.proofs.Words.{decodes, code-stands}
 use Rattle.call.proofs.Forth.{ends}
 use Rattle.call.proofs.Call.{call}
+use Rattle.call.proofs.Underway.{underway}
 use Rattle.routine.specs.Routine.{Summary, summary-of, summary-answer, buffer-after, program-of, Promise}
 use Rattle.correctness.specs.Claim.{CallSetup, Claim, ForwardClaim, WordsClaim}
-use Rattle.correctness.specs.Follows.{ProgramClaim, SameClaim, ExtentClaim}
+use Rattle.correctness.specs.Follows.{ProgramClaim, SameClaim, OffsetClaim, ExtentClaim, UnderwayClaim}
 use Rattle.correctness.proofs.Accepts.{same}
 use Rattle.correctness.proofs.Whole.{accepted-good}
 use Rattle.correctness.proofs.Same.{program-same}
@@ -96,6 +97,11 @@ correct Q file buf t after p s h n r q z =
     subst (λ (u : Summary). Returned Q p (u .length) s n r) (sym (told file buf t after (h .promised) p (h .lines)))
     (call Q p (accepted-good (length buf) file p (h .lines)) s (called file buf t after p s h) n r q z)
 
+pub underway-correct : UnderwayClaim
+underway-correct Q file buf t after p s h n r q =
+    let u = underway Q p (accepted-good (length buf) file p (h .lines)) s (called file buf t after p s h) n r q in
+    record { k = u .0; here = u .1; runs = u .2; f = u .3; cells = u .4 }
+
 pub forward-correct : ForwardClaim
 forward-correct Q file buf t after p s h f =
     let e = ends Q p (accepted-good (length buf) file p (h .lines)) f (start (p .head) s) in
@@ -106,16 +112,7 @@ forward-correct Q file buf t after p s h f =
 -- constants come last
 before-end : (p : Program) → constants-offset p ≤ code-length p
 unfolding items
-before-end p = omega (arith, span-append (code-items p) (data-items p))
-
--- items take whole words
-whole-words : (is : List Item) → span is % 4 ≡ 0
-unfolding span
-whole-words [] = refl
-whole-words (instr i ∷ is) = omega (arith, whole-words is)
-whole-words (raw w ∷ is) = omega (arith, whole-words is)
-whole-words (jump k l r ∷ is) = omega (arith, whole-words is)
-whole-words (label l ∷ is) = whole-words is
+before-end p = omega (arith, span-append (code-items p) (data-items p), span-append (pad p) (constants-from 0 (constants (p .lines))))
 
 pub extent : ExtentClaim
 extent file buf t after h =
@@ -130,9 +127,14 @@ extent file buf t after h =
       omega (arith, o, l, before-end p),
       omega (arith, n, m, l),
       omega (arith, l, g .room),
-      rw o (whole-words (code-items p)),
-      rw l (whole-words (items p)),
+      rw o (omega (arith, span-four (code-items p), span-four (pad p))),
+      rw l (span-four (items p)),
     )
+
+pub eights : OffsetClaim
+eights file buf t after h n =
+    let x = program file buf t after h in
+    subst (λ (u : Summary). 0 < u .constants → u .offset % 8 ≡ 0) (sym (told file buf t after h (x .0) (x .1))) (offset-eight (x .0)) n
 
 pub words-valid : WordsClaim
 words-valid file buf t after h k b =

@@ -3,12 +3,14 @@ use mathlib.Core.Path.{_≡_, refl}
 use mathlib.Core.Bool.{true}
 use mathlib.Core.List.{List, [], _∷_, _++_, flatMap}
 use Prim.Native.Nat.{ℕ}
-use lib.Ieee.{ofInt, binary64}
+use Prim.Native.String.{String}
+use lib.Ieee.{toBits, ofInt, binary64}
 use lib.IntN.{pos}
 use lib.ListN.{length, take, drop, replicate}
 use Rattle.isa.specs.Encode.{encode, join, fields}
 use Rattle.refusal.specs.Answer.{accepted}
-use Rattle.ast.specs.declared.Frame.the-variants.{Fast}
+use Rattle.ast.specs.declared.Frame.{Frame}
+use Rattle.ast.specs.declared.Frame.the-variants.{Fast, Indirect}
 use Rattle.ast.specs.declared.Place.the-variants.{Mem}
 use Rattle.ast.specs.declared.Binary.the-variants.{Gt, Minus}
 use Rattle.ast.specs.declared.Order.the-variants.{Binary, LoadConst, Load, Save, BranchIf, SetLabel}
@@ -29,10 +31,10 @@ use Rattle.reading.specs.Line.{order, constant}
 use Rattle.orders.specs.Code.{code, line-code, unary-code, binary-code}
 use Rattle.frame_code.specs.Items.{repeated, prologue, saves, reloads, epilogue}
 use Rattle.reading.specs.Program.{Program, constants}
-use Rattle.call.specs.Layout.{span, body, constants-from, items, place}
+use Rattle.call.specs.Layout.{span, body, padding, constants-from, items, place}
 use Rattle.call.proofs.Calls.{sample, product}
 use Rattle.reading.proofs.Decks.{larger, scaled, chosen}
-use Rattle.routine.specs.Routine.{line-read, lines-read, head-read, closed-off, body-lines, first-line, finished, program-of, Summary, summary-of, buffer-after, Promise}
+use Rattle.routine.specs.Routine.{line-read, lines-read, head-read, closed-off, body-lines, first-line, finished, program-of, Summary, summary-of, summary-answer, buffer-after, Promise}
 
 -- ---- document 01's sample
 
@@ -101,6 +103,26 @@ countdown =
           ∷ [];
     }
 
+-- ---- a nop before constants, where the code ends at no multiple of 8
+
+-- behind the sample's 84 bytes
+abbrev pub padded-text : List ℕ
+padded-text = text "fast,0,1,0,0,0\nfloat,1\n"
+
+abbrev pub padded-words : List ℕ
+padded-words = sample-words ++ (0x00000013 ∷ 0x00000000 ∷ 0x3ff00000 ∷ [])
+
+-- `auipc` and `fld` to the constant, over the nop
+abbrev pub loaded-text : List ℕ
+loaded-text = text "fast,0,1,0,0,0\nload_const,0,0\nfloat,1\n"
+
+abbrev pub loaded-words : List ℕ
+loaded-words = take 11 sample-words ++ ((0x00000297 ∷ 0x0342b007 ∷ []) ++ (drop 11 sample-words ++ (0x00000013 ∷ 0x00000000 ∷ 0x3ff00000 ∷ [])))
+
+-- what the routine tells of a file in 65,536 bytes
+abbrev pub Told : (file : String) → (length offset constants jumps : ℕ) → Frame → Type 0
+Told file l o k j f = summary-answer (program-of 65536 (text file)) ≡ accepted (record { length = l; offset = o; constants = k; jumps = j; frame = f })
+
 -- ---- all of them
 
 -- What each file reads to; and what the routine answers and leaves in bytes of 255.
@@ -114,11 +136,21 @@ pub record AllRead : Type 0 where
   pub sample-promise : Promise sample-text (replicate 100 255) (accepted sample-told) sample-after
   pub scaled-promise : Promise scaled-text (replicate 256 255) (accepted scaled-told) scaled-after
   pub larger-told : summary-of larger ≡ record { length = 128; offset = 128; constants = 0; jumps = 2; frame = Fast }
-  pub countdown-told : summary-of countdown ≡ record { length = 140; offset = 132; constants = 1; jumps = 4; frame = Fast }
+  -- one nop for two constants; none where the code ends at a multiple of 8
+  pub padded-promise : Promise padded-text (replicate 96 255) (accepted (record { length = 96; offset = 88; constants = 1; jumps = 0; frame = Fast })) (bytes padded-words)
+  pub loaded-promise : Promise loaded-text (replicate 104 255) (accepted (record { length = 104; offset = 96; constants = 1; jumps = 2; frame = Fast })) (bytes loaded-words)
+  pub two-told : Told "fast,0,1,0,0,0\nfloat,1\nfloat,2\n" 104 88 2 0 Fast
+  pub even-told : Told "fast,0,2,0,0,0\nfloat,1\n" 96 88 1 0 Fast
+  pub even-loaded : Told "fast,0,1,0,0,0\nget,0,mem,0\nload_const,0,0\nfloat,1\n" 104 96 1 2 Fast
+  pub saved-told : Told "fast,16,1,0,0,256\nfloat,1\n" 104 96 1 0 Fast
+  pub block-told : Told "indirect,0,0,0,0,0\nbits,3ff0000000000000\n" 136 128 1 2 Indirect
+  pub table-told : Told "indirect,0,1,0,0,0\nfloat,-3\n" 168 160 1 2 Indirect
+  pub far-told : Told "indirect,16,2,1,1,0\nload_const,0,0\nfloat,-3\n" 232 224 1 4 Indirect
+  pub countdown-told : summary-of countdown ≡ record { length = 144; offset = 136; constants = 1; jumps = 4; frame = Fast }
 
 pub files : AllRead
-unfolding encode join fields program-of lines-of head-read lines-read line-read closed-off finished first-line body-lines jumps-in line-judged judged said read split first same read-values read-decimal read-integer read-word read-from counts-hold any-saved items span body constants constants-from prologue epilogue
-    saves reloads saved repeated line-code code unary-code binary-code access-code point-code jumps targets labels li-code sub-stack-code add-stack-code allocate-stack-code label-place buffer-after bytes flatMap resolved place
+unfolding encode join fields program-of lines-of head-read lines-read line-read closed-off finished first-line body-lines jumps-in line-judged judged said read split first same read-values read-decimal read-integer read-word read-from counts-hold any-saved items span body constants padding constants-from prologue epilogue
+    saves reloads saved repeated line-code code unary-code binary-code access-code point-code jumps targets labels li-code sub-stack-code add-stack-code allocate-stack-code label-place buffer-after bytes flatMap resolved place toBits ofInt
 files =
     record {
       sample-reads = refl;
@@ -130,5 +162,14 @@ files =
       sample-promise = (refl, refl);
       scaled-promise = (refl, refl);
       larger-told = refl;
+      padded-promise = (refl, refl);
+      loaded-promise = (refl, refl);
+      two-told = refl;
+      even-told = refl;
+      even-loaded = refl;
+      saved-told = refl;
+      block-told = refl;
+      table-told = refl;
+      far-told = refl;
       countdown-told = refl;
     }

@@ -9,5 +9,6 @@ pub mod Lined
 pub mod Correct
 pub mod Files
 pub mod Refusals
+pub mod Nop
 pub mod Never
 pub mod Closed

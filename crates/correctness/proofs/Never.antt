@@ -40,10 +40,11 @@ use Rattle.reading.specs.Line.{Line, order, constant}
 use Rattle.orders.specs.Code.{base, unary-code, scratched-code, binary-code, choose-code, code, line-code}
 use Rattle.frame_code.proofs.Valid.{AllValid}
 use Rattle.reading.specs.Program.{Program, constants}
-use Rattle.call.specs.Layout.{span, body, constants-from, entry, exit, code-items, data-items, items, place}
+use Rattle.call.specs.Layout.{span, body, padding, constants-from, entry, exit, code-items, pad, data-items, items, place}
 use Rattle.call.proofs.Offset.{line-offset}
 use Rattle.call.proofs.Good.{Good}
 use Rattle.base.specs.Tests.{member}
+use Rattle.call.proofs.Padding.{padding-is}
 use Rattle.call.proofs.Words.{entry-valid, exit-valid}
 use Rattle.routine.specs.Routine.{then, unless, next-line, last-line, with-line, only, shared, room-number, order-number, constant-number, placed-at, as-line, line-read, lines-read, as-head, head-read, file-read, closed-off, jump-lines, first-line, unset, far, refused-at, finished, program-of}
 use Rattle.routine.proofs.LawRoom.{span-words}
@@ -116,6 +117,10 @@ module _ (all : List Item) where
   near-body here (order o ∷ ls) = near-join here (code o) (body ls) (near-order here o) (near-body (here + span (code o)) ls)
   near-body here (constant c ∷ ls) = near-body here ls
 
+  near-padding : (here n k : ℕ) → Near (jumps-in here (padding n k))
+  unfolding jumps-in
+  near-padding here n k = padding-is (λ is. Near (jumps-in here is)) tt tt n k
+
   near-constants : (here k : ℕ) (bs : List ℕ) → Near (jumps-in here (constants-from k bs))
   unfolding constants-from jumps-in
   near-constants here k [] = tt
@@ -137,7 +142,7 @@ module _ (p : Program) (g : Good p) where
       near-join (items p) 0 (code-items p) (data-items p)
       (near-join (items p) 0 (entry p) (body (p .lines) ++ exit p) near-entry
       (rw (zero-add (span (entry p))) (near-join (items p) (span (entry p)) (body (p .lines)) (exit p) (near-body (items p) (span (entry p)) (p .lines)) near-exit)))
-      (near-constants (items p) _ 0 (constants (p .lines)))
+      (near-join (items p) _ (pad p) (constants-from 0 (constants (p .lines))) (near-padding (items p) _ (span (code-items p)) (length (constants (p .lines)))) (near-constants (items p) _ 0 (constants (p .lines))))
 
 -- ---- answers
 

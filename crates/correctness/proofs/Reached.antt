@@ -13,7 +13,6 @@ use Rattle.ast.specs.declared.Order.{Order}
 use Rattle.ast.specs.declared.Order.the-variants.{SetLabel}
 use Rattle.assembler.specs.Item.{Item, instr, raw, jump, label}
 use Rattle.base.specs.Tests.{member}
-use Rattle.base.proofs.Bools.{true-not-false}
 use Rattle.assembler.specs.Put.{jumps, targets, labels}
 use Rattle.assembler.specs.Resolved.{label-place, jumps-in}
 use Rattle.ast.specs.Constant.{constant-label}
@@ -22,10 +21,11 @@ use Rattle.reading.specs.Line.{Line, order, constant}
 use Rattle.orders.specs.Code.{code, line-code}
 use Rattle.reading.specs.Program.{Program, constants, here-or, label-line}
 use Rattle.ast.specs.Uses.{sets}
-use Rattle.call.specs.Layout.{body, constants-from, entry, exit, code-items, data-items, items}
+use Rattle.call.specs.Layout.{span, body, constants-from, entry, exit, code-items, pad, data-items, items}
 use Rattle.call.proofs.Items.{Unset}
 use Rattle.routine.specs.Routine.{last-line, body-lines, jump-lines, first-line, unset}
 use Rattle.routine.proofs.LawRoom.{is-none, place-among}
+use Rattle.routine.proofs.LawFit.{padding-jumps}
 
 -- ---- jumps of items
 
@@ -94,7 +94,7 @@ no-jumps k (b ∷ bs) = no-jumps (suc k) bs
 counted : (p : Program) → jumps (items p) ≡ length (jump-lines p)
 unfolding items
 counted p =
-    rw (jumps-append (code-items p) (data-items p), jumps-append (entry p) (body (p .lines) ++ exit p), jumps-append (body (p .lines)) (exit p), no-jumps 0 (constants (p .lines)))
+    rw (jumps-append (code-items p) (data-items p), jumps-append (entry p) (body (p .lines) ++ exit p), jumps-append (body (p .lines)) (exit p), jumps-append (pad p) (constants-from 0 (constants (p .lines))), padding-jumps (span (code-items p)) (length (constants (p .lines))), no-jumps 0 (constants (p .lines)))
     (omega (arith, length-append (replicate (jumps (entry p)) 1) (body-lines 2 (p .lines) ++ replicate (jumps (exit p)) (last-line p)), length-append (body-lines 2 (p .lines)) (replicate (jumps (exit p)) (last-line p)), length-replicate {A = ℕ} (jumps (entry p)) 1, length-replicate (jumps (exit p)) (last-line p), body-counted 2 (p .lines)))
 
 -- the jumps of the body

@@ -21,7 +21,7 @@ use Rattle.accesses.specs.Code.{li-code, sub-stack-code, add-stack-code, alloca
 use Rattle.orders.specs.Code.{code, line-code, scratched-code}
 use Rattle.frame_code.specs.Items.{repeated, prologue, saves, reloads, epilogue}
 use Rattle.reading.specs.Program.{Program, constants}
-use Rattle.call.specs.Layout.{span, body, constants-from, items}
+use Rattle.call.specs.Layout.{span, body, padding, constants-from, items}
 use Rattle.routine.specs.Routine.{line-read, lines-read, head-read, closed-off, body-lines, first-line, finished, program-of, summary-answer, code-bytes, buffer-after}
 use Rattle.correctness.specs.Refusals.{TooLong, Zeroed, Behind}
 use Rattle.correctness.specs.Examples.{Malformed, Fields, Counts, Labels}
@@ -68,7 +68,7 @@ behind file buf answer after h = rw (h .1) (kept buf (code-bytes (program-of (le
 -- ---- small files
 
 pub refusals : Malformed × Fields × Counts × Labels
-unfolding program-of lines-of head-read lines-read line-read closed-off finished first-line body-lines jumps-in line-judged judged said read split first same read-values read-decimal read-integer read-word read-from counts-hold any-saved items span body constants constants-from prologue epilogue
+unfolding program-of lines-of head-read lines-read line-read closed-off finished first-line body-lines jumps-in line-judged judged said read split first same read-values read-decimal read-integer read-word read-from counts-hold any-saved items span body constants padding constants-from prologue epilogue
     saves reloads saved repeated line-code code scratched-code access-code point-code jumps targets labels li-code sub-stack-code add-stack-code allocate-stack-code label-place
 refusals = (
   (refl, refl, refl, refl, refl, refl, refl, refl, refl, refl, refl),

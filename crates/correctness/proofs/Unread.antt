@@ -1,6 +1,6 @@
 -- The digits of `bits` lines don't matter to the routine: files that differ only there are refused alike, or taken as programs that differ
 -- only in bits of constants. These have one summary, and the same words before the constants. Assumes nothing.
-use mathlib.Core.Path.{_≡_, refl, sym, ap, _∙_, fun-ext}
+use mathlib.Core.Path.{_≡_, refl, sym, ap, subst, _∙_, fun-ext}
 use mathlib.Core.Bool.{Bool, true, false, cond, Bool·beq}
 use mathlib.Core.List.{List, [], _∷_, _++_, map, map-append}
 use mathlib.Core.Option.{Option, some, none}
@@ -35,8 +35,9 @@ use Rattle.assembler.specs.Resolved.{resolved, label-place, jumps-in}
 use Rattle.assembler.proofs.Items.{jumps-append, labels-append}
 use Rattle.finish.proofs.Append.{jumps-in-append, label-place-append}
 use Rattle.orders.specs.Code.{line-code}
-use Rattle.call.specs.Layout.{span, body, constants-from, entry, exit, code-items, data-items, items, constants-offset, place, routine-words}
-use Rattle.call.proofs.Items.{span-append, resolved-append}
+use Rattle.call.specs.Layout.{span, body, constants-from, entry, exit, code-items, pad, data-items, items, constants-offset, place, routine-words}
+use Rattle.call.proofs.Items.{span-append}
+use Rattle.call.proofs.Padding.{front-items, words-parted}
 use Rattle.routine.specs.Routine.{then, unless, next-line, with-line, last-line, only, room-number, order-number, constant-number, placed-at, as-line, line-read, lines-read, as-head, head-read, file-read, closed-off, body-lines, jump-lines, first-line, unset, far, refused-at, finished, program-of, summary-of}
 use Rattle.correctness.proofs.Accepts.{operand-cases}
 
@@ -132,15 +133,21 @@ length-blank (order o ∷ ls) = length-blank ls
 length-blank (constant c ∷ ls) = ap suc (length-blank ls)
 
 module _ (p : Program) where
-  data-blank : (xs : List Item) → Alike (xs ++ data-items (blank p)) (xs ++ data-items p)
-  data-blank xs = behind xs (data-items (blank p)) (data-items p) (data-alike 0 (constants (blank p .lines)) (constants (p .lines)) (length-blank (p .lines)))
-
   code-blank : code-items (blank p) ≡ code-items p
   code-blank = rw (body-blank (p .lines))
 
+  pad-blank : pad (blank p) ≡ pad p
+  pad-blank = rw (code-blank, length-blank (p .lines))
+
+  data-blank : (xs : List Item) → Alike (xs ++ data-items (blank p)) (xs ++ data-items p)
+  data-blank xs =
+      rw pad-blank
+      (behind xs (pad p ++ constants-from 0 (constants (blank p .lines))) (data-items p)
+      (behind (pad p) (constants-from 0 (constants (blank p .lines))) (constants-from 0 (constants (p .lines))) (data-alike 0 (constants (blank p .lines)) (constants (p .lines)) (length-blank (p .lines)))))
+
   items-blank : Alike (items (blank p)) (items p)
   unfolding items
-  items-blank = rw code-blank (data-blank (code-items p))
+  items-blank = subst (λ (is : List Item). Alike (is ++ data-items (blank p)) (items p)) (sym code-blank) (data-blank (code-items p))
 
   place-blank : place (blank p) ≡ place p
   unfolding place
@@ -148,16 +155,16 @@ module _ (p : Program) where
 
   -- the words before the constants
   abbrev pub code-words : List ℕ
-  code-words = resolved (place p) 0 (code-items p)
+  code-words = resolved (place p) 0 (front-items p)
 
   pub offset-blank : constants-offset (blank p) ≡ constants-offset p
-  offset-blank = ap span code-blank
+  offset-blank = rw (pad-blank, code-blank)
 
   pub summary-blank : summary-of (blank p) ≡ summary-of p
   summary-blank = rw (items-blank .spans, items-blank .counts, offset-blank, length-blank (p .lines))
 
 pub code-words-blank : (p : Program) → code-words (blank p) ≡ code-words p
-code-words-blank p = rw (place-blank p, code-blank p)
+code-words-blank p = rw (place-blank p, pad-blank p, code-blank p)
 
 -- ---- the constants' words
 
@@ -172,8 +179,7 @@ constants-words at here k [] = refl
 constants-words at here k (b ∷ bs) = rw (constants-words at (here + 4 + 4) (suc k) bs)
 
 pub words-split : (p : Program) → routine-words p ≡ code-words p ++ halves (constants (p .lines))
-unfolding items
-words-split p = rw (resolved-append (place p) 0 (code-items p) (data-items p), constants-words)
+words-split p = rw (words-parted p, constants-words)
 
 -- ---- a line's text
 
@@ -274,7 +280,7 @@ closed-blank : (size : ℕ) (p : Program) → closed-off size (blank p) ≡ blan
 unfolding closed-off
 closed-blank size p =
     let a = data-blank p (exit p) in
-    rw (body-blank (p .lines), a .sets, a .spans, a .counts, length-map (p .lines) blank-line) (unless-mapped blank (room-number size (entry p ++ body (p .lines)) (exit p ++ data-items p)) (last-line p) p)
+    rw (a .sets, a .spans, a .counts, body-blank (p .lines), length-map (p .lines) blank-line) (unless-mapped blank (room-number size (entry p ++ body (p .lines)) (exit p ++ data-items p)) (last-line p) p)
 
 finished-blank : (p : Program) → finished (blank p) ≡ blanked (finished p)
 unfolding finished

@@ -23,10 +23,11 @@ use Rattle.orders.specs.Fault.{fault}
 use Rattle.ast.specs.Uses.{registers-fit}
 use Rattle.finish.proofs.All.{zero-then}
 use Rattle.reading.specs.Program.{Program, constants, label-line}
-use Rattle.call.specs.Layout.{span, body, entry, exit, code-items, data-items, items, code-length}
+use Rattle.call.specs.Layout.{span, body, constants-from, entry, exit, code-items, pad, data-items, items, code-length}
 use Rattle.call.proofs.Good.{Named, Good}
-use Rattle.call.proofs.Items.{span-append, unset-append, fresh-unset}
+use Rattle.call.proofs.Items.{span-append, Unset, unset-append, fresh-unset}
 use Rattle.call.proofs.Labels.{Early, Late, entry-fresh, exit-fresh}
+use Rattle.call.proofs.Padding.{padding-is}
 use Rattle.call.proofs.Placing.{body-unset}
 use Rattle.routine.specs.Routine.{shared, room-number, program-of}
 use Rattle.correctness.proofs.Taken.{FitLine, FitLines, Taken, taken}
@@ -74,7 +75,7 @@ module _ (p : Program) (f : FitLines (p .head) (p .lines)) where
       (unset-append l (code-items p) (data-items p)
       (unset-append l (entry p) (body (p .lines) ++ exit p) (fresh-unset l (entry p) Early (entry-fresh (p .head)) (λ v. omega (arith, v .0)))
       (unset-append l (body (p .lines)) (exit p) (body-unset l (p .lines) a) (fresh-unset l (exit p) Late (exit-fresh (p .head)) (λ v. omega (arith, v .0)))))
-      (constants-unset l 0 (constants (p .lines)) b)))
+      (unset-append l (pad p) (constants-from 0 (constants (p .lines))) (padding-is (Unset l) tt tt (span (code-items p)) (length (constants (p .lines)))) (constants-unset l 0 (constants (p .lines)) b))))
 
   user-label : (k : ℕ) → fault (SetLabel k) ≡ 0 → k ≤ 1023
   unfolding fault

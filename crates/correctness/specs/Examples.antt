@@ -64,6 +64,6 @@ Labels =
     × Refused 44 "fast,0,1,0,0,0\nlabel,1\nget,0,mem,0\nlabel,2\n" 7 3
     × Refused 83 "fast,0,1,0,0,0\n" 7 1  -- 84 bytes in all
     × Refused 83 "fast,0,1,0,0,0\nlabel,1\nlabel,2\n" 7 3  -- behind the body: the last line
-    × Refused 91 "fast,0,1,0,0,0\nfloat,1\n" 7 2
+    × Refused 95 "fast,0,1,0,0,0\nfloat,1\n" 7 2  -- 96, with the nop before the constant
     × Refused 90 "fast,0,1,0,0,0\nbranch,0,5,0\n" 7 2  -- before any 5
     × Refused 65536 "fast,0,1,0,0,0\nget,32,mem,0\nlabel,1024\n" 1 2  -- the first refused line decides

@@ -3,7 +3,7 @@ use mathlib.Core.Path.{_≡_, refl, _∙_}
 use mathlib.Core.Logic.{_≢_}
 use mathlib.Core.Bool.{Bool, true, false, not, _||_}
 use mathlib.Core.List.{[], _∷_}
-use Prim.Native.Nat.{ℕ, zero, suc, _+_, _-_, _*_, _^_, _≤_, _<_}
+use Prim.Native.Nat.{ℕ, zero, suc, _+_, _-_, _*_, _%_, _^_, _≤_, _<_}
 use native.Mathlib.Omega.{arith}
 use borrow.Author.Tests.{eqb-true, eqb-false, eq-eqb}
 use lib.Dec.{T, eqb}
@@ -77,7 +77,7 @@ module _ (Q : Floats) (P : ℕ → Type 0) (m0 m1 X F : ℕ → ℕ) (base most 
         same = rw m (h .same);
       }
 
-  module _ (fits : base + 8 * most ≤ 2 ^ 64) (many : count ≤ most) (all-in : (x : ℕ) → Cells x → P x) (before : Same P m1 m0) (bytes : (x : ℕ) → m0 x < 256) (table : Off P tab (16 * most)) (small : 16 * most ≤ 2 ^ 64) (apart : (i : ℕ) → i < count → Off P (through i) 8) (i : ℕ) (u : State) (l : i < count) (h : Copied i u) where
+  module _ (fits : base + 8 * most ≤ 2 ^ 64) (many : count ≤ most) (all-in : (x : ℕ) → Cells x → P x) (before : Same P m1 m0) (bytes : (x : ℕ) → m0 x < 256) (table : Off P tab (16 * most)) (small : 16 * most ≤ 2 ^ 64) (apart : (i : ℕ) → i < count → Off P (through i) 8) (even : base % 8 ≡ 0) (table-even : tab % 8 ≡ 0) (states-even : (i : ℕ) → i < count → through i % 8 ≡ 0) (i : ℕ) (u : State) (l : i < count) (h : Copied i u) where
     near : Same P (u .mem) m0
     near x b o = h .same x b (λ p. o (all-in x p)) ∙ before x b o
 
@@ -86,11 +86,14 @@ module _ (Q : Floats) (P : ℕ → Type 0) (m0 m1 X F : ℕ → ℕ) (base most 
         let e : w64 (u .x 18 + 0) ≡ w64 (tab + 16 * i) = omega (arith, h .s2) in
         rw e (load8-same P (u .mem) m0 (w64 (tab + 16 * i)) near (off-part P tab (16 * most) (16 * i) table (omega arith) small))
 
-    value : load8 (u .mem) (w64 (w64 (load8 (u .mem) (w64 (u .x 18 + 0)) + u .x 19) + 0)) ≡ state i
-    value = rw (pointer, h .s3, at (load8 m0 (w64 (tab + 16 * i)))) (load8-same P (u .mem) m0 (through i) near (apart i l))
+    reached : w64 (w64 (load8 (u .mem) (w64 (u .x 18 + 0)) + u .x 19) + 0) ≡ through i
+    reached = rw (pointer, h .s3) (at (load8 m0 (w64 (tab + 16 * i))))
       where
         at : (p : ℕ) → w64 (w64 (p + w64 idx) + 0) ≡ w64 (p + idx)
         at p = omega arith
+
+    value : load8 (u .mem) (w64 (w64 (load8 (u .mem) (w64 (u .x 18 + 0)) + u .x 19) + 0)) ≡ state i
+    value = rw reached (load8-same P (u .mem) m0 (through i) near (apart i l))
 
     to : w64 (u .x 6 + 0) ≡ base + 8 * i
     to = omega (arith, h .t1)
@@ -135,8 +138,15 @@ module _ (Q : Floats) (P : ℕ → Type 0) (m0 m1 X F : ℕ → ℕ) (base most 
     unfolding effect apply
     new-x r k = execs-x Q copy-regs state-copy u r tt k
 
+    pointer-even : w64 (u .x 18 + 0) % 8 ≡ 0
+    pointer-even = omega (arith, h .s2, table-even)
+
+    cell-even : w64 (u .x 6 + 0) % 8 ≡ 0
+    cell-even = rw to (omega (arith, even))
+
     fit : Fit Q state-copy u
-    fit = omega arith
+    unfolding effect apply setx upd
+    fit = (omega arith, pointer-even, (omega arith, tt, (omega arith, rw reached (states-even i l), (omega arith, cell-even, (omega arith, tt, (omega arith, tt, tt))))))
 
     pub round : Round Q P state-copy count Copied i u
     round =

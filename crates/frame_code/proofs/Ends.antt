@@ -1,13 +1,13 @@
 -- What the frames' words do on the machine: the terms they rest on, and what holds behind them (document 01, "The machine and the terms of a call").
 -- Proved in `Opened` and `Closing`.
 use mathlib.Core.Path.{_≡_}
-use mathlib.Core.Bool.{Bool, true, false, not, _&&_, _||_, cond}
+use mathlib.Core.Bool.{Bool, true, false, not, _||_, cond}
 use mathlib.Core.List.{List, _++_, List·Memᴰ}
-use Prim.Native.Nat.{ℕ, zero, suc, _+_, _-_, _*_, _%_, _^_, _≤_, _<_}
+use Prim.Native.Nat.{ℕ, _+_, _*_, _%_, _^_, _≤_, _<_}
 use lib.Dec.{T, eqb}
 use lib.ListN.{length, getD}
 use Rattle.ast.specs.Count.{cells}
-use Rattle.machine.specs.Word.{w64, dist, upd, load8, store8}
+use Rattle.machine.specs.Word.{w64, dist, load8}
 use Rattle.machine.specs.Floats.{Floats}
 use Rattle.machine.specs.State.{State, Sound}
 use Rattle.machine.specs.Step.{CodeAt, Among, RunIn}
@@ -56,6 +56,10 @@ pub record PrologueTerms (H : Head) (at : ℕ → ℕ) (s : State) (bottom : ℕ
   -- the block, where `mem` isn't in the frame
   pub block-fits : T (not (holds-mem (H .frame) (s .x 11))) → s .x 10 + 8 * cells H ≤ 2 ^ 64
   pub block-apart : T (not (holds-mem (H .frame) (s .x 11))) → Off (Frame-at H s bottom) (s .x 10) (8 * cells H)
+  -- accesses are at multiples of 8
+  pub frame-aligned : bottom % 16 ≡ 0
+  pub table-aligned : T (uses-table (H .frame) (s .x 11)) → s .x 11 % 8 ≡ 0
+  pub states-aligned : T (uses-table (H .frame) (s .x 11)) → (i : ℕ) → i < H .states → table-cell H s i % 8 ≡ 0
 
 -- ---- behind prologue and saves
 
@@ -130,6 +134,10 @@ pub record EpilogueTerms (H : Head) (at : ℕ → ℕ) (s : State) (bottom a her
   pub code-apart : Off (Observed-at H s) (u .pc) (4 * length (exit-words H at here))
   pub frame-apart : Off (Observed-at H s) bottom (whole-size H (s .x 11))
   pub table-apart : T (uses-table (H .frame) (s .x 11)) → Off (Observed-at H s) (s .x 11) (16 * cells H)
+  -- accesses are at multiples of 8
+  pub frame-aligned : bottom % 16 ≡ 0
+  pub table-aligned : T (uses-table (H .frame) (s .x 11)) → s .x 11 % 8 ≡ 0
+  pub obs-aligned : T (uses-table (H .frame) (s .x 11)) → (i : ℕ) → i < H .obs → table-cell H s (H .states + i) % 8 ≡ 0
 
 -- registers that the end sets: ra, sp, t0..t2, a0, and those that it restores
 abbrev pub end-sets : Frame → ℕ → Bool

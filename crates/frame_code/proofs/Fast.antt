@@ -3,7 +3,7 @@ use mathlib.Core.Path.{_≡_, refl, ap, sym, subst, _∙_}
 use mathlib.Core.Logic.{_≢_}
 use mathlib.Core.Bool.{Bool, not, _||_}
 use mathlib.Core.List.{List, [], _∷_, _++_, map, List·Memᴰ, append-assoc}
-use Prim.Native.Nat.{ℕ, zero, suc, _+_, _-_, _*_, _^_, _≤_, _<_}
+use Prim.Native.Nat.{ℕ, zero, suc, _+_, _*_, _^_, _≤_, _<_}
 use native.Mathlib.Omega.{arith}
 use lib.Dec.{T, eqb, leb, leb→le}
 use lib.ListN.{length, length-append, length-map, getD}
@@ -78,7 +78,7 @@ module _ (Q : Floats) (cap states obs last mask : ℕ) (at : ℕ → ℕ) (s : S
 
     -- the opening, `mem`, `stack`, the states, the saves
     one : (v : State) × Begun Q (In fp (fp + 32)) Fast fp s v
-    one = begun Q Fast fp s (c .sound) (omega (arith, top)) top (c .sp ∙ omega arith)
+    one = begun Q Fast fp s (c .sound) (omega (arith, top)) top (omega (arith, c .frame-aligned)) (c .sp ∙ omega arith)
 
     two : (v : State) × Lowered Q P (sub-stack-code fs ++ (mv 9 2 ∷ [])) 9 (bottom + ss) (one .0) v
     two = down-to Q P 9 (bottom + ss) fs (omega arith) (λ z. omega arith) (λ z. omega arith) (omega (arith, sizes)) (one .0) (one .1 .sp ∙ omega (arith, top)) (omega (arith, top))
@@ -90,11 +90,11 @@ module _ (Q : Floats) (cap states obs last mask : ℕ) (at : ℕ → ℕ) (s : S
     same-f = three .1 .f ∙ two .1 .f ∙ one .1 .f
 
     four : (v : State) × Stored Q (bottom + ss) states (states-from 0 states) (three .0) v × ((i : ℕ) → i < states → load8 (v .mem) (bottom + ss + 8 * i) ≡ three .0 .f (10 + i))
-    four = states-stored Q (bottom + ss) states states (three .0) (three .1 .x 9 tt ∙ two .1 .copy) (omega (arith, sizes, top)) (few .2) (omega arith) (λ r. rw same-f (c .sound .f r))
+    four = states-stored Q (bottom + ss) states states (three .0) (three .1 .x 9 tt ∙ two .1 .copy) (omega (arith, sizes, top)) (omega (arith, c .frame-aligned)) (few .2) (omega arith) (λ r. rw same-f (c .sound .f r))
 
     five : (v : State) × Stored Q bottom cap (map save (saved mask)) (four .0) v × ((r : ℕ) → List·Memᴰ r (saved mask) → load8 (v .mem) (bottom + 8 * save-cell r) ≡ four .0 .f r) × ((c : ℕ) → c < cap → ((r : ℕ) → List·Memᴰ r (saved mask) → save-cell r ≢ c) → load8 (v .mem) (bottom + 8 * c) ≡ load8 (four .0 .mem) (bottom + 8 * c))
     five =
-        saves-stored Q bottom cap mask (four .0) (ap (λ (x : ℕ → ℕ). x 21) (four .1 .x) ∙ three .1 .copy) (omega (arith, sizes, top)) (c .room-for-saves)
+        saves-stored Q bottom cap mask (four .0) (ap (λ (x : ℕ → ℕ). x 21) (four .1 .x) ∙ three .1 .copy) (omega (arith, sizes, top)) (omega (arith, c .frame-aligned)) (c .room-for-saves)
         (λ r. rw (four .1 .f, same-f) (c .sound .f r))
 
     abbrev tail : List Instr

@@ -3,7 +3,7 @@ use mathlib.Core.Path.{_≡_, refl, ap, _∙_}
 use mathlib.Core.Logic.{_≢_}
 use mathlib.Core.Bool.{Bool, true, false, not, _||_}
 use mathlib.Core.List.{List, [], _∷_, _++_}
-use Prim.Native.Nat.{ℕ, zero, suc, _+_, _-_, _*_, _%_, _^_, _≤_, _<_}
+use Prim.Native.Nat.{ℕ, zero, suc, _+_, _*_, _%_, _^_, _≤_, _<_}
 use native.Mathlib.Omega.{arith}
 use lib.Dec.{T, eqb}
 use lib.IntN.{pos}
@@ -61,7 +61,7 @@ module _ (Q : Floats) (P : ℕ → Type 0) (m X F : ℕ → ℕ) (base tab idx s
         same = rw e (h .same);
       }
 
-  module _ (may : (i x : ℕ) → i < count → dist (goal i) x < 8 → P x) (table : (i : ℕ) → i < count → Off P (w64 (tab + 16 * (skip + i))) 8) (cells : (i : ℕ) → i < count → Off P (w64 (base + 8 * (skip + i))) 8) (i : ℕ) (u : State) (l : i < count) (h : Given i u) where
+  module _ (may : (i x : ℕ) → i < count → dist (goal i) x < 8 → P x) (table : (i : ℕ) → i < count → Off P (w64 (tab + 16 * (skip + i))) 8) (cells : (i : ℕ) → i < count → Off P (w64 (base + 8 * (skip + i))) 8) (even : base % 8 ≡ 0) (table-even : tab % 8 ≡ 0) (goals-even : (i : ℕ) → i < count → goal i % 8 ≡ 0) (i : ℕ) (u : State) (l : i < count) (h : Given i u) where
     pointer : w64 (load8 (u .mem) (w64 (u .x 18 + 0)) + u .x 19) ≡ goal i
     pointer = rw (at, load8-same P (u .mem) m (w64 (tab + 16 * (skip + i))) (h .same) (table i l), h .s3) (plain (load8 m (w64 (tab + 16 * (skip + i)))))
       where
@@ -102,8 +102,15 @@ module _ (Q : Floats) (P : ℕ → Type 0) (m X F : ℕ → ℕ) (base tab idx s
     unfolding effect apply
     new-x r k = execs-x Q copy-regs obs-copy u r tt k
 
+    pointer-even : w64 (u .x 18 + 0) % 8 ≡ 0
+    pointer-even = omega (arith, h .s2, table-even)
+
+    cell-even : w64 (u .x 6 + 0) % 8 ≡ 0
+    cell-even = omega (arith, h .t1, even)
+
     fit : Fit Q obs-copy u
-    fit = omega arith
+    unfolding effect apply setx upd
+    fit = (omega arith, pointer-even, (omega arith, tt, (omega arith, cell-even, (omega arith, rw (pointer, to) (goals-even i l), (omega arith, tt, (omega arith, tt, tt))))))
 
     pub give : Round Q P obs-copy count Given i u
     give =

@@ -1,9 +1,9 @@
 -- Prologue and saves of an indirect frame.
 use mathlib.Core.Path.{_≡_, refl, ap, sym, subst, _∙_}
 use mathlib.Core.Logic.{_≢_}
-use mathlib.Core.Bool.{Bool, true, false, not, _&&_, _||_, cond}
+use mathlib.Core.Bool.{Bool, true, false, not, _||_, cond}
 use mathlib.Core.List.{List, [], _∷_, _++_, map, List·Memᴰ, append-assoc}
-use Prim.Native.Nat.{ℕ, _+_, _-_, _*_, _%_, _^_, _≤_, _<_}
+use Prim.Native.Nat.{ℕ, _+_, _*_, _%_, _^_, _≤_, _<_}
 use native.Mathlib.Nat.{zero-add}
 use native.Mathlib.Omega.{arith}
 use borrow.Author.Tests.{eqb-true, eqb-false, le-ltb, ne-eqb}
@@ -19,7 +19,6 @@ use Rattle.machine.specs.State.{State, setx}
 use Rattle.machine.specs.Effect.{effect, apply, exec}
 use Rattle.machine.specs.Step.{Among, RunIn}
 use Rattle.machine.proofs.Exec.{execs}
-use Rattle.machine.proofs.Memory.{upd-other}
 use Rattle.base.proofs.Bools.{and-l, and-r}
 use Rattle.machine.proofs.Runs.{no-step, run-sound}
 use Rattle.machine.proofs.Straight.{execs-x}
@@ -215,8 +214,15 @@ module _ (Q : Floats) (cap states obs last mask : ℕ) (at : ℕ → ℕ) (s : S
 
     -- ---- the opening and the arguments
 
+    fp-even : fp % 8 ≡ 0
+    fp-even = by (eqb (s .x 11) 0)
+      where
+        by : (z : Bool) → (bottom + (ss + cond (not z) fs 0)) % 8 ≡ 0
+        by true = omega (arith, c .frame-aligned)
+        by false = omega (arith, c .frame-aligned)
+
     one : (v : State) × Begun Q (In fp (fp + 64)) Indirect fp s v
-    one = begun Q Indirect fp s (c .sound) (omega (arith, top)) top (c .sp ∙ omega arith)
+    one = begun Q Indirect fp s (c .sound) (omega (arith, top)) top fp-even (c .sp ∙ omega arith)
 
     one-in : (x : ℕ) → In fp (fp + 64) x → P x
     one-in x p = omega (arith, p)
@@ -243,7 +249,7 @@ module _ (Q : Floats) (cap states obs last mask : ℕ) (at : ℕ → ℕ) (s : S
     past = exec Q (over way) two
 
     came2 : (b : ℕ) → past .pc ≡ w64 b → Came Q C P s b 14 past
-    came2 b p = hop (over way) (s .pc + h1) b 13 two branch came1 (omega (arith, short-way)) (over-keeps Q two way .2) p
+    came2 b p = hop (over way) (s .pc + h1) b 13 two branch came1 (omega (arith, short-way)) tt (over-keeps Q two way .2) p
 
     -- registers there
     past-x : (r : ℕ) → T (not (move-regs r)) → past .x r ≡ one .0 .x r
@@ -372,7 +378,7 @@ module _ (Q : Floats) (cap states obs last mask : ℕ) (at : ℕ → ℕ) (s : S
       again : (i : ℕ) (u : State) → i < states → Done i u → Round Q P state-copy states Done i u
       again =
           round Q P (s .mem) (three .mem) (three .x) (s .f) base states (s .x 11) (8 * s .x 12) states (omega (arith, top, sizes, ms-is)) (omega arith)
-          (λ x p. omega (arith, p, sizes, ms-is)) before (c .sound .mem) (λ x b d. c .table-apart used x b (omega arith)) (omega (arith, few)) (c .states-apart used)
+          (λ x p. omega (arith, p, sizes, ms-is)) before (c .sound .mem) (λ x b d. c .table-apart used x b (omega arith)) (omega (arith, few)) (c .states-apart used) (omega (arith, c .frame-aligned)) (c .table-aligned used) (c .states-aligned used)
 
       abbrev steps : ℕ
       steps = 14 + (length (sub-stack-code fs) + 2 + repeated-steps states 1)
@@ -458,7 +464,7 @@ module _ (Q : Floats) (cap states obs last mask : ℕ) (at : ℕ → ℕ) (s : S
     came5 = onward-seg (allocate-stack-code ss) (s .pc + h3) (main-steps (eqb (s .x 11) 0)) (main .0) (stood-code h3 (allocate-stack-code ss) (behind-label h3 at-main _ st4)) (main .1 .came) (low-sp .1 .seg)
 
     six : (v : State) × Stored Q bottom cap (map save (saved mask)) (low-sp .0) v × ((r : ℕ) → List·Memᴰ r (saved mask) → load8 (v .mem) (bottom + 8 * save-cell r) ≡ low-sp .0 .f r) × ((c : ℕ) → c < cap → ((r : ℕ) → List·Memᴰ r (saved mask) → save-cell r ≢ c) → load8 (v .mem) (bottom + 8 * c) ≡ load8 (low-sp .0 .mem) (bottom + 8 * c))
-    six = saves-stored Q bottom cap mask (low-sp .0) (low-sp .1 .copy) (omega (arith, sizes, top)) (c .room-for-saves) ((run-sound Q (came5 .runs .runs) (c .sound)) .f)
+    six = saves-stored Q bottom cap mask (low-sp .0) (low-sp .1 .copy) (omega (arith, sizes, top)) (omega (arith, c .frame-aligned)) (c .room-for-saves) ((run-sound Q (came5 .runs .runs) (c .sound)) .f)
 
     words-before : 4 * length (resolved at 0 items) ≡ h3 + 4 * length (allocate-stack-code ss)
     unfolding resolved

@@ -3,7 +3,7 @@ use mathlib.Core.Path.{_≡_, refl, ap, sym, subst, _∙_}
 use mathlib.Core.Logic.{_≢_}
 use mathlib.Core.Bool.{not}
 use mathlib.Core.List.{List, [], _∷_, _++_, map, map-append, List·Memᴰ}
-use Prim.Native.Nat.{ℕ, _+_, _-_, _*_, _%_, _^_, _<_}
+use Prim.Native.Nat.{ℕ, _+_, _*_, _%_, _^_, _<_}
 use native.Mathlib.Omega.{arith}
 use lib.Dec.{T}
 use lib.IntN.{pos}
@@ -68,9 +68,9 @@ module _ (Q : Floats) (H : Head) (at : ℕ → ℕ) (s : State) (bottom a here :
   abbrev one : State
   one = exec Q zero-a0 u
 
-  two : (v : State) × Loaded Q P (one .x) (u .mem) bottom (one-does .3 21 (λ z. omega arith) ∙ l .s5) (saved (H .mask)) one v
+  two : (v : State) × Loaded Q P (one .x) (u .mem) bottom (one-does .3 21 (λ z. omega arith) ∙ l .s5) (omega (arith, l .frame-aligned)) (saved (H .mask)) one v
   two =
-      loaded Q P (one .x) (u .mem) bottom (one-does .3 21 (λ z. omega arith) ∙ l .s5) (saved (H .mask)) one refl (one-does .1)
+      loaded Q P (one .x) (u .mem) bottom (one-does .3 21 (λ z. omega arith) ∙ l .s5) (omega (arith, l .frame-aligned)) (saved (H .mask)) one refl (one-does .1)
       (λ r m. proper-fits r (saved-proper (H .mask) r m))
 
   came : Came Q C P u (a + (here + 4 * length (resolved at here (reloads (H .mask))))) (1 + length (saved (H .mask))) (two .0)
@@ -131,7 +131,7 @@ module _ (Q : Floats) (C P : ℕ → Type 0) (at : ℕ → ℕ) (F : Frame) (fp 
       record {
         came =
             came-at refl (omega (arith, closing-length F))
-            (hop return (a + h + 4 * length (restoring F)) ra (k + length (restoring F)) v (rw n at (words-right (a + h) (map encode (restoring F)) (encode return ∷ []) ws)) c1 (omega arith) (g .2) (return-goes Q v ra e d l));
+            (hop return (a + h + 4 * length (restoring F)) ra (k + length (restoring F)) v (rw n at (words-right (a + h) (map encode (restoring F)) (encode return ∷ []) ws)) c1 (omega arith) tt (g .2) (return-goes Q v ra e d l));
         regs = λ i o. ap (λ (x : ℕ → ℕ). x (getD (kept F) i 0)) (g .0) ∙ r .regs i o;
         sp = ap (λ (x : ℕ → ℕ). x 2) (g .0) ∙ r .sp;
         a0 = ap (λ (x : ℕ → ℕ). x 10) (g .0) ∙ r .a0;

@@ -66,9 +66,12 @@ module _ (Q : Floats) (cap states obs last mask : ℕ) (at : ℕ → ℕ) (s : S
     abbrev two : State
     two = exec Q load (one .0)
 
+    cell-even : w64 (one .0 .x 9 + 8 * last % 2 ^ 64) % 8 ≡ 0
+    cell-even = rw (one .1 .x 9 (λ z. omega arith), l .s1) (omega (arith, l .frame-aligned))
+
     two-does : Seg Q P (load ∷ []) (one .0) two × (two .x ≡ one .0 .x) × (two .mem ≡ one .0 .mem) × (two .f ≡ upd (one .0 .f) 10 (load8 (one .0 .mem) (w64 (one .0 .x 9 + 8 * last % 2 ^ 64))))
     unfolding effect apply
-    two-does = (record { fit = omega (arith, near); lands = omega arith; end = refl }, refl, refl, refl)
+    two-does = (record { fit = (omega (arith, near), cell-even, tt); lands = omega arith; end = refl }, refl, refl, refl)
 
     came2 : Came Q C P u (a + (there + 4)) (2 + length (saved mask)) two
     came2 = came-at (omega arith) (omega arith) (onward-seg (load ∷ []) (a + there) (1 + length (saved mask)) (one .0) (piece there (load ∷ []) (code (closing Fast)) st) (one .1 .came) (two-does .0))
@@ -83,7 +86,7 @@ module _ (Q : Floats) (cap states obs last mask : ℕ) (at : ℕ → ℕ) (s : S
     three = execs Q (restoring Fast) two
 
     back : Restored Q P Fast fp two three
-    back = restores-fast Q P fp two s0 (omega (arith, l .fits)) (omega (arith, l .fits))
+    back = restores-fast Q P fp two s0 (omega (arith, l .frame-aligned)) (omega (arith, l .fits)) (omega (arith, l .fits))
 
     place : (i : ℕ) → i < 4 → load8 (two .mem) (fp + 8 * i) ≡ s .x (getD (kept Fast) i 0)
     place i h = rw same-mem (l .places i h)

@@ -87,6 +87,13 @@ module _ (Q : Floats) (cap states obs last mask : ℕ) (at : ℕ → ℕ) (s : S
         let h = and-l (leb cap 4096 && (leb (states + obs) 4096 && leb last 4096)) true (l .counts) in
         (leb→le cap 4096 (and-l (leb cap 4096) _ h), leb→le (states + obs) 4096 (and-l (leb (states + obs) 4096) _ (and-r (leb cap 4096) _ h)))
 
+    fp-even : fp % 8 ≡ 0
+    fp-even = by (eqb (s .x 11) 0)
+      where
+        by : (z : Bool) → (bottom + (ss + cond (not z) (frame-size H) 0)) % 8 ≡ 0
+        by true = omega (arith, l .frame-aligned)
+        by false = omega (arith, l .frame-aligned)
+
     one : (w : State) × Reloaded Q H at s a here u w
     one = reloaded Q H at s bottom a here u l
 
@@ -140,7 +147,7 @@ module _ (Q : Floats) (cap states obs last mask : ℕ) (at : ℕ → ℕ) (s : S
     begun = 2 + length (saved mask)
 
     came2 : (b : ℕ) → past .pc ≡ w64 b → Came Q C P u b begun past
-    came2 b p = came-at refl (omega arith) (hop (over way) (a + h1) b (1 + length (saved mask)) (one .0) branch (one .1 .came) (omega (arith, short-way)) (over-keeps Q (one .0) way .2) p)
+    came2 b p = came-at refl (omega arith) (hop (over way) (a + h1) b (1 + length (saved mask)) (one .0) branch (one .1 .came) (omega (arith, short-way)) tt (over-keeps Q (one .0) way .2) p)
 
     past-x : (r : ℕ) → r ≢ 10 → past .x r ≡ u .x r
     past-x r h = ap (λ (x : ℕ → ℕ). x r) (over-keeps Q (one .0) way .0) ∙ one .1 .x r h
@@ -244,7 +251,7 @@ module _ (Q : Floats) (cap states obs last mask : ℕ) (at : ℕ → ℕ) (s : S
             give Q P (past .mem) (past .x) (past .f) base (s .x 11) (8 * s .x 12) states obs
             (λ i x h d. (used, i, h, rw (goal-is i h) at d))
             (λ i h. off-part P (s .x 11) (16 * (states + obs)) (16 * (states + i)) (l .table-apart used) (omega arith) (omega (arith, few)))
-            cell-off
+            cell-off (omega (arith, l .frame-aligned)) (l .table-aligned used) (λ i h. rw (goal-is i h) (l .obs-aligned used i h))
 
         done : (w : State) × Came Q C P u (a + h3) (begun + repeated-steps obs (length first)) w × Inv obs w
         done =
@@ -303,7 +310,7 @@ module _ (Q : Floats) (cap states obs last mask : ℕ) (at : ℕ → ℕ) (s : S
     three = execs Q (restoring Indirect) (two .0)
 
     back : Restored Q P Indirect fp (two .0) three
-    back = restores-indirect Q P fp (two .0) (two .1 .x 8 tt (λ y. omega arith) ∙ l .s0) (omega (arith, l .fits)) (omega (arith, l .fits))
+    back = restores-indirect Q P fp (two .0) (two .1 .x 8 tt (λ y. omega arith) ∙ l .s0) fp-even (omega (arith, l .fits)) (omega (arith, l .fits))
 
     ra : three .x 1 ≡ s .x 1
     ra = back .regs 0 (omega arith) ∙ place 0 (omega arith)

@@ -3,7 +3,7 @@ use mathlib.Core.Path.{_≡_, refl, sym, _∙_}
 use mathlib.Core.Logic.{_≢_, _⊎_, inl, inr}
 use mathlib.Core.Bool.{Bool, true, false, not, _||_}
 use mathlib.Core.List.{List, [], _∷_, _++_, map, List·Memᴰ, List·Memᴰ·head, List·Memᴰ·tail, List·Memᴰ·not-nil, List·Memᴰ·cases-cons}
-use Prim.Native.Nat.{ℕ, zero, suc, _+_, _-_, _*_, _%_, _^_, _≤_, _<_}
+use Prim.Native.Nat.{ℕ, zero, suc, _+_, _*_, _%_, _^_, _≤_, _<_}
 use native.Mathlib.Omega.{arith}
 use borrow.Author.Tests.{eqb-true, eqb-false}
 use lib.Bits.{xor-self}
@@ -14,7 +14,7 @@ use Rattle.isa.specs.Instr.{Instr, R, I, XOR, JALR}
 use Rattle.machine.specs.Word.{w64, upd, load8}
 use Rattle.machine.specs.Floats.{Floats}
 use Rattle.machine.specs.State.{State, setx}
-use Rattle.machine.specs.Effect.{effect, apply, exec}
+use Rattle.machine.specs.Effect.{address, effect, apply, exec}
 use Rattle.machine.proofs.Exec.{execs}
 use Rattle.machine.proofs.Memory.{upd-same, upd-other}
 use Rattle.machine.proofs.Straight.{fit-cut, execs-x}
@@ -29,7 +29,7 @@ use Rattle.frame_code.proofs.Seg.{Seg}
 
 -- ---- float registers from their cells
 
-module _ (Q : Floats) (P : ℕ → Type 0) (X m : ℕ → ℕ) (base : ℕ) (here : X 21 ≡ base) where
+module _ (Q : Floats) (P : ℕ → Type 0) (X m : ℕ → ℕ) (base : ℕ) (here : X 21 ≡ base) (even : base % 8 ≡ 0) where
   -- what register r gets
   abbrev pub kept-in : ℕ → ℕ
   kept-in r = load8 m (w64 (base + 8 * save-cell r))
@@ -49,6 +49,9 @@ module _ (Q : Floats) (P : ℕ → Type 0) (X m : ℕ → ℕ) (base : ℕ) (her
       where
         at : (base + 8 * save-cell r % 2 ^ 64) % 2 ^ 64 ≡ (base + 8 * save-cell r) % 2 ^ 64
         at = omega arith
+
+    at-eight : address u 21 (pos (8 * save-cell r)) % 8 ≡ 0
+    at-eight = rw (p, here) (omega (arith, even))
 
     lands : Landing P Q (reload r ∷ []) u
     unfolding effect
@@ -72,7 +75,7 @@ module _ (Q : Floats) (P : ℕ → Type 0) (X m : ℕ → ℕ) (base : ℕ) (her
       let t = loaded rs (exec Q (reload r) u) (o .1) (o .2) (λ k i. g k (List·Memᴰ·tail i)) in (
         t .0,
         record {
-          seg = record { fit = (omega (arith, w), t .1 .seg .fit); lands = (lands u r p q .0, t .1 .seg .lands); end = t .1 .seg .end };
+          seg = record { fit = (omega (arith, w), at-eight u r p q, t .1 .seg .fit); lands = (lands u r p q .0, t .1 .seg .lands); end = t .1 .seg .end };
           x = t .1 .x;
           mem = t .1 .mem;
           keeps = λ k e. t .1 .keeps k (rw (o .0) (by k (eqb k r) refl e));
@@ -121,7 +124,7 @@ pub record Restored (Q : Floats) (P : ℕ → Type 0) (F : Frame) (fp : ℕ) (u 
   pub f : v .f ≡ u .f
   pub mem : v .mem ≡ u .mem
 
-module _ (Q : Floats) (P : ℕ → Type 0) (fp : ℕ) (u : State) (s0 : u .x 8 ≡ fp) where
+module _ (Q : Floats) (P : ℕ → Type 0) (fp : ℕ) (u : State) (s0 : u .x 8 ≡ fp) (even : fp % 8 ≡ 0) where
   module _ (n : ℕ) (fits : fp + 8 * n ≤ 2 ^ 64) (small : fp < 2 ^ 64) where
     place : (k : ℕ) → k < 8 * n → (w64 (u .x 8 + 0) + k) % 2 ^ 64 ≡ fp + k
     place k h = omega (arith, s0)
@@ -142,7 +145,7 @@ module _ (Q : Floats) (P : ℕ → Type 0) (fp : ℕ) (u : State) (s0 : u .x 8 �
     unfolding add-stack-code effect apply setx upd
     restores-fast =
         record {
-          seg = record { fit = omega arith; lands = omega arith; end = refl };
+          seg = record { fit = omega (arith, s0, even); lands = omega arith; end = refl };
           regs = fast-reg;
           sp = omega (arith, s0);
           a0 = xor-self (u .x 10);
@@ -170,7 +173,7 @@ module _ (Q : Floats) (P : ℕ → Type 0) (fp : ℕ) (u : State) (s0 : u .x 8 �
     unfolding add-stack-code effect apply setx upd
     restores-indirect =
         record {
-          seg = record { fit = fit-cut Q 5 (restoring Indirect) u (omega arith) (omega arith); lands = omega arith; end = refl };
+          seg = record { fit = fit-cut Q 5 (restoring Indirect) u (omega (arith, s0, even)) (omega (arith, s0, even)); lands = omega arith; end = refl };
           regs = indirect-reg;
           sp = omega (arith, s0);
           a0 = xor-self (u .x 10);

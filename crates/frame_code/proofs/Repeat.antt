@@ -107,7 +107,7 @@ module _ (Q : Floats) (P : ℕ → Type 0) (each : List Instr) (n : ℕ) (Inv : 
 
         -- to b′
         jumped : (b′ : ℕ) → new .pc ≡ w64 b′ → Came Q C P s b′ (c + 7 + 1) new
-        jumped b′ p = hop back (b + 28) b′ (c + 7) low j down (omega arith) (back-keeps Q low .2) p
+        jumped b′ p = hop back (b + 28) b′ (c + 7) low j down (omega arith) tt (back-keeps Q low .2) p
 
       loop : (k i c : ℕ) (u : State) → i + suc k ≡ n → suc k < 2 ^ 64 → Inv i u → u .x 7 ≡ suc k → Came Q C P s b c u → (v : State) × Came Q C P s (b + 32) (c + 8 * suc k) v × Inv n v
       loop zero i c u e l h x m =

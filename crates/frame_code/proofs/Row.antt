@@ -58,13 +58,16 @@ module _ (Q : Floats) {J : Type 0} (k : SOp) (b : ℕ) (reg cell : J → ℕ) (b
     pub others : (c : ℕ) → c < n → ((j : J) → List·Memᴰ j js → cell j ≢ c) → load8 ((execs Q (map instr js) u) .mem) (base + 8 * c) ≡ load8 (u .mem) (base + 8 * c)
     pub sets : (j : J) → List·Memᴰ j js → load8 ((execs Q (map instr js) u) .mem) (base + 8 * cell j) ≡ want (cell j)
 
-  module _ (low : b < 32) (here : cond (eqb b 0) 0 (X b) ≡ base) (fits : base + 8 * n ≤ 2 ^ 64) where
+  module _ (low : b < 32) (here : cond (eqb b 0) 0 (X b) ≡ base) (fits : base + 8 * n ≤ 2 ^ 64) (even : base % 8 ≡ 0) where
     module _ (u : State) (j : J) (p : u .x ≡ X) (q : u .f ≡ F) (g : Good j) where
       one : effect Q (instr j) u ≡ store (base + 8 * cell j) (want (cell j))
       one = stores Q k u b (reg j) (pos (8 * cell j)) ∙ rw (p, q, here, at, g .holds)
         where
           at : (base + 8 * cell j % 2 ^ 64) % 2 ^ 64 ≡ base + 8 * cell j
           at = omega (arith, g .inside)
+
+      at-eight : address u b (pos (8 * cell j)) % 8 ≡ 0
+      at-eight = rw (p, here) (omega (arith, even))
 
       done : exec Q (instr j) u ≡ apply (store (base + 8 * cell j) (want (cell j))) u
       done = ap (λ (e : Effect). apply e u) one
@@ -98,7 +101,7 @@ module _ (Q : Floats) {J : Type 0} (k : SOp) (b : ℕ) (reg cell : J → ℕ) (b
         let s = moved u j p q h in
         let t = row js (exec Q (instr j) u) (s .0) (s .1) (λ i m. g i (List·Memᴰ·tail m)) in
         record {
-          fit = ((omega (arith, h .register, h .direct), t .fit));
+          fit = (omega (arith, h .register, h .direct), at-eight u j p q h, t .fit);
           lands = (rw e (lands-in base (base + 8 * n) (base + 8 * cell j) (omega arith) (omega (arith, h .inside)) fits), t .lands);
           x = t .x;
           f = t .f;

@@ -3,7 +3,7 @@ use mathlib.Core.Path.{_≡_, refl, ap, sym, subst, _∙_}
 use mathlib.Core.Logic.{_≢_, _⊎_, inl, inr}
 use mathlib.Core.Bool.{Bool, true, false, _&&_, cond}
 use mathlib.Core.List.{List, [], _∷_, map, List·Memᴰ, List·Memᴰ·head, List·Memᴰ·tail, List·Memᴰ·not-nil, List·Memᴰ·cases-cons}
-use Prim.Native.Nat.{ℕ, zero, suc, _+_, _*_, _^_, _≤_, _<_}
+use Prim.Native.Nat.{ℕ, zero, suc, _+_, _*_, _%_, _^_, _≤_, _<_}
 use native.Mathlib.Nat.{zero-add}
 use native.Mathlib.Omega.{arith}
 use lib.Dec.{T, eqb, ltb, ltb→lt, eqb→eq}
@@ -52,7 +52,7 @@ from-mem i zero c h = absurd (omega arith)
 from-mem i (suc k) zero h = let e : i + 0 ≡ i = omega arith in rw e (List·Memᴰ·head refl)
 from-mem i (suc k) (suc c) h = let e : i + suc c ≡ suc i + c = omega arith in rw e (List·Memᴰ·tail (from-mem (suc i) k c (omega arith)))
 
-module _ (Q : Floats) (base n k : ℕ) (u : State) (here : u .x 9 ≡ base) (fits : base + 8 * n ≤ 2 ^ 64) (few : k ≤ 8) (most : k ≤ n) (small : (r : ℕ) → u .f r < 2 ^ 64) where
+module _ (Q : Floats) (base n k : ℕ) (u : State) (here : u .x 9 ≡ base) (fits : base + 8 * n ≤ 2 ^ 64) (even : base % 8 ≡ 0) (few : k ≤ 8) (most : k ≤ n) (small : (r : ℕ) → u .f r < 2 ^ 64) where
   pub states-stored : (v : State) × Stored Q base n (states-from 0 k) u v × ((i : ℕ) → i < k → load8 (v .mem) (base + 8 * i) ≡ u .f (10 + i))
   states-stored = (
     execs Q (map state-store (from 0 k)) u,
@@ -66,7 +66,7 @@ module _ (Q : Floats) (base n k : ℕ) (u : State) (here : u .x 9 ≡ base) (fit
     where
       r : Rowed Q FSD 9 (λ c. 10 + c) (λ c. c) base n (u .x) (u .f) (λ c. u .f (10 + c)) (from 0 k) u
       r =
-          row Q FSD 9 (λ c. 10 + c) (λ c. c) base n (u .x) (u .f) (λ c. u .f (10 + c)) (omega arith) here fits (from 0 k) u refl refl
+          row Q FSD 9 (λ c. 10 + c) (λ c. c) base n (u .x) (u .f) (λ c. u .f (10 + c)) (omega arith) here fits even (from 0 k) u refl refl
           (λ c m. let l = from-below 0 k c m in record { register = omega arith; direct = omega arith; inside = omega arith; holds = refl; small = small (10 + c) })
 
 -- ---- preserved float registers
@@ -100,7 +100,7 @@ proper-fits r h = (ltb→lt r 32 (and-l (ltb r 32) _ h), ltb→lt (save-cell r) 
 pub not-ten : (mask r : ℕ) → List·Memᴰ r (saved mask) → r ≢ 10
 not-ten mask r m e = subst (λ (k : ℕ). T (proper k)) e (saved-proper mask r m)
 
-module _ (Q : Floats) (bottom n mask : ℕ) (u : State) (here : u .x 21 ≡ bottom) (fits : bottom + 8 * n ≤ 2 ^ 64) (room : (r : ℕ) → List·Memᴰ r (saved mask) → 16 ≤ n) (small : (r : ℕ) → u .f r < 2 ^ 64) where
+module _ (Q : Floats) (bottom n mask : ℕ) (u : State) (here : u .x 21 ≡ bottom) (fits : bottom + 8 * n ≤ 2 ^ 64) (even : bottom % 8 ≡ 0) (room : (r : ℕ) → List·Memᴰ r (saved mask) → 16 ≤ n) (small : (r : ℕ) → u .f r < 2 ^ 64) where
   pub saves-stored : (v : State) × Stored Q bottom n (map save (saved mask)) u v × ((r : ℕ) → List·Memᴰ r (saved mask) → load8 (v .mem) (bottom + 8 * save-cell r) ≡ u .f r) × ((c : ℕ) → c < n → ((r : ℕ) → List·Memᴰ r (saved mask) → save-cell r ≢ c) → load8 (v .mem) (bottom + 8 * c) ≡ load8 (u .mem) (bottom + 8 * c))
   saves-stored = (
     execs Q (map save (saved mask)) u,
@@ -125,4 +125,4 @@ module _ (Q : Floats) (bottom n mask : ℕ) (u : State) (here : u .x 21 ≡ bott
           }
 
       t : Rowed Q FSD 21 (λ r. r) save-cell bottom n (u .x) (u .f) (λ c. u .f (of-cell c)) (saved mask) u
-      t = row Q FSD 21 (λ r. r) save-cell bottom n (u .x) (u .f) (λ c. u .f (of-cell c)) (omega arith) here fits (saved mask) u refl refl good
+      t = row Q FSD 21 (λ r. r) save-cell bottom n (u .x) (u .f) (λ c. u .f (of-cell c)) (omega arith) here fits even (saved mask) u refl refl good

@@ -3,7 +3,7 @@ use mathlib.Core.Path.{_≡_, refl, ap, sym, subst, _∙_}
 use mathlib.Core.Logic.{_≢_, _⊎_, inl, inr}
 use mathlib.Core.Bool.{Bool, true, false, not, _&&_, _||_}
 use mathlib.Core.List.{List, [], _∷_, _++_, map, List·Memᴰ, List·Memᴰ·head, List·Memᴰ·tail, List·Memᴰ·not-nil, List·Memᴰ·cases-cons}
-use Prim.Native.Nat.{ℕ, zero, suc, _+_, _-_, _*_, _^_, _≤_, _<_}
+use Prim.Native.Nat.{ℕ, zero, suc, _+_, _-_, _*_, _%_, _^_, _≤_, _<_}
 use native.Mathlib.Nat.{zero-add}
 use native.Mathlib.Omega.{arith}
 use borrow.Author.Tests.{eq-eqb}
@@ -173,7 +173,7 @@ pub record Begun (Q : Floats) (P : ℕ → Type 0) (F : Frame) (fp : ℕ) (s v :
   pub f : v .f ≡ s .f
   pub places : (i : ℕ) → i < length (kept F) → load8 (v .mem) (fp + 8 * i) ≡ s .x (getD (kept F) i 0)
 
-module _ (Q : Floats) (F : Frame) (fp : ℕ) (s : State) (o : Sound s) (below : fp < 2 ^ 64) (fits : fp + save-size F ≤ 2 ^ 64) (e : s .x 2 ≡ w64 (fp + save-size F)) where
+module _ (Q : Floats) (F : Frame) (fp : ℕ) (s : State) (o : Sound s) (below : fp < 2 ^ 64) (fits : fp + save-size F ≤ 2 ^ 64) (even : fp % 8 ≡ 0) (e : s .x 2 ≡ w64 (fp + save-size F)) where
   abbrev one : State
   one = execs Q (sub-stack-code (save-size F)) s
 
@@ -212,7 +212,7 @@ module _ (Q : Floats) (F : Frame) (fp : ℕ) (s : State) (o : Sound s) (below : 
           }
 
   rowed : Rowed Q SD 2 (λ j. j .0) (λ j. j .1) fp (length (kept F)) (one .x) (one .f) want (numbered 0 (kept F)) one
-  rowed = row Q SD 2 (λ j. j .0) (λ j. j .1) fp (length (kept F)) (one .x) (one .f) want (omega arith) at (omega (arith, sizes F)) (numbered 0 (kept F)) one refl refl good
+  rowed = row Q SD 2 (λ j. j .0) (λ j. j .1) fp (length (kept F)) (one .x) (one .f) want (omega arith) at (omega (arith, sizes F)) even (numbered 0 (kept F)) one refl refl good
 
   abbrev two : State
   two = execs Q (map place-store (numbered 0 (kept F))) one

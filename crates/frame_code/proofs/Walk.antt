@@ -1,7 +1,7 @@
 -- Going through items that stand in memory: straight pieces, labels and jumps.
 use mathlib.Core.Path.{_≡_, refl, ap, sym, subst, _∙_}
 use mathlib.Core.List.{List, [], _∷_, _++_, map, map-append}
-use mathlib.Core.Option.{Option, some, none, Option·map, bind}
+use mathlib.Core.Option.{some}
 use Prim.Native.Nat.{ℕ, suc, _+_, _*_, _%_, _^_, _≤_, _<_}
 use native.Mathlib.Nat.{add-zero}
 use native.Mathlib.Omega.{arith}
@@ -10,16 +10,15 @@ use lib.ListN.{length, length-append, length-map}
 use Rattle.isa.specs.Instr.{Instr}
 use Rattle.isa.proofs.Validity.{Valid}
 use Rattle.isa.specs.Encode.{encode}
-use Rattle.isa.specs.Decode.{decode}
 use Rattle.machine.specs.Word.{w64}
 use Rattle.machine.specs.Floats.{Floats}
 use Rattle.machine.specs.State.{State}
-use Rattle.machine.specs.Effect.{effect, exec}
-use Rattle.machine.specs.Step.{fetch, step, CodeAt, words, Run, stop, go, RunIn}
-use Rattle.machine.proofs.Exec.{execs, Fit}
+use Rattle.machine.specs.Effect.{access, effect, exec}
+use Rattle.machine.specs.Step.{step, CodeAt, words, Run, stop, go, RunIn}
+use Rattle.machine.proofs.Exec.{OnEight, execs, Fit}
 use Rattle.machine.proofs.Memory.{dist-ahead}
 use Rattle.machine.proofs.Effects.{apply-rm}
-use Rattle.machine.proofs.Runs.{step-at, no-step, one-more, joined, wider}
+use Rattle.machine.proofs.Runs.{step-at, step-made, no-step, one-more, joined, wider}
 use Rattle.machine.proofs.Straight.{flow-pc}
 use Rattle.machine.proofs.Stores.{Same, Off, Landing, landing-same, landing-flow, landing-run}
 use Rattle.machine.proofs.Placed.{code-left, code-right, code-kept}
@@ -178,12 +177,7 @@ module _ {at : ℕ → ℕ} {C P : ℕ → Type 0} {m : ℕ → ℕ} {a : ℕ} w
 
 -- no instruction changes the rounding mode
 step-rm : (Q : Floats) (s t : State) → step Q s ≡ some t → t .rm ≡ s .rm
-unfolding step
-step-rm Q s t e = by (bind (fetch s) decode) e
-  where
-    by : (o : Option Instr) → Option·map (λ i. exec Q i s) o ≡ some t → t .rm ≡ s .rm
-    by (some i) q = let z : exec Q i s ≡ t = cc in rw (← z) (apply-rm (effect Q i s) s)
-    by none q = let z : _≡_ {A = ℕ} 0 1 = cc in absurd (omega arith)
+step-rm Q s t e = let m = step-made Q s t e in rw (← (m .1)) (apply-rm (effect Q (m .0) s) s)
 
 pub run-rm : {Q : Floats} {s t : State} {n : ℕ} → Run Q s n t → t .rm ≡ s .rm
 run-rm stop = refl
@@ -220,12 +214,12 @@ module _ {Q : Floats} {C P : ℕ → Type 0} {s : State} where
       }
 
   -- one word that stores nothing, wherever it leads
-  pub hop : (i : Instr) (b b′ k : ℕ) (u : State) → Words C P (s .mem) b (encode i ∷ []) → Came Q C P s b k u → Valid i → (exec Q i u) .mem ≡ u .mem → (exec Q i u) .pc ≡ w64 b′ → Came Q C P s b′ (k + 1) (exec Q i u)
-  hop i b b′ k u w c v e g =
+  pub hop : (i : Instr) (b b′ k : ℕ) (u : State) → Words C P (s .mem) b (encode i ∷ []) → Came Q C P s b k u → Valid i → OnEight (access i u) → (exec Q i u) .mem ≡ u .mem → (exec Q i u) .pc ≡ w64 b′ → Came Q C P s b′ (k + 1) (exec Q i u)
+  hop i b b′ k u w c v a e g =
       let p = c .pc in
       let q = kept b k (encode i ∷ []) u w c in
       record {
-        runs = joined Q (c .runs) (one-more Q (subst C (omega (arith, p)) (w .inside 0 (omega arith))) (step-at Q i u v (omega (arith, w .even)) (rw p (q .0))) (no-step Q));
+        runs = joined Q (c .runs) (one-more Q (subst C (omega (arith, p)) (w .inside 0 (omega arith))) (step-at Q i u v a (omega (arith, w .even)) (rw p (q .0))) (no-step Q));
         same = rw e (c .same);
         pc = g;
       }

@@ -1,4 +1,4 @@
--- Small deck files in both views, worked out by hand from document 02's point 10. Closed computations.
+-- Small deck files in both views, worked out by hand from document 02's points 7 and 10. Closed computations.
 use mathlib.Core.Path.{_≡_, refl}
 use mathlib.Core.List.{List, _++_, flatMap}
 use Prim.Native.Nat.{ℕ}
@@ -26,7 +26,7 @@ use Rattle.reading.specs.Program.{constants}
 use Rattle.orders.specs.Code.{line-code}
 use Rattle.orders.specs.Code as Orders
 use Rattle.frame_code.specs.Items.{repeated, prologue, saves, reloads, epilogue}
-use Rattle.call.specs.Layout.{span, body, constants-from, items, place}
+use Rattle.call.specs.Layout.{span, body, padding, constants-from, items, place}
 use Rattle.routine.specs.Routine.{line-read, lines-read, head-read, closed-off, body-lines, first-line, finished, program-of}
 use Rattle.print.specs.Text.{words-of, refusal-line}
 use Rattle.print.specs.Listing.{operands-text, instr-line, data-line, hidden-line, listing-line, view-line, view-lines}
@@ -44,9 +44,25 @@ code =
     ++ (bytes "32,addi,2,2,-16\n36,add,21,2,0\n40,fsd,10,9,0\n44,fsd,11,9,8\n48,addi,10,0,0\n52,fld,10,9,0\n56,add,2,8,0\n"
     ++ bytes "60,ld,1,2,0\n64,ld,8,2,8\n68,ld,9,2,16\n72,ld,21,2,24\n76,addi,2,2,32\n80,xor,10,10,10\n84,jalr,0,1,0\n")
 
--- with these lines behind it, what each view shows behind the code
+-- another, whose code of 84 bytes ends at no multiple of 8
+abbrev odd-deck : List ℕ
+odd-deck = bytes "fast,0,1,0,0,0\n"
+
+abbrev odd-code : List ℕ
+odd-code =
+    bytes "0,addi,2,2,-32\n4,sd,1,2,0\n8,sd,8,2,8\n12,sd,9,2,16\n16,sd,21,2,24\n20,add,8,2,0\n24,addi,2,2,-16\n28,add,9,2,0\n"
+    ++ (bytes "32,addi,2,2,-16\n36,add,21,2,0\n40,fsd,10,9,0\n44,addi,10,0,0\n48,fld,10,9,0\n52,add,2,8,0\n"
+    ++ bytes "56,ld,1,2,0\n60,ld,8,2,8\n64,ld,9,2,16\n68,ld,21,2,24\n72,addi,2,2,32\n76,xor,10,10,10\n80,jalr,0,1,0\n")
+
+-- with these lines behind a deck, what each view shows behind its code
+abbrev Behind : (deck code : List ℕ) → (lines maintainer attendant : String) → Type 0
+Behind d c ls m a = (deck-view Maintainer (d ++ bytes ls) ≡ c ++ bytes m) × (deck-view Attendant (d ++ bytes ls) ≡ c ++ bytes a)
+
 abbrev Shows : (lines maintainer attendant : String) → Type 0
-Shows ls m a = (deck-view Maintainer (deck ++ bytes ls) ≡ code ++ bytes m) × (deck-view Attendant (deck ++ bytes ls) ≡ code ++ bytes a)
+Shows ls m a = Behind deck code ls m a
+
+abbrev Odd : (lines maintainer attendant : String) → Type 0
+Odd ls m a = Behind odd-deck odd-code ls m a
 
 -- a file that is refused: both views show this line
 abbrev Refuses : (file : List ℕ) → (line : String) → Type 0
@@ -59,15 +75,21 @@ Examples =
     × Shows "float,3\n" "88,data,00000000\n92,data,40080000\n" "88,data,00000000\n92,data,40080000\n"
     × Shows "bits,4008000000000000\n" "88,data,00000000\n92,data,40080000\n" "88,data,--------\n92,data,--------\n"  -- the same bits
     × Shows "float,3\nbits,ffffffffffffffff\n" "88,data,00000000\n92,data,40080000\n96,data,ffffffff\n100,data,ffffffff\n" "88,data,00000000\n92,data,40080000\n96,data,--------\n100,data,--------\n"
+    × Odd "" "" ""
+    × Odd "bits,0000004000001234\n" "84,addi,0,0,0\n88,data,00001234\n92,data,00000040\n" "84,addi,0,0,0\n88,data,--------\n92,data,--------\n"
+    × Odd "float,3\nfloat,3\n" "84,addi,0,0,0\n88,data,00000000\n92,data,40080000\n96,data,00000000\n100,data,40080000\n" "84,addi,0,0,0\n88,data,00000000\n92,data,40080000\n96,data,00000000\n100,data,40080000\n"
     × Refuses (deck ++ bytes "bits,00000000000000gg\n") "refused,12,2\n"
     × Refuses (bytes "bits,0000000000000001\n") "refused,12,1\n"
     × Refuses (deck ++ bytes "load_const,0,1\nbits,0000000000000001\n") "refused,5,2\n"
 
 pub examples : Examples
 unfolding deck-view hidden-in view-lines view-line listing-line instr-line data-line hidden-line operands-text refusal-line words-of digits above decimal integer-bytes encode join fields decode reading cut program-of lines-of head-read lines-read line-read closed-off finished first-line body-lines jumps-in line-judged
-    judged said read split first same read-values read-decimal read-integer read-word read-from counts-hold any-saved items span body constants constants-from prologue epilogue saves reloads saved repeated line-code Orders.code access-code point-code jumps targets labels li-code sub-stack-code add-stack-code
+    judged said read split first same read-values read-decimal read-integer read-word read-from counts-hold any-saved items span body constants padding constants-from prologue epilogue saves reloads saved repeated line-code Orders.code access-code point-code jumps targets labels li-code sub-stack-code add-stack-code
     allocate-stack-code label-place Code.bytes flatMap resolved place toBits ofInt round
 examples = (
+  (refl, refl),
+  (refl, refl),
+  (refl, refl),
   (refl, refl),
   (refl, refl),
   (refl, refl),

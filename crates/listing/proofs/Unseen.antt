@@ -15,8 +15,9 @@ use Rattle.ast.specs.declared.Constant.the-variants.{Float, Bits}
 use Rattle.reading.specs.Line.{Line, order, constant}
 use Rattle.reading.specs.Program.{Program, constants}
 use Rattle.assembler.specs.Bytes.{bytes}
-use Rattle.call.specs.Layout.{constants-offset, routine-words, place, code-items}
+use Rattle.call.specs.Layout.{constants-offset, routine-words, place}
 use Rattle.call.proofs.Items.{resolved-length}
+use Rattle.call.proofs.Padding.{front-items, front-span}
 use Rattle.routine.specs.Routine.{program-of, summary-of, summary-answer}
 use Rattle.correctness.proofs.Unread.{blank-line, blank, blanked, zeroed, zeroed-bits, code-words, code-words-blank, offset-blank, summary-blank, halves, words-split, program-blanked}
 use Rattle.print.specs.Text.{le-word, words-of}
@@ -117,7 +118,7 @@ view-split : (hidden : ℕ → Bool) (p : Program) → program-lines hidden p
     ≡ view-lines hidden (constants-offset p) 0 (words-of (bytes (code-words p))) ++ data-lines hidden (constants-offset p) (constants-offset p) (constants (p .lines))
 view-split hidden p =
     let c = constants-offset p in
-    let n : 0 + 4 * length (words-of (bytes (code-words p))) ≡ c = omega (arith, words-count (code-words p), resolved-length (place p) 0 (code-items p)) in
+    let n : 0 + 4 * length (words-of (bytes (code-words p))) ≡ c = omega (arith, words-count (code-words p), resolved-length (place p) 0 (front-items p), front-span p) in
     ap (λ (ws : List ℕ). view-lines hidden c 0 (words-of (bytes ws))) (words-split p)
     ∙ ap (view-lines hidden c 0) (words-append (code-words p) (halves (constants (p .lines))))
     ∙ views-append hidden c 0 (words-of (bytes (code-words p))) (words-of (bytes (halves (constants (p .lines)))))

@@ -25,7 +25,7 @@ with-mem s m = record { pc = s .pc; x = s .x; f = s .f; rm = s .rm; mem = m }
 
 module _ (Q : Floats) where
   both : (i : Instr) (s : State) (m : ℕ → ℕ) → Seen (access i s) (s .mem) m → (effect Q i s ≡ effect Q i (with-mem s m)) × Writes (effect Q i s) (access i s)
-  unfolding access effect
+  unfolding effect
   both (R ADD d a b) s m h = (refl, tt)
   both (R SUB d a b) s m h = (refl, tt)
   both (R SLL d a b) s m h = (refl, tt)

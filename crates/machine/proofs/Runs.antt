@@ -1,7 +1,8 @@
 -- Laws of steps and runs. Assumes nothing.
 use mathlib.Core.Path.{_≡_, refl, subst, sym, _∙_}
+use mathlib.Core.Bool.{Bool, true, false, cond}
 use mathlib.Core.Logic.{_≢_}
-use mathlib.Core.Option.{Option, some, none, Option·map, bind}
+use mathlib.Core.Option.{Option, some, none, bind}
 use Prim.Native.Nat.{ℕ, zero, suc, _+_, _%_, _<_}
 use native.Mathlib.Nat.{zero-add, suc-add}
 use native.Mathlib.Omega.{arith}
@@ -14,9 +15,9 @@ use Rattle.isa.proofs.Laws.{decode-encode}
 use Rattle.machine.specs.Word.{load4}
 use Rattle.machine.specs.Floats.{Floats}
 use Rattle.machine.specs.State.{State, Sound}
-use Rattle.machine.specs.Effect.{effect, exec}
-use Rattle.machine.specs.Step.{fetch, step, Run, stop, go, RunIn}
-use Rattle.machine.proofs.Exec.{run}
+use Rattle.machine.specs.Effect.{access, effect, exec}
+use Rattle.machine.specs.Step.{fetch, alignment, aligned, executed, step, Run, stop, go, RunIn}
+use Rattle.machine.proofs.Exec.{OnEight, run}
 use Rattle.machine.proofs.Effects.{apply-sound, effect-fits}
 
 pub fetch-at : (s : State) → s .pc % 4 ≡ 0 → fetch s ≡ some (load4 (s .mem) (s .pc))
@@ -26,11 +27,15 @@ fetch-at s a = rw (eq-eqb (s .pc % 4) 0 a)
 some-inj : (s t : State) → some s ≡ some t → s ≡ t
 some-inj s t e = cc
 
+passes : (o : Option ℕ) → OnEight o → aligned o ≡ true
+passes none h = refl
+passes (some a) h = eq-eqb (a % alignment) 0 h
+
 module _ (Q : Floats) where
-  -- A step, where a valid instruction's word stands at a multiple of 4.
-  pub step-at : (i : Instr) (s : State) → Valid i → s .pc % 4 ≡ 0 → load4 (s .mem) (s .pc) ≡ encode i → step Q s ≡ some (exec Q i s)
+  -- A step, where a valid instruction's word stands at a multiple of 4, and what it accesses at one of 8.
+  pub step-at : (i : Instr) (s : State) → Valid i → OnEight (access i s) → s .pc % 4 ≡ 0 → load4 (s .mem) (s .pc) ≡ encode i → step Q s ≡ some (exec Q i s)
   unfolding step bind
-  step-at i s v a e = rw (fetch-at s a, e, decode-encode i v)
+  step-at i s v h a e = rw (fetch-at s a, e, decode-encode i v) (rw (passes (access i s) h))
 
   -- No step, where pc is no multiple of 4.
   pub step-none : (s : State) → s .pc % 4 ≢ 0 → step Q s ≡ none
@@ -79,13 +84,21 @@ module _ (Q : Floats) where
   pub run-unique : {s t u : State} {n : ℕ} → Run Q s n t → Run Q s n u → t ≡ u
   run-unique {t = t} {u = u} p q = some-inj t u (sym (run-of p) ∙ run-of q)
 
-  pub step-sound : (s t : State) → step Q s ≡ some t → Sound s → Sound t
+  -- A step is what an instruction makes.
+  pub step-made : (s t : State) → step Q s ≡ some t → (i : Instr) × (exec Q i s ≡ t)
   unfolding step bind
-  step-sound s t e w = by (bind (fetch s) decode) e
+  step-made s t e = by (bind (fetch s) decode) e
     where
-      by : (o : Option Instr) → Option·map (λ i. exec Q i s) o ≡ some t → Sound t
-      by (some i) q = subst Sound (some-inj (exec Q i s) t q) (apply-sound (effect Q i s) s (effect-fits Q i s w) w)
+      made : (i : Instr) (b : Bool) → cond b (some (exec Q i s)) none ≡ some t → exec Q i s ≡ t
+      made i true q = some-inj (exec Q i s) t q
+      made i false q = let z : _≡_ {A = ℕ} 0 1 = cc in absurd (omega arith)
+
+      by : (o : Option Instr) → bind o (executed Q s) ≡ some t → (i : Instr) × (exec Q i s ≡ t)
+      by (some i) q = (i, made i (aligned (access i s)) q)
       by none q = let z : _≡_ {A = ℕ} 0 1 = cc in absurd (omega arith)
+
+  pub step-sound : (s t : State) → step Q s ≡ some t → Sound s → Sound t
+  step-sound s t e w = let m = step-made s t e in subst Sound (m .1) (apply-sound (effect Q (m .0) s) s (effect-fits Q (m .0) s w) w)
 
   pub run-sound : {s t : State} {n : ℕ} → Run Q s n t → Sound s → Sound t
   run-sound stop w = w

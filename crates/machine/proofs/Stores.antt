@@ -85,9 +85,9 @@ module _ (P : ℕ → Type 0) where
         (λ x l d. apply-same e s (h .0) x l (f x l (omega arith)))
         (c .1)
         in
-        one-more Q (at-first (s .pc) (length is) b) (step-at Q i s (w .0) a (c .0))
+        one-more Q (at-first (s .pc) (length is) b) (step-at Q i s (w .0) (w .1) a (c .0))
         (wider Q (λ x m. at-next (s .pc) (length is) x (rw p at m))
-        (landing-run is (exec Q i s) (w .1) (h .1) (omega arith) (rw p f) (rw p (omega arith)) (rw p (aligned s a)) (rw p r)))
+        (landing-run is (exec Q i s) (w .2) (h .1) (omega arith) (rw p f) (rw p (omega arith)) (rw p (aligned s a)) (rw p r)))
 
 -- ---- stores to a range that doesn't go round
 

@@ -41,14 +41,14 @@ module _ (Q : Floats) where
 
   pub lead-run : (is : List Instr) (s : State) → Fit Q is s → T (lead is s) → s .pc < 2 ^ 64 → s .pc % 4 ≡ 0 → CodeAt (s .mem) (s .pc) (words is) → RunIn Q (Among (s .pc) (length is)) s (length is) (execs Q is s)
   lead-run [] s w h l a c = no-step Q
-  lead-run (i ∷ []) s w h l a c = one-more Q (at-first (s .pc) 0 l) (step-at Q i s (w .0) a (c .0)) (no-step Q)
+  lead-run (i ∷ []) s w h l a c = one-more Q (at-first (s .pc) 0 l) (step-at Q i s (w .0) (w .1) a (c .0)) (no-step Q)
   lead-run (i ∷ (j ∷ is)) s w h l a c =
       let e : Effect = effect Q i s in
       let q : T (quiet e) = and-l (quiet e) _ h in
       let p : (exec Q i s) .pc ≡ next s = apply-pc e s (quiet-flows e q) in
-      one-more Q (at-first (s .pc) (suc (length is)) l) (step-at Q i s (w .0) a (c .0))
+      one-more Q (at-first (s .pc) (suc (length is)) l) (step-at Q i s (w .0) (w .1) a (c .0))
       (wider Q (λ x m. at-next (s .pc) (suc (length is)) x (rw p at m))
-      (lead-run (j ∷ is) (exec Q i s) (w .1) (and-r (quiet e) _ h) (rw p (omega arith)) (rw p (aligned s a)) (rw (apply-mem e s q, p) (c .1))))
+      (lead-run (j ∷ is) (exec Q i s) (w .2) (and-r (quiet e) _ h) (rw p (omega arith)) (rw p (aligned s a)) (rw (apply-mem e s q, p) (c .1))))
 
   -- no jump at all
   abbrev pub flow : List Instr → State → Bool
@@ -72,7 +72,7 @@ module _ (Q : Floats) where
 
     pub path-run : (is : List Instr) (s : State) → Fit Q is s → Path is s → RunIn Q C s (length is) (execs Q is s)
     path-run [] s w p = no-step Q
-    path-run (i ∷ is) s w p = one-more Q (p .0) (step-at Q i s (w .0) (p .1) (p .2)) (path-run is (exec Q i s) (w .1) (p .3))
+    path-run (i ∷ is) s w p = one-more Q (p .0) (step-at Q i s (w .0) (w .1) (p .1) (p .2)) (path-run is (exec Q i s) (w .2) (p .3))
 
   -- ---- one list behind another
 
@@ -82,13 +82,13 @@ module _ (Q : Floats) where
 
   pub fit-join : (is js : List Instr) (s : State) → Fit Q is s → Fit Q js (execs Q is s) → Fit Q (is ++ js) s
   fit-join [] js s v w = w
-  fit-join (i ∷ is) js s v w = (v .0, fit-join is js (exec Q i s) (v .1) w)
+  fit-join (i ∷ is) js s v w = (v .0, v .1, fit-join is js (exec Q i s) (v .2) w)
 
   -- in two parts, where `omega` finds the whole too long
   pub fit-cut : (k : ℕ) (is : List Instr) (s : State) → Fit Q (take k is) s → Fit Q (drop k is) (execs Q (take k is) s) → Fit Q is s
   fit-cut zero is s v w = w
   fit-cut (suc k) [] s v w = tt
-  fit-cut (suc k) (i ∷ is) s v w = (v .0, fit-cut k is (exec Q i s) (v .1) w)
+  fit-cut (suc k) (i ∷ is) s v w = (v .0, v .1, fit-cut k is (exec Q i s) (v .2) w)
 
   -- ---- the rounding mode, and registers outside a set W
 

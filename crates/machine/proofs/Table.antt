@@ -13,7 +13,7 @@ use Rattle.machine.proofs.Binary64.{binary64}
 use Rattle.machine.specs.State.{State, setx}
 use Rattle.machine.specs.Effect.{access, effect, apply}
 use Rattle.machine.specs.Step.{fetch, step}
-use Rattle.machine.proofs.Rows.{Row, row, Change, reg, freg, bytes, whole, shifts, jumps, memory, parts, moves, sums, products, roots, comparisons, conversions, stopped, asked-f, asked-x}
+use Rattle.machine.proofs.Rows.{Row, row, Change, reg, freg, bytes, whole, shifts, jumps, memory, parts, moves, sums, products, roots, comparisons, conversions, stopped, trapped, asked-f, asked-x}
 
 -- ---- the state before
 
@@ -112,11 +112,11 @@ at-cell (row w pc rm xs fs c pc′ cs) (some a) = eqb a (c .0)
 
 -- `access` names the cell in every load and store, and nothing in the other rows.
 pub cells-accessed : T (every (λ r. at-cell r (accessed r)) memory)
-unfolding memory access fetch decode reading cut encode join fields load4 bind
+unfolding memory fetch decode reading cut encode join fields load4 bind
 cells-accessed = tt
 
 pub nothing-accessed : T (every (λ r. is-none (accessed r)) inner)
-unfolding whole shifts jumps moves sums products roots comparisons conversions access fetch decode reading cut encode join fields load4 bind
+unfolding whole shifts jumps moves sums products roots comparisons conversions fetch decode reading cut encode join fields load4 bind
 nothing-accessed = tt
 
 -- ---- no next state
@@ -125,6 +125,11 @@ nothing-accessed = tt
 pub stopped-stop : T (every (λ p. is-none (step binary64 (start (row (p .0) (p .1) 0 [] [] (0, 0) 0 [])))) stopped)
 unfolding stopped step fetch decode reading cut encode join fields load4 bind
 stopped-stop = tt
+
+-- Every word and x6 of `trapped`: there is no step, by document 02 (the outside machine doesn't trap).
+pub trapped-stop : T (every (λ p. is-none (step binary64 (start (row (p .0) 0x40400000 0 ((6, p .1) ∷ []) [] (0, 0) 0 [])))) trapped)
+unfolding trapped step fetch decode reading cut encode join fields load4 bind
+trapped-stop = tt
 
 -- ---- any `Floats`: the rows leave open which mode and which order of operands a sum is asked with
 

@@ -81,7 +81,7 @@ abbrev pub address : State → ℕ → ℤ → ℕ
 address s a z = w64 (getx s a + twos 64 z)
 
 -- The address whose eight bytes an instruction reads or writes, if any.
-unfoldable pub access : Instr → State → Option ℕ
+abbrev pub access : Instr → State → Option ℕ
 access (I LD d a z) s = some (address s a z)
 access (I FLD d a z) s = some (address s a z)
 access (S k a b z) s = some (address s a z)

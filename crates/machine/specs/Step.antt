@@ -1,7 +1,7 @@
 -- Steps and runs of the machine, and code in memory.
 use mathlib.Core.Path.{_≡_}
-use mathlib.Core.Bool.{cond}
-use mathlib.Core.Option.{Option, some, none, Option·map, bind}
+use mathlib.Core.Bool.{Bool, true, cond}
+use mathlib.Core.Option.{Option, some, none, bind}
 use mathlib.Core.List.{List, [], _∷_, map}
 use Prim.Native.Nat.{ℕ, suc, _+_, _*_, _%_, _<_}
 use lib.Dec.{eqb}
@@ -12,11 +12,20 @@ use Rattle.isa.specs.Decode.{decode}
 use Rattle.machine.specs.Word.{w64, load4}
 use Rattle.machine.specs.Floats.{Floats}
 use Rattle.machine.specs.State.{State}
-use Rattle.machine.specs.Effect.{exec}
+use Rattle.machine.specs.Effect.{access, exec}
 
 -- The word at pc; none where pc is no multiple of 4.
 unfoldable pub fetch : State → Option ℕ
 fetch s = cond (eqb (s .pc % 4) 0) (some (load4 (s .mem) (s .pc))) none
+
+-- an access's address is a multiple of this
+abbrev pub alignment : ℕ
+alignment = 8
+
+-- The test of the address, if there is one.
+abbrev pub aligned : Option ℕ → Bool
+aligned none = true
+aligned (some a) = eqb (a % alignment) 0
 
 -- ---- code in memory
 
@@ -37,9 +46,13 @@ abbrev pub Loaded : (ℕ → ℕ) → ℕ → List ℕ → Type 0
 Loaded m a bs = (k : ℕ) → k < length bs → m (w64 (a + k)) ≡ getD bs k 0
 
 module _ (Q : Floats) where
-  -- One step: no next state where pc is no multiple of 4 or the word there is no instruction.
+  -- what an instruction makes of a state: none where it traps, by "an 8-byte access at an address that isn't a multiple of 8"
+  abbrev pub executed : State → Instr → Option State
+  executed s i = cond (aligned (access i s)) (some (exec Q i s)) none
+
+  -- One step: no next state where pc is no multiple of 4, the word there is no instruction, or the instruction traps.
   unfoldable pub step : State → Option State
-  step s = Option·map (λ i. exec Q i s) (bind (fetch s) decode)
+  step s = bind (bind (fetch s) decode) (executed s)
 
   -- n steps lead from one state to another
   pub data Run : State → ℕ → State → Type 0 where

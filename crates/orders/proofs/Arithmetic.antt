@@ -1,6 +1,6 @@
 -- Orders that work on registers alone, operation by operation: valid instructions, how many, and that they do what is meant. Assumes nothing.
 use mathlib.Core.Path.{_≡_, refl, ap}
-use mathlib.Core.Bool.{Bool, true, false, cond}
+use mathlib.Core.Bool.{Bool, true, false, _&&_, cond}
 use mathlib.Core.List.{List, [], _∷_, map}
 use Prim.Native.Nat.{ℕ, _≤_, _<_}
 use native.Mathlib.Omega.{arith}
@@ -17,6 +17,7 @@ use Rattle.machine.proofs.Exec.{execs}
 use Rattle.machine.specs.Ends.{temporary}
 use Rattle.machine.proofs.Straight.{straight}
 use Rattle.machine.proofs.Placed.{Valids}
+use Rattle.accesses.proofs.Then.{silent}
 use Rattle.ast.specs.declared.Unary as U
 use Rattle.ast.specs.declared.Unary.the-variants.{Fmov, Recip, Round, Floor, Not}
 use Rattle.ast.specs.declared.Scratched as S
@@ -112,7 +113,7 @@ module _ (places : ℕ → ℕ) (start here : ℕ) (s : State) (Q : Floats) wher
   abbrev pub Sets : List Instr → (ℕ → ℕ) → Type 0
   Sets is f = At places start here (map instr is) s → Done places start Q here (map instr is) s f (s .mem) on
 
-  sets : (is : List Instr) (f : ℕ → ℕ) → Valids is → T (straight Q temporary is s) → (execs Q is s) .f ≡ f → (execs Q is s) .mem ≡ s .mem → Sets is f
+  sets : (is : List Instr) (f : ℕ → ℕ) → Valids is → T (silent Q is s && straight Q temporary is s) → (execs Q is s) .f ≡ f → (execs Q is s) .mem ≡ s .mem → Sets is f
   sets is f v h p q o = straight-done places start here s is o Q f (s .mem) v h p q
 
   pub unary-does : (k : U.Unary) (d a : ℕ) → d < 32 → a < 32 → Sound s → Sets (unary-code k d a) (unary Q (s .rm) k (s .f) d a)

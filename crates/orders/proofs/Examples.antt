@@ -2,9 +2,11 @@
 use mathlib.Core.Path.{_≡_, refl}
 use mathlib.Core.Bool.{true}
 use mathlib.Core.List.{List, [], _∷_, map}
-use Prim.Native.Nat.{ℕ}
+use Prim.Native.Nat.{ℕ, _*_}
 use lib.ListN.{length}
 use Rattle.isa.specs.Encode.{encode, join, fields}
+use Rattle.machine.specs.State.{State}
+use Rattle.ast.specs.Uses.{uses}
 use Rattle.ast.specs.declared.Place.the-variants.{Mem, Stack, Param}
 use Rattle.ast.specs.declared.Unary.the-variants.{Fmov, Recip}
 use Rattle.ast.specs.declared.Scratched.the-variants.{Sign}
@@ -16,6 +18,7 @@ use Rattle.assembler.specs.Resolved.{resolved}
 use Rattle.accesses.specs.Code.{li-code, point-code, access-code}
 use Rattle.orders.specs.Code.{unary-code, scratched-code, binary-code, code}
 use Rattle.orders.specs.Fault.{fault}
+use Rattle.orders.specs.Does.{accessed}
 
 -- registers to 31, users' labels to 1,023, cells to 268,435,455, constants to 1,007
 pub accepted : map fault (Unary Fmov 31 31 ∷ Scratched Sign 31 31 31 ∷ Binary Xor 31 31 31 ∷ Fused MulAdd 31 31 31 31 ∷ Ifelse 31 31 31 268435455 ∷ LoadConst 31 1007 ∷ Load 31 Mem 268435455 ∷ Save 31 Param 268435455 ∷ BranchIf 31 1023 true ∷ SetLabel 1023 ∷ []) ≡ 0 ∷ 0 ∷ 0 ∷ 0 ∷ 0 ∷ 0 ∷ 0 ∷ 0 ∷ 0 ∷ 0 ∷ []
@@ -46,3 +49,12 @@ order-table = refl
 pub lengths : map (λ o. length (order-words o)) (Load 10 Mem 255 ∷ Load 10 Mem 256 ∷ Ifelse 10 11 12 255 ∷ Ifelse 10 11 12 256 ∷ Unary Fmov 10 10 ∷ Unary Fmov 10 11 ∷ Binary Xor 10 11 11 ∷ Binary Xor 10 11 12 ∷ SetLabel 0 ∷ []) ≡ 1 ∷ 4 ∷ 8 ∷ 11 ∷ 0 ∷ 1 ∷ 1 ∷ 4 ∷ 0 ∷ []
 unfolding resolved code unary-code binary-code access-code point-code li-code
 lengths = refl
+
+-- register r holds 1000 × r, so that s1, s4 and s5 are 9000, 20000 and 21000
+abbrev state : State
+state = record { pc = 64; x = λ r. 1000 * r; f = λ r. 0; rm = 0; mem = λ a. 0 }
+
+-- what each kind of order accesses, in code at 64 with each label at 2056: a cell, a constant's place, or nothing
+pub accesses : map (λ o. accessed (λ l. 2056) 64 state (uses o .operand)) (Ifelse 1 2 3 4 ∷ LoadConst 1 0 ∷ Load 1 Mem 2 ∷ Save 1 Param 3 ∷ Unary Fmov 1 2 ∷ Scratched Sign 1 2 3 ∷ Binary Xor 1 2 3 ∷ Fused MulAdd 1 2 3 4 ∷ BranchIf 1 0 true ∷ SetLabel 0 ∷ [])
+    ≡ (21032 ∷ []) ∷ (2120 ∷ []) ∷ (9016 ∷ []) ∷ (20024 ∷ []) ∷ [] ∷ [] ∷ [] ∷ [] ∷ [] ∷ [] ∷ []
+accesses = refl

@@ -1,6 +1,6 @@
 -- Items that are instructions alone, what is not refused, and ends that go on. Assumes nothing.
 use mathlib.Core.Path.{_≡_, refl, ap}
-use mathlib.Core.Bool.{cond}
+use mathlib.Core.Bool.{_&&_, cond}
 use mathlib.Core.List.{List, [], _∷_, map}
 use Prim.Native.Nat.{ℕ, suc, _+_, _*_, _%_, _≤_, _<_}
 use native.Mathlib.Nat.{le-refl}
@@ -23,7 +23,7 @@ use Rattle.assembler.specs.Jump.{jump-instr}
 use Rattle.assembler.specs.Resolved.{resolved}
 pub use Rattle.assembler.proofs.Items.{resolved-instrs}
 use Rattle.accesses.specs.Stands.{Stands}
-use Rattle.accesses.proofs.Then.{fits}
+use Rattle.accesses.proofs.Then.{silent, fits}
 use Rattle.reading.specs.Meaning.{on}
 use Rattle.ast.specs.Uses.{registers-fit}
 use Rattle.orders.specs.Does.{At, Done}
@@ -85,6 +85,6 @@ module _ (places : ℕ → ℕ) (start here : ℕ) (s : State) where
         record { count = length is; few = rw n (le-refl (length is)); ends = rw n e }
 
     -- straight code
-    pub straight-done : (Q : Floats) (f m : ℕ → ℕ) → Valids is → T (straight Q temporary is s) → (execs Q is s) .f ≡ f → (execs Q is s) .mem ≡ m → Done places start Q here (map instr is) s f m on
+    pub straight-done : (Q : Floats) (f m : ℕ → ℕ) → Valids is → T (silent Q is s && straight Q temporary is s) → (execs Q is s) .f ≡ f → (execs Q is s) .mem ≡ m → Done places start Q here (map instr is) s f m on
     straight-done Q f m v h p q =
-        goes-on Q f m (by-straight Q temporary is s f m (fits Q is s v) h (o .sound) (at-aligned o) (at-stands .code) p q)
+        goes-on Q f m (by-straight Q temporary is s f m (fits Q is s v (and-l (silent Q is s) _ h)) (and-r (silent Q is s) _ h) (o .sound) (at-aligned o) (at-stands .code) p q)

@@ -96,17 +96,18 @@ items c l k = instr (M FMV-X-D 5 c) ∷ instr (B k 5 0 (pos 12)) ∷ jump Auipc 
 
 module _ (places : ℕ → ℕ) (start here : ℕ) (s : State) (Q : Floats) (g : Placed places) where
   -- a constant from its place
-  pub const-does : (d l : ℕ) → d < 32 → At places start here (jump Auipc l 0 ∷ jump Fld l d ∷ []) s → Done places start Q here (jump Auipc l 0 ∷ jump Fld l d ∷ []) s (upd (s .f) d (load8 (s .mem) (w64 (start + places l)))) (s .mem) on
+  pub const-does : (d l : ℕ) → d < 32 → w64 (start + places l) % 8 ≡ 0 → At places start here (jump Auipc l 0 ∷ jump Fld l d ∷ []) s → Done places start Q here (jump Auipc l 0 ∷ jump Fld l d ∷ []) s (upd (s .f) d (load8 (s .mem) (w64 (start + places l)))) (s .mem) on
   unfolding resolved effect apply setx upd temporary
-  const-does d l hd o =
+  const-does d l hd c o =
       let is : List Instr = const-instrs places here d l in
       let h : here ≤ 65536 = o .here-small in
       let p : places l ≤ 65536 = g .small l in
       let e = pair-reaches start (places l) here (omega arith) (omega arith) in
+      let v = const-valid places here d l hd in
       record {
         count = 2;
         few = omega arith;
-        ends = by-straight Q temporary is s _ _ (fits Q is s (const-valid places here d l hd)) tt (o .sound) (at-aligned places start here s o) (o .code) (rw (o .pc, e)) refl;
+        ends = by-straight Q temporary is s _ _ (v .0, tt, (v .1 .0, rw (o .pc, e) c, tt)) tt (o .sound) (at-aligned places start here s o) (o .code) (rw (o .pc, e)) refl;
       }
 
   -- ---- a branch: the test, then the pair or a jump over it
@@ -121,7 +122,7 @@ module _ (places : ℕ → ℕ) (start here : ℕ) (s : State) (Q : Floats) (g :
           count = 2;
           few = omega arith;
           ends =
-              by-path Q temporary is s 4 _ _ _ (fits Q is s (omega arith)) tt
+              by-path Q temporary is s 4 _ _ _ (fits Q is s (omega arith) tt) tt
               (at-first (s .pc) 3 (o .sound .pc), a, o .code .0, ((1, omega arith, refl), four (s .pc) a, o .code .1 .0, tt))
               (rw (t, twelve (s .pc))) refl refl;
         }
@@ -139,7 +140,7 @@ module _ (places : ℕ → ℕ) (start here : ℕ) (s : State) (Q : Floats) (g :
           count = 4;
           few = omega arith;
           ends =
-              by-path Q temporary is s 4 _ _ _ (fits Q is s (branch-valid places here c l k hc)) tt (
+              by-path Q temporary is s 4 _ _ _ (fits Q is s (branch-valid places here c l k hc) tt) tt (
                 at-first (s .pc) 3 (o .sound .pc),
                 a,
                 o .code .0,

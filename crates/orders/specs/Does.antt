@@ -11,14 +11,17 @@ use Rattle.machine.specs.Ends.{temporary, Ends}
 use Rattle.ast.specs.Constant.{constant-label}
 use Rattle.ast.specs.declared.Place.{Place}
 use Rattle.ast.specs.declared.Order.{Order}
+use Rattle.ast.specs.declared.Operand.{Operand}
+use Rattle.ast.specs.declared.Operand.the-variants.{Nothing, Loaded, Stored, Constant, GoneTo, Set}
+use Rattle.ast.specs.Uses.{uses}
 use Rattle.assembler.specs.Item.{Item}
 use Rattle.assembler.specs.Resolved.{resolved}
-use Rattle.accesses.specs.Stands.{cell-at}
+use Rattle.accesses.specs.Stands.{cell-at, Accessible}
 use Rattle.reading.specs.Meaning.{Exit, on, to, Written, meaning}
 use Rattle.orders.specs.Code.{base, code}
 use Rattle.orders.specs.Fault.{fault}
 
--- ---- cells by address: s1, s4 and s5 are arbitrary, and cells may alias
+-- ---- cells by address; they may alias
 
 abbrev pub cell : State → Place → ℕ → ℕ
 cell s p i = cell-at s (base p) (8 * i)
@@ -40,8 +43,20 @@ pub record Placed (places : ℕ → ℕ) : Type 0 where
 
 module _ (places : ℕ → ℕ) (start : ℕ) where
   -- the constant's cell stands at its label
+  abbrev pub const-cell : ℕ → ℕ
+  const-cell k = w64 (start + places (constant-label k))
+
   abbrev pub const-value : State → ℕ → ℕ
-  const-value s k = load8 (s .mem) (w64 (start + places (constant-label k)))
+  const-value s k = load8 (s .mem) (const-cell k)
+
+  -- the cells that an order accesses, by its operand
+  abbrev pub accessed : State → Operand → List ℕ
+  accessed s Nothing = []
+  accessed s (Loaded p i) = cell s p i ∷ []
+  accessed s (Stored p i) = cell s p i ∷ []
+  accessed s (Constant k) = const-cell k ∷ []
+  accessed s (GoneTo l) = []
+  accessed s (Set l) = []
 
   -- s stands at the items' words, as finishing leaves them, `here` bytes from the start
   pub record At (here : ℕ) (is : List Item) (s : State) : Type 0 where
@@ -70,10 +85,11 @@ module _ (places : ℕ → ℕ) (start : ℕ) where
       let M = meaning Q (s .f) (s .rm) (cell-value s) (const-value s) o in
       Done Q here (code o) s (M .f) (written s (M .cells) (s .mem)) (M .exit)
 
--- DEMAND 2: the words of an accepted order do what the order means, from every state that stands at them, wherever they stand.
--- s1, s4, s5 and memory are arbitrary.
+-- DEMAND 2: the words of an accepted order do what the order means, from every state that stands at them, wherever they stand,
+-- "where its accesses are at multiples of 8" (document 02, point 7). s1, s4, s5 and memory are arbitrary otherwise.
 abbrev pub Claim : Type 0
 Claim =
     (Q : Floats) (places : ℕ → ℕ) → Placed places → (start here : ℕ) (o : Order) → fault o ≡ 0 → (s : State)
     → At places start here (code o) s
+    → Accessible (accessed places start s (uses o .operand))
     → OrderDoes places start Q here o s

@@ -2,18 +2,16 @@
 use mathlib.Core.Path.{_≡_, refl}
 use mathlib.Core.Bool.{Bool, true, false, not, cond}
 use mathlib.Core.List.{List, [], _∷_}
-use Prim.Native.Nat.{ℕ, _+_, _^_, _≤_, _<_}
+use Prim.Native.Nat.{ℕ, zero, suc, _+_, _%_, _^_, _≤_, _<_}
 use native.Mathlib.Omega.{arith}
 use lib.Dec.{T, eqb}
-use Rattle.isa.specs.Register.{ra, a1}
+use Rattle.isa.specs.Register.{ra, a0, a1, a3}
 use Rattle.machine.specs.Word.{w64, upd, load8, store8, dist}
 use Rattle.machine.specs.State.{State}
 use Rattle.ast.specs.Mask.{saved}
-use Rattle.ast.specs.declared.Place.{Place}
-use Rattle.ast.specs.declared.Place.the-variants.{Mem, Stack, Param}
+use Rattle.ast.specs.declared.Place.the-variants.{Mem, Stack}
 use Rattle.ast.specs.declared.Frame.the-variants.{Fast, Indirect}
 use Rattle.ast.specs.declared.Head.{Head}
-use Rattle.reading.specs.Plain.{Reading}
 use Rattle.reading.specs.Size.{frame-size, stack-size, whole-size}
 use Rattle.reading.specs.Terms.{table-used, table-cell, start-f, start-cells, end-obs, Region, Within, Whole, Clear, frame, block, table, code, regions, Terms}
 
@@ -86,3 +84,86 @@ module _ (n : ℕ) (t : State) (c : Terms H n t) where
         by : (b : Bool) → T (not b) → (Within (cond b (block H t) (table H t)) (w64 (table-cell H t 2 + k)) → ⊥) → Within (table H t) (w64 (table-cell H t 2 + k)) → ⊥
         by true v f = absurd v
         by false v f = f
+
+-- ---- multiples of 8
+
+module _ (G : Head) (n : ℕ) (t : State) (c : Terms G n t) where
+  -- code at a multiple of 4 alone
+  no-fours : t .pc ≡ 0x40000004 → ⊥
+  no-fours e = omega (arith, c .code-aligned)
+
+  -- the block, even where no line names a cell of it
+  no-odd-block : G .frame ≡ Indirect → t .x a1 ≡ 0 → t .x a0 ≡ 0x50000004 → ⊥
+  no-odd-block f z e = omega (arith, e, c .block-aligned (rw (f, z) tt))
+
+  -- parameters, where there are some
+  no-odd-params : G .frame ≡ Indirect → G .last ≡ 1 → t .x a3 ≡ 3 → ⊥
+  no-odd-params f l e = omega (arith, e, c .params-aligned (rw (f, l) (omega arith)))
+
+-- a fast frame: a0, a1 and a3 count for nothing
+abbrev fast : State
+fast =
+    record {
+      pc = 0x10008;
+      x = upd (upd (upd (upd (upd (λ r. 0) 1 0x20004) 2 0x80010) 10 5) 11 7) 13 3;
+      f = λ r. r;
+      rm = 0;
+      mem = λ x. 255;
+    }
+
+fast-terms : Terms F 200 fast
+unfolding upd
+fast-terms =
+    record {
+      code-aligned = refl;
+      block-aligned = λ h. absurd h;
+      table-aligned = λ h. absurd h;
+      cells-aligned = λ h. absurd h;
+      params-aligned = λ h. absurd (omega arith);
+      ra-aligned = refl;
+      ra-outside = λ w. omega (arith, w .1);
+      sp-aligned = refl;
+      separate = omega arith;
+      state-cells = λ h. absurd h;
+      obs-cells = λ h. absurd h;
+    }
+
+-- `indirect,0,1,0,0,0`: neither block nor parameters, so that a0 and a3 may be odd
+abbrev T1 : Head
+T1 = record { frame = Indirect; cap = 0; states = 1; obs = 0; last = 0; mask = 0 }
+
+-- the state's pointer is 2^64 - 8 and a2 one: its cell is at 0
+abbrev odd : State
+odd =
+    record {
+      pc = 0x10000;
+      x = upd (upd (upd (upd (upd (upd (λ r. 0) 1 0x20004) 2 0x80010) 10 5) 11 0x50008) 12 1) 13 3;
+      f = λ r. r;
+      rm = 0;
+      mem = λ x. cond (eqb x 0x50008) 0xf8 255;
+    }
+
+odd-terms : Terms T1 200 odd
+unfolding upd load8
+odd-terms =
+    record {
+      code-aligned = refl;
+      block-aligned = λ h. absurd h;
+      table-aligned = λ h. refl;
+      cells-aligned = λ h. one;
+      params-aligned = λ h. absurd (omega arith);
+      ra-aligned = refl;
+      ra-outside = λ w. omega (arith, w .1);
+      sp-aligned = refl;
+      separate = omega arith;
+      state-cells = λ h. clear;
+      obs-cells = λ h i l. absurd (omega arith);
+    }
+  where
+    one : (i : ℕ) → i < 1 → table-cell T1 odd i % 8 ≡ 0
+    one zero h = refl
+    one (suc i) h = absurd (omega arith)
+
+    clear : (i : ℕ) → i < 1 → Clear (table-cell T1 odd i) (frame T1 odd ∷ [])
+    clear zero h = omega arith
+    clear (suc i) h = absurd (omega arith)

@@ -1,11 +1,11 @@
 -- The start and the end of the plain reading of a call, and the terms of a call (document 01, "The machine and the terms of a call").
 use mathlib.Core.Path.{_≡_}
-use mathlib.Core.Bool.{Bool, cond}
+use mathlib.Core.Bool.{Bool, not, cond}
 use mathlib.Core.List.{List, [], _∷_}
 use Prim.Native.Nat.{ℕ, zero, suc, _+_, _-_, _*_, _%_, _^_, _≤_, _<_}
 use lib.Dec.{T, eqb, ltb}
 use Rattle.isa.specs.Register.{ra, sp, a0, a1, a2, a3}
-use Rattle.ast.specs.Count.{cells}
+use Rattle.ast.specs.Count.{cells, cell-count}
 use Rattle.machine.specs.Word.{w64, upd, load8, store8}
 use Rattle.machine.specs.State.{State}
 use Rattle.ast.specs.declared.Place.{Place}
@@ -144,8 +144,14 @@ module _ (H : Head) (code-bytes : ℕ) (s : State) where
   regions Indirect = code code-bytes s ∷ frame H s ∷ params H s ∷ cond (eqb (s .x a1) 0) (block H s) (table H s) ∷ []
 
   pub record Terms : Type 0 where
-    -- "code starts, and ra is, at a multiple of 4, ra outside the code; sp is a multiple of 16"
-    pub code-aligned : s .pc % 4 ≡ 0
+    -- document 02, point 7: the code, the block where a0 is it, the table and its cells where it is used, the parameters if any,
+    -- "at multiples of 8"
+    pub code-aligned : s .pc % 8 ≡ 0
+    pub block-aligned : T (not (holds-mem (H .frame) (s .x a1))) → s .x a0 % 8 ≡ 0
+    pub table-aligned : T (table-used H s) → s .x a1 % 8 ≡ 0
+    pub cells-aligned : T (table-used H s) → (i : ℕ) → i < cells H → table-cell H s i % 8 ≡ 0
+    pub params-aligned : 0 < cell-count H Param → s .x a3 % 8 ≡ 0
+    -- ra is "at a multiple of 4, ra outside the code; sp is a multiple of 16"
     pub ra-aligned : s .x ra % 4 ≡ 0
     pub ra-outside : Within (code code-bytes s) (s .x ra) → ⊥
     pub sp-aligned : s .x sp % 16 ≡ 0

@@ -1,5 +1,5 @@
 -- The numbers of jumps that a routine leaves add up to its jump count: all that it does is placing and finishing. Assumes nothing.
-use mathlib.Core.Path.{_≡_, refl}
+use mathlib.Core.Path.{_≡_}
 use mathlib.Core.Bool.{Bool, true, false, cond}
 use mathlib.Core.List.{List, [], _∷_, _++_}
 use Prim.Native.Nat.{ℕ, suc}
@@ -17,11 +17,12 @@ use Rattle.assembler.specs.Put.{put}
 use Rattle.assembler.specs.Constant.{constant-items, constant-fault}
 use Rattle.frame_code.specs.Items.{prologue, epilogue, saves, reloads}
 use Rattle.frame_code.specs.Fault.{prologue-fault, epilogue-fault}
+use Rattle.call.specs.Layout.{padding}
 use Rattle.finish.specs.Finish.{finish}
 use Rattle.finish.specs.Counted.{total, Since, start, placing, finishing}
 use Rattle.finish.proofs.Counted.{adds}
 use Rattle.routine.specs.Routine.{Summary}
-use Rattle.routine.specs.Run.{RunOutcome, refused-at, on-to, next, finish-outcome, finish-run, constants-run, constants-then, leave-run, constant-run, says, line-run, waiting, lines-run, enter-run, head-run, first-run, file-run, cleared, fresh, blanked, run}
+use Rattle.routine.specs.Run.{RunOutcome, refused-at, on-to, next, finish-outcome, finish-run, constants-run, constants-then, padding-then, leave-run, says, line-run, waiting, lines-run, enter-run, head-run, first-run, file-run, cleared, fresh, blanked, run}
 use Rattle.routine.specs.Counted.{RunAdds}
 
 -- what follows on a state keeps it one
@@ -47,11 +48,16 @@ unfolding constants-run
 constants-since line k [] s f h g = g s h
 constants-since line k (c ∷ cs) s f h g = next-since (put 0 (constant-fault k) (constant-items k c) s) line (λ (t : State). constants-run line (suc k) cs t f) (placing h 0 (constant-fault k) (constant-items k c)) (λ t i. constants-since line (suc k) cs t f i g)
 
+padding-since : (H : Head) (line : ℕ) (cs : List Constant) → Keeps (padding-then H line cs)
+padding-since H line cs u h =
+    next-since (put 0 0 (padding (u .asm .len) (length cs)) u) line (constants-then H line cs) (placing h 0 0 (padding (u .asm .len) (length cs)))
+    (λ v i. constants-since line 0 cs v (finish-run H (v .asm .len) (length cs)) i (finish-since H (v .asm .len) (length cs)))
+
 leave-since : (H : Head) (line : ℕ) (cs : List Constant) → Keeps (leave-run H line cs)
 unfolding leave-run
 leave-since H line cs s h =
-    next-since (put 0 0 (reloads (H .mask)) s) line (λ (t : State). next (put line (epilogue-fault H) (epilogue H) t) line (constants-then H line cs)) (placing h 0 0 (reloads (H .mask)))
-    (λ t i. next-since (put line (epilogue-fault H) (epilogue H) t) line (constants-then H line cs) (placing i line (epilogue-fault H) (epilogue H)) (λ u j. constants-since line 0 cs u (finish-run H (u .asm .len) (length cs)) j (finish-since H (u .asm .len) (length cs))))
+    next-since (put 0 0 (reloads (H .mask)) s) line (λ (t : State). next (put line (epilogue-fault H) (epilogue H) t) line (padding-then H line cs)) (placing h 0 0 (reloads (H .mask)))
+    (λ t i. next-since (put line (epilogue-fault H) (epilogue H) t) line (padding-then H line cs) (placing i line (epilogue-fault H) (epilogue H)) (padding-since H line cs))
 
 line-since : (H : Head) (line k : ℕ) (x : Answer Content) (s : State) → Since s → Since (line-run H line k x s .state)
 line-since H line k (refused n place) s h = h

@@ -29,8 +29,9 @@ use Rattle.orders.specs.Code.{base, unary-code, scratched-code, binary-code, ch
 use Rattle.orders.specs.Fault.{fault}
 use Rattle.finish.proofs.Represents.{Labelled}
 use Rattle.finish.proofs.All.{zero-else}
-use Rattle.call.specs.Layout.{constants-from}
+use Rattle.call.specs.Layout.{padding, constants-from}
 use Rattle.call.proofs.Items.{Fresh}
+use Rattle.call.proofs.Padding.{padding-is}
 use Rattle.call.proofs.Labels.{Early, Late, entry-fresh, exit-fresh}
 use Rattle.routine.specs.Routine.{shared}
 use Rattle.routine.proofs.LawRoom.{Once}
@@ -267,7 +268,18 @@ code-labels (SetLabel l) e =
     let g = leb-true l 1023 (zero-else (leb l 1023) 0 2 e .0) in
     record { once = (refl, tt); small = (omega arith, tt) }
 
--- ---- constants
+-- ---- constants, and the nop before them
+
+pub padding-fit : (n k : ℕ) → Fit (padding n k)
+padding-fit = padding-is Fit tt tt
+
+pub padding-labels : (n k : ℕ) → labels (padding n k) ≡ []
+unfolding labels
+padding-labels = padding-is (λ is. labels is ≡ []) refl refl
+
+pub padding-jumps : (n k : ℕ) → jumps (padding n k) ≡ 0
+unfolding jumps targets
+padding-jumps = padding-is (λ is. jumps is ≡ 0) refl refl
 
 pub data-fit : (k : ℕ) (bs : List ℕ) → k + length bs ≤ 1008 → Fit (constants-from k bs)
 unfolding constants-from

@@ -1,5 +1,5 @@
--- What follows the body: reloads, epilogue, constants and finishing, one after the other or as one. Assumes nothing.
-use mathlib.Core.Path.{_≡_, refl, sym, ap, subst, _∙_}
+-- What follows the body: reloads, epilogue, the nop, constants and finishing, one after the other or as one. Assumes nothing.
+use mathlib.Core.Path.{_≡_, refl, sym, ap, ap₂, subst, _∙_}
 use mathlib.Core.Bool.{true, false}
 use mathlib.Core.List.{List, [], _∷_, _++_, map, append-nil, append-assoc}
 use Prim.Native.Nat.{ℕ, suc, _+_, _≤_}
@@ -22,13 +22,14 @@ use Rattle.frame_code.specs.Fault.{epilogue-fault}
 use Rattle.ast.specs.Counts.{epilogue-holds}
 use Rattle.finish.proofs.Represents.{Represents}
 use Rattle.reading.specs.Program.{Program, constants}
-use Rattle.call.specs.Layout.{span, body, constants-from, entry, exit, data-items, items, constants-offset}
+use Rattle.call.specs.Layout.{span, body, padding, constants-from, entry, exit, code-items, pad, data-items, items, constants-offset}
+use Rattle.call.proofs.Items.{span-append}
 use Rattle.call.proofs.Labels.{Late}
 use Rattle.routine.specs.Routine.{then, unless, shared, room-number, last-line, closed-off, finished, body-lines, jump-lines}
-use Rattle.routine.specs.Run.{RunOutcome, next, finish-run, constants-run, leave-run}
+use Rattle.routine.specs.Run.{RunOutcome, next, finish-run, constants-run, constants-then, padding-then, leave-run}
 use Rattle.routine.proofs.LawRoom.{Once, span-words, space-number, room-space}
 use Rattle.base.proofs.Each.{Each, each-map}
-use Rattle.routine.proofs.LawFit.{Fit, fit-append, fit-labelled, epilogue-fit, reloads-fit, data-fit, each-append, shared-not, exit-late, epilogue-once, epilogue-labels, reloads-labels, reloads-jumps, data-labels}
+use Rattle.routine.proofs.LawFit.{Fit, fit-append, fit-labelled, epilogue-fit, reloads-fit, padding-fit, padding-labels, padding-jumps, data-fit, each-append, shared-not, exit-late, epilogue-once, epilogue-labels, reloads-labels, reloads-jumps, data-labels}
 use Rattle.routine.proofs.LawParts.{Agrees, part-agrees}
 use Rattle.routine.proofs.LawFinish.{finish-agrees}
 
@@ -108,10 +109,10 @@ module _ (p : Program) (B : List Item) (e : Each Before (labels B)) where
   abbrev Behind : ℕ → Type 0
   Behind l = (2032 ≤ l → l ≤ 2034 → ⊥) × (1024 ≤ l)
 
-  rest-new : (bs : List ℕ) → length bs ≤ 1008 → shared (labels ((X ++ Y) ++ constants-from 0 bs)) (labels B) ≡ false
-  rest-new bs h =
-      shared-not Behind Before (λ l x y. x .0 (y .0 (x .1)) (y .1)) (labels ((X ++ Y) ++ constants-from 0 bs)) (labels B)
-      (rw (labels-append (X ++ Y) (constants-from 0 bs))
+  rest-new : (n : ℕ) (bs : List ℕ) → length bs ≤ 1008 → shared (labels ((X ++ Y) ++ (padding n (length bs) ++ constants-from 0 bs))) (labels B) ≡ false
+  rest-new n bs h =
+      shared-not Behind Before (λ l x y. x .0 (y .0 (x .1)) (y .1)) (labels ((X ++ Y) ++ (padding n (length bs) ++ constants-from 0 bs))) (labels B)
+      (rw (labels-append (X ++ Y) (padding n (length bs) ++ constants-from 0 bs), labels-append (padding n (length bs)) (constants-from 0 bs), padding-labels n (length bs))
       (each-append Behind (labels (X ++ Y)) (labels (constants-from 0 bs))
       (each-map Late Behind (λ l q. (λ x y. omega arith, omega arith)) (labels (X ++ Y)) (exit-late H))
       (each-map (λ l. (1024 ≤ l) × (l ≤ 2031)) Behind (λ l q. (λ x y. omega arith, omega arith)) (labels (constants-from 0 bs)) (data-labels 0 bs (omega arith))))) e
@@ -134,57 +135,85 @@ module _ (b : List ℕ) (p : Program) (cs : List Constant) (s : State) (a : Repr
   abbrev B : List Item
   B = entry p ++ body (p .lines)
 
-  few : length (constants (p .lines)) ≤ 1008
-  few = omega (arith, h, ap length (sym c) ∙ length-map cs constant-bits)
+  -- to the end of the epilogue
+  abbrev Ended : List Item
+  Ended = (B ++ reloads (p .head .mask)) ++ epilogue (p .head)
 
-  whole : (((B ++ reloads (p .head .mask)) ++ epilogue (p .head)) ++ data-items p) ≡ items p
+  abbrev consts : List Item
+  consts = constants-from 0 (constants (p .lines))
+
+  count : length cs ≡ length (constants (p .lines))
+  count = sym (length-map cs constant-bits) ∙ ap length c
+
+  few : length (constants (p .lines)) ≤ 1008
+  few = omega (arith, h, count)
+
+  whole : ((Ended ++ pad p) ++ consts) ≡ items p
   unfolding items
-  whole = regroup (entry p) (body (p .lines)) (reloads (p .head .mask)) (epilogue (p .head)) (data-items p)
+  whole = append-assoc Ended (pad p) consts ∙ regroup (entry p) (body (p .lines)) (reloads (p .head .mask)) (epilogue (p .head)) (data-items p)
 
   all-fit : Fit (items p)
   all-fit =
       subst Fit whole
-      (fit-append ((B ++ reloads (p .head .mask)) ++ epilogue (p .head)) (data-items p)
-      (fit-append (B ++ reloads (p .head .mask)) (epilogue (p .head)) (fit-append B (reloads (p .head .mask)) f (reloads-fit (p .head .mask))) (epilogue-fit (p .head)))
+      (fit-append (Ended ++ pad p) consts
+      (fit-append Ended (pad p) (fit-append (B ++ reloads (p .head .mask)) (epilogue (p .head)) (fit-append B (reloads (p .head .mask)) f (reloads-fit (p .head .mask))) (epilogue-fit (p .head))) (padding-fit _ _))
       (data-fit 0 (constants (p .lines)) (omega (arith, few))))
 
-  offset-is : (t : State) (ts : List ℕ) → Represents b ((B ++ reloads (p .head .mask)) ++ epilogue (p .head)) ts t → t .asm .len ≡ constants-offset p
+  ended-span : span Ended ≡ span (code-items p)
+  ended-span = ap span (simp append-assoc)
+
+  pad-is : (u : State) (ts : List ℕ) → Represents b Ended ts u → padding (u .asm .len) (length cs) ≡ pad p
+  pad-is u ts l = ap₂ padding (l .len ∙ span-words Ended ∙ ended-span) count
+
+  offset-is : (t : State) (ts : List ℕ) → Represents b (Ended ++ pad p) ts t → t .asm .len ≡ constants-offset p
   offset-is t ts l =
-      l .len ∙ span-words ((B ++ reloads (p .head .mask)) ++ epilogue (p .head))
-      ∙ ap span (simp append-assoc)
+      l .len ∙ span-words (Ended ++ pad p) ∙ span-append Ended (pad p)
+      ∙ ap (λ (n : ℕ). n + span (pad p)) ended-span
 
-  finishes : (u t : State) → Represents b ((B ++ reloads (p .head .mask)) ++ epilogue (p .head)) (jump-lines p) u → Represents b (((B ++ reloads (p .head .mask)) ++ epilogue (p .head)) ++ data-items p) (jump-lines p) t
-      → Agrees b (finished p) (finish-run (p .head) (u .asm .len) (length cs) t)
-  finishes u t l m =
-      finish-agrees b p t (subst (λ (is : List Item). Represents b is (jump-lines p) t) whole m) all-fit (u .asm .len) (length cs) (offset-is u (jump-lines p) l)
-      (sym (length-map cs constant-bits) ∙ ap length c)
+  finishes : (v t : State) → Represents b (Ended ++ pad p) (jump-lines p) v → Represents b ((Ended ++ pad p) ++ consts) (jump-lines p) t
+      → Agrees b (finished p) (finish-run (p .head) (v .asm .len) (length cs) t)
+  finishes v t l m =
+      finish-agrees b p t (subst (λ (is : List Item). Represents b is (jump-lines p) t) whole m) all-fit (v .asm .len) (length cs) (offset-is v (jump-lines p) l) count
 
-  after-epilogue : (u : State) → Represents b ((B ++ reloads (p .head .mask)) ++ epilogue (p .head)) (jump-lines p) u
-      → Agrees b (then (unless (space-number (length b) ((B ++ reloads (p .head .mask)) ++ epilogue (p .head)) (data-items p)) (last-line p) p) finished) (constants-run (last-line p) 0 cs u (finish-run (p .head) (u .asm .len) (length cs)))
+  padded-new : Each (Unused 0) (labels (Ended ++ pad p))
+  padded-new = rw (labels-append Ended (pad p), padding-labels (span (code-items p)) (length (constants (p .lines))), append-nil (labels Ended)) (data-new p B e)
+
+  after-padding : (v : State) → Represents b (Ended ++ pad p) (jump-lines p) v
+      → Agrees b (then (unless (space-number (length b) (Ended ++ pad p) consts) (last-line p) p) finished) (constants-then (p .head) (last-line p) cs v)
+  after-padding v l =
+      subst (λ (bs : List ℕ). Agrees b (then (unless (space-number (length b) (Ended ++ pad p) (constants-from 0 bs)) (last-line p) p) finished) (constants-then (p .head) (last-line p) cs v)) c
+      (constants-agrees b (last-line p) p finished (finish-run (p .head) (v .asm .len) (length cs)) cs 0 (Ended ++ pad p) (jump-lines p) v l padded-new (omega arith)
+      (λ t m. finishes v t l (subst (λ (bs : List ℕ). Represents b ((Ended ++ pad p) ++ constants-from 0 bs) (jump-lines p) t) c m)))
+
+  no-tags : jump-lines p ++ replicate (jumps (pad p)) 0 ≡ jump-lines p
+  no-tags = rw (padding-jumps (span (code-items p)) (length (constants (p .lines)))) (append-nil (jump-lines p))
+
+  after-epilogue : (u : State) → Represents b Ended (jump-lines p) u
+      → Agrees b (then (unless (space-number (length b) Ended (data-items p)) (last-line p) p) finished) (padding-then (p .head) (last-line p) cs u)
   after-epilogue u l =
-      rw (← c) (constants-agrees b (last-line p) p finished (finish-run (p .head) (u .asm .len) (length cs)) cs 0 ((B ++ reloads (p .head .mask)) ++ epilogue (p .head)) (jump-lines p) u l (data-new p B e) (omega arith)
-      (λ t m. finishes u t l (rw c at m)))
+      rw (pad-is u (jump-lines p) l)
+      (part-agrees b Ended (jump-lines p) u l (pad p) 0 0 (fit-labelled (pad p) (padding-fit _ _)) (rw (padding-labels (span (code-items p)) (length (constants (p .lines)))) tt) refl (last-line p)
+      (constants-then (p .head) (last-line p) cs) consts p finished (rw (padding-labels (span (code-items p)) (length (constants (p .lines)))))
+      (λ v m. after-padding v (subst (λ (ts : List ℕ). Represents b (Ended ++ pad p) ts v) no-tags m)))
 
   -- the epilogue and all behind it
   abbrev closing : State → RunOutcome
-  closing t =
-      next (put (last-line p) (epilogue-fault (p .head)) (epilogue (p .head)) t) (last-line p)
-      (λ (u : State). constants-run (last-line p) 0 cs u (finish-run (p .head) (u .asm .len) (length cs)))
+  closing t = next (put (last-line p) (epilogue-fault (p .head)) (epilogue (p .head)) t) (last-line p) (padding-then (p .head) (last-line p) cs)
 
   after-reloads : (t : State) → Represents b (B ++ reloads (p .head .mask)) (tags-so-far p ++ replicate (jumps (reloads (p .head .mask))) 0) t
       → Agrees b (then (unless (space-number (length b) (B ++ reloads (p .head .mask)) (epilogue (p .head) ++ data-items p)) (last-line p) p) finished) (closing t)
   after-reloads t l =
       part-agrees b (B ++ reloads (p .head .mask)) (tags-so-far p ++ replicate (jumps (reloads (p .head .mask))) 0) t l (epilogue (p .head)) (last-line p) (epilogue-fault (p .head))
       (fit-labelled (epilogue (p .head)) (epilogue-fit (p .head))) (epilogue-once (p .head)) (rw g) (last-line p)
-      (λ (u : State). constants-run (last-line p) 0 cs u (finish-run (p .head) (u .asm .len) (length cs))) (data-items p) p finished (epilogue-new p B e)
-      (λ u m. after-epilogue u (subst (λ (ts : List ℕ). Represents b ((B ++ reloads (p .head .mask)) ++ epilogue (p .head)) ts u) (tags-all p) m))
+      (padding-then (p .head) (last-line p) cs) (data-items p) p finished (epilogue-new p B e)
+      (λ u m. after-epilogue u (subst (λ (ts : List ℕ). Represents b Ended ts u) (tags-all p) m))
 
   reloads-once : Once (labels (reloads (p .head .mask)))
   reloads-once = rw (reloads-labels (p .head .mask)) (refl, (refl, tt))
 
   number-is : room-number (length b) B (exit p ++ data-items p) ≡ space-number (length b) B (reloads (p .head .mask) ++ (epilogue (p .head) ++ data-items p))
   number-is =
-      room-space (length b) B (exit p ++ data-items p) (rest-new p B e (constants (p .lines)) few)
+      room-space (length b) B (exit p ++ data-items p) (rest-new p B e (span (code-items p)) (constants (p .lines)) few)
       ∙ ap (space-number (length b) B) (append-assoc (reloads (p .head .mask)) (epilogue (p .head)) (data-items p))
 
   pub leave-agrees : Agrees b (then (closed-off (length b) p) finished) (leave-run (p .head) (last-line p) cs s)

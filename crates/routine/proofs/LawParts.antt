@@ -13,7 +13,7 @@ use Rattle.assembler.proofs.Tags.{tags-of}
 use Rattle.assembler.specs.State.{State}
 use Rattle.base.proofs.Bools.{join}
 use Rattle.assembler.specs.Put.{words, jumps, labels, placed, put-number, settled, put}
-use Rattle.assembler.specs.Resolved.{label-place, jumps-in}
+use Rattle.assembler.specs.Resolved.{jumps-in}
 use Rattle.assembler.proofs.Checks.{v-fault}
 use Rattle.assembler.proofs.Steps.{put-done, settled-no}
 use Rattle.finish.proofs.Represents.{Represents, Labelled, entry-of}

@@ -10,6 +10,7 @@ pub mod LawParts
 pub mod LawRoom
 pub mod Lined
 pub mod Onward
+pub mod Padded
 pub mod Placed
 pub mod Quick
 pub mod Counted

@@ -4,6 +4,7 @@ use mathlib.Core.List.{List, _∷_}
 use Prim.Native.Nat.{ℕ, _+_}
 use native.Mathlib.Numerals.{add-one}
 use native.Mathlib.Omega.{arith}
+use lib.ListN.{length}
 use Rattle.refusal.specs.Number.{number-of}
 use Rattle.refusal.specs.declared.Refusal.{Refusal}
 use Rattle.ast.specs.declared.Head.{Head}
@@ -17,7 +18,8 @@ use Rattle.finish.specs.Finish.{finish, finish-outcome}
 use Rattle.finish.specs.declared.FinishResult.{FinishResult}
 use Rattle.frame_code.specs.Items.{prologue, epilogue, saves, reloads}
 use Rattle.frame_code.specs.Fault.{prologue-fault, epilogue-fault}
-use Rattle.routine.specs.Run.{RunOutcome, refused-at, next, enter-run, constants-run, constants-then, finish-run, leave-run}
+use Rattle.call.specs.Layout.{padding}
+use Rattle.routine.specs.Run.{RunOutcome, refused-at, next, enter-run, constants-run, constants-then, padding-then, finish-run, leave-run}
 use Rattle.routine.specs.Answer.{run-outcome}
 use Rattle.routine.specs.declared.RoutineAnswer.the-variants as Ruled
 
@@ -75,6 +77,9 @@ module _ (H : Head) (line : ℕ) (cs : List Constant) (s : State) (d : EmitResul
   reloads-stop r place h = rw (← e, h)
 
   module _ (i : d .answer ≡ Accepted) (g : EmitResult) (ls₂ js₂ b₂ : List ℕ) (u : outcome g ls₂ js₂ b₂ ≡ put line (epilogue-fault H) (epilogue H) (state (d .asm) ls js b)) where
-    pub epilogue-then : leave-run H line cs s ≡ next (outcome g ls₂ js₂ b₂) line (constants-then H line cs)
+    pub epilogue-then : leave-run H line cs s ≡ next (outcome g ls₂ js₂ b₂) line (padding-then H line cs)
     unfolding leave-run
     epilogue-then = rw (← e, i, ← u)
+
+pub padding-goes : (H : Head) (line : ℕ) (cs : List Constant) (s : State) (n : ℕ) → length cs ≡ n → (o : Outcome) → o ≡ put 0 0 (padding (s .asm .len) n) s → padding-then H line cs s ≡ next o line (constants-then H line cs)
+padding-goes H line cs s n k o e = rw (e, ← k)

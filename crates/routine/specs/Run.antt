@@ -23,6 +23,7 @@ use Rattle.finish.specs.Finish.{finish}
 use Rattle.orders.specs.Emitted.{emitted-in}
 use Rattle.frame_code.specs.Items.{prologue, epilogue, saves, reloads}
 use Rattle.frame_code.specs.Fault.{prologue-fault, epilogue-fault}
+use Rattle.call.specs.Layout.{padding}
 use Rattle.routine.specs.Routine.{Summary}
 
 -- what the routine answers, and the state it leaves
@@ -61,15 +62,19 @@ constants-run line k [] s f = f s
 constants-run line k (c ∷ cs) s f =
     next (put 0 (constant-fault k) (constant-items k c) s) line (λ (t : State). constants-run line (suc k) cs t f)
 
--- behind the epilogue: the constants, then finishing
+-- behind the nop: the constants, then finishing
 abbrev pub constants-then : Head → (line : ℕ) → List Constant → State → RunOutcome
-constants-then H line cs u = constants-run line 0 cs u (finish-run H (u .asm .len) (length cs))
+constants-then H line cs v = constants-run line 0 cs v (finish-run H (v .asm .len) (length cs))
+
+-- behind the epilogue: the nop, where there is one
+abbrev pub padding-then : Head → (line : ℕ) → List Constant → State → RunOutcome
+padding-then H line cs u = next (put 0 0 (padding (u .asm .len) (length cs)) u) line (constants-then H line cs)
 
 unfoldable pub leave-run : Head → (line : ℕ) → List Constant → State → RunOutcome
 leave-run H line cs s =
     next (put 0 0 (reloads (H .mask)) s) line
     (λ (t : State). next (put line (epilogue-fault H) (epilogue H) t) line
-    (constants-then H line cs))
+    (padding-then H line cs))
 
 -- ---- the body
 

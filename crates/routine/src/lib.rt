@@ -7,13 +7,15 @@ ghost use lib.ListN.{length, take, drop, replicate};
 ghost use Rattle.text.specs.Lines.{lines-of};
 ghost use Rattle.assembler.specs.Bytes.{room};
 ghost use Rattle.assembler.specs.State.{state, outcome, before, after};
+ghost use Rattle.assembler.specs.Put.{put};
 ghost use Rattle.assembler.specs.declared.Answer.the-variants.{Accepted as Taken, Refused as Stop};
 ghost use Rattle.ast.specs.Constant.{constant-limit};
 ghost use Rattle.fast.specs.Inner.Fast.{asm-of};
+ghost use Rattle.call.specs.Layout.{padding};
 ghost use Rattle.routine.specs.Run.{cleared, enter-run, finish-run, leave-run, constant-run, says, line-run};
 ghost use Rattle.routine.specs.Run.{lines-run, file-run, run};
 ghost use Rattle.routine.specs.Routine.{Promise};
-ghost use Rattle.routine.specs.Inner.Places.{constant-at, constants-at, is-constant, Placed, Unwound, Entered};
+ghost use Rattle.routine.specs.Inner.Places.{constant-at, constants-at, is-constant, Placed, Unwound, Open, Entered};
 ghost use Rattle.routine.specs.Answer.{routine-answer, run-after};
 use assembler::Asm;
 use assembler::EmitResult;
@@ -57,6 +59,16 @@ fn refused(r: Refusal, line: u32, asm: Asm) -> RoutineResult
     RoutineResult {
         asm,
         answer: RoutineAnswer::Refused(r, line),
+    }
+}
+
+// Accepted, and nothing changes.
+fn accepted(asm: Asm) -> EmitResult
+    ensures { λ x. ⌜ x ≡ record { asm = asm; answer = Taken } ⌝ }
+{
+    EmitResult {
+        asm,
+        answer: assembler::Answer::Accepted,
     }
 }
 
@@ -155,7 +167,8 @@ fn unwind(
     jumps: &mut Jumps,
     asm: Asm,
 ) -> EmitResult
-    ensures { λ r. ⌜ Unwound head line (before asm labels jumps buf) (after r labels jumps buf) × (r .answer ≡ Taken → r .asm .len ≤ 65536) ⌝ }
+    ensures { λ r. ⌜ Unwound head line (before asm labels jumps buf) (after r labels jumps buf)
+        × (r .answer ≡ Taken → Open (after r labels jumps buf .state)) ⌝ }
 {
     let d = frames::load_used_registers(head.mask, buf, labels, jumps, asm);
     let w = d.answer;
@@ -163,6 +176,20 @@ fn unwind(
         return d;
     }
     frames::epilogue(head, line, buf, labels, jumps, d.asm)
+}
+
+// A nop, if constants follow and the length is no multiple of 8.
+fn pad(n: usize, buf: &mut [u8], labels: &mut Labels, jumps: &mut Jumps, asm: Asm) -> EmitResult
+    requires { ⌜ Open (state asm (now labels) (now jumps) (now buf)) ⌝ }
+    ensures { λ r. ⌜ after r labels jumps buf ≡ put 0 0 (padding (asm .len) n) (before asm labels jumps buf) ⌝ }
+{
+    if n == 0 {
+        return accepted(asm);
+    }
+    if asm.len % 8 == 0 {
+        return accepted(asm);
+    }
+    assembler::append_word(accesses::word(encoder::nop()), buf, labels, jumps, asm)
 }
 
 // The constant of the line that starts at `place`; 0 where there is none.
@@ -213,7 +240,7 @@ fn constants(
     }
 }
 
-// All that comes behind the body: reloads, epilogue, the constants at the first n places, finishing.
+// All that comes behind the body: reloads, epilogue, a nop or none, the constants at the first n places, finishing.
 fn leave(
     file: &[u8],
     places: &Places,
@@ -234,7 +261,12 @@ fn leave(
     if let assembler::Answer::Refused(r, _) = v {
         return refused(r, line, u.asm);
     }
-    let a = u.asm;
+    let p = pad(n, buf, labels, jumps, u.asm);
+    let q = p.answer;
+    if let assembler::Answer::Refused(r, _) = q {
+        return refused(r, line, p.asm);
+    }
+    let a = p.asm;
     let d = constants(file, places, n, buf, labels, jumps, a);
     let w = d.answer;
     if let assembler::Answer::Refused(r, _) = w {
@@ -250,10 +282,7 @@ fn keep(k: usize, asm: Asm) -> EmitResult
     ensures { λ r. ⌜ ((ls js b : List ℕ) → outcome r ls js b ≡ constant-run k (state asm ls js b)) ⌝ }
 {
     if k < CONSTANTS {
-        return EmitResult {
-            asm,
-            answer: assembler::Answer::Accepted,
-        };
+        return accepted(asm);
     }
     stopped(Refusal::Count, asm)
 }

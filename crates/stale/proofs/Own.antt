@@ -6,6 +6,7 @@ use Prim.Native.Nat.{ℕ, suc, _+_, _*_, _≤_, _<_}
 use native.Mathlib.Omega.{arith}
 use borrow.Author.Tests.{ne-eqb, lt-ltb}
 use lib.Dec.{eqb, leb}
+use lib.ListN.{length}
 use lib.IntN.{pos}
 use Rattle.base.specs.Tests.{any, member}
 use Rattle.base.proofs.Bools.{or-false}
@@ -27,7 +28,8 @@ use Rattle.accesses.specs.Code.{li-code, sub-stack-code, allocate-stack-code, l
 use Rattle.frame_code.specs.Items as F
 use Rattle.frame_code.specs.Items.{mv, opening, closing, times-over, states-from, state-copy, obs-copy, count-down, at-pro, at-epi, save, reload, by-frame, repeated, prologue, prologue-fast, prologue-indirect, epilogue, epilogue-fast, epilogue-indirect, saves, reloads}
 use Rattle.orders.specs.Code.{base, unary-code, scratched-code, binary-code, choose-code, code, line-code}
-use Rattle.call.specs.Layout.{body, constants-from, entry, exit, code-items, data-items, items}
+use Rattle.call.specs.Layout.{span, body, constants-from, entry, exit, code-items, pad, data-items, items}
+use Rattle.call.proofs.Padding.{padding-is}
 use Rattle.stale.specs.Deck.{unused-by}
 use Rattle.stale.specs.Laws.{sets-label, jumps-to, LinesSay}
 use Rattle.unused.proofs.From.{member-append, exact-of}
@@ -198,7 +200,7 @@ module _ (l : ℕ) (own : l < 1024) where
     unfolding items
     in-lines p =
         let m : Bool = member l (f (body (p .lines))) in
-        let d = none (data-items p) (data-high 0 (constants (p .lines))) in
+        let d = none (data-items p) (high-append (pad p) (constants-from 0 (constants (p .lines))) (padding-is High tt tt (span (code-items p)) (length (constants (p .lines)))) (data-high 0 (constants (p .lines)))) in
         rw (apart (code-items p) (data-items p), apart (entry p) (body (p .lines) ++ exit p), apart (body (p .lines)) (exit p), none (entry p) (entry-high p), none (exit p) (exit-high p), d)
         (or-false (m || false) ∙ or-false m)
 

@@ -1,7 +1,7 @@
 use mathlib.Core.Path.{sym, _∙_}
 use denote.Ref.{now}
 use Rattle.assembler.specs.State.{State, state}
-use Rattle.routine.proofs.Bounds.{put-bound}
+use Rattle.routine.proofs.Bounds.{put-open}
 use Rattle.routine.proofs.Onward.{halts, no-both, reloads-stop, epilogue-then}
 use borrow.Author.Needs.{needs}
 use Rattle.routine.proofs.unwind.Statement.{statement}
@@ -31,7 +31,7 @@ returns-2 c =
     let e = c .before .before .epilogue in
     let a = start u .args in (
       λ cs. epilogue-then (a .head) (a .line) cs (at-start (start u)) (d .result) _ _ _ (d .ensures) (t .enum-told2 .given .1) (e .result) _ _ _ (e .ensures),
-      put-bound _ _ _ _ (e .result) _ _ _ (e .ensures),
+      put-open _ _ _ _ (e .result) _ _ _ (e .ensures),
     )
 
 pub unwind-spec : {M : Type 1} → statement M

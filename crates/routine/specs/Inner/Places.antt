@@ -12,7 +12,8 @@ use Rattle.text.specs.Lines.{lines-of}
 use Rattle.deck.specs.Judge.{Content}
 use Rattle.deck.specs.Judge as Deck
 use Rattle.assembler.specs.State.{State, Outcome}
-use Rattle.routine.specs.Run.{RunOutcome, next, constants-run, constants-then, leave-run, enter-run, says, waiting}
+use Rattle.assembler.specs.Put.{put}
+use Rattle.routine.specs.Run.{RunOutcome, next, constants-run, padding-then, leave-run, enter-run, says, waiting}
 
 -- the first constant, 0 where there is none
 abbrev pub first-said : List Constant → Constant
@@ -44,7 +45,11 @@ Placed cs s o = (line : ℕ) (f : State → RunOutcome) → constants-run line 0
 
 -- reloads and epilogue, at the last line
 abbrev pub Unwound : Head → (line : ℕ) → State → Outcome → Type 0
-Unwound H line s o = (cs : List Constant) → leave-run H line cs s ≡ next o line (constants-then H line cs)
+Unwound H line s o = (cs : List Constant) → leave-run H line cs s ≡ next o line (padding-then H line cs)
+
+-- the record is open, and one that orders make: to place nothing is accepted, and changes nothing
+abbrev pub Open : State → Type 0
+Open s = put 0 0 [] s ≡ record { answer = accepted tt; state = s }
 
 -- prologue and saves, at line 1
 abbrev pub Entered : Head → State → Outcome → Type 0
