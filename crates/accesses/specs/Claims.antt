@@ -62,7 +62,9 @@ pub record Claim : Type 0 where
       → Leaves (add-stack-code n) (λ s. setx (with-size n (pos n) s) sp (w64 (s .x sp + n))) (λ s. s .f) (λ s. s .mem)
   -- and s5 is then sp
   pub allocate-stack : (n : ℕ) → stack-fault n ≡ 0
-      → Leaves (allocate-stack-code n) (λ s. setx (setx (with-size n (pos n) s) sp (minus (s .x sp) n)) s5 (minus (s .x sp) n)) (λ s. s .f)
+      → Leaves (allocate-stack-code n)
+      (λ s. setx (setx (with-size n (pos n) s) sp (minus (s .x sp) n)) s5 (minus (s .x sp) n))
+      (λ s. s .f)
       (λ s. s .mem)
 
 -- ---- document 01's "Proved table", entries a to j; e as document 02, point 6, has it
@@ -84,7 +86,8 @@ pub record TableClaim : Type 0 where
   pub d : answer (li-fault 10) (li-code 10 (pos 0x7FFFF7FF)) ≡ accepted (0x7ffff537 ∷ 0x7ff50513 ∷ [])
   pub e : answer (li-fault 10) (li-code 10 (pos 0x7FFFF800)) ≡ accepted (0x80000537 ∷ 0x8005051b ∷ [])
   pub f : answer (one-fault 10 9 2040) (load-float-code 10 9 2040) ≡ accepted (0x7f84b507 ∷ [])
-  pub g : answer (one-fault 10 9 2048) (load-float-code 10 9 2048) ≡ accepted (0x000012b7 ∷ 0x80028293 ∷ 0x009282b3 ∷ 0x0002b507 ∷ [])
+  pub g : answer (one-fault 10 9 2048) (load-float-code 10 9 2048)
+      ≡ accepted (0x000012b7 ∷ 0x80028293 ∷ 0x009282b3 ∷ 0x0002b507 ∷ [])
   pub h : counted (answer (pair-fault 10 9 2032) (load-complex-code 10 9 2032)) ≡ accepted 2
   pub h-far : counted (answer (pair-fault 10 9 2040) (load-complex-code 10 9 2040)) ≡ accepted 4
   pub h-stored : counted (answer (pair-fault 10 9 2032) (save-complex-code 10 9 2032)) ≡ accepted 2

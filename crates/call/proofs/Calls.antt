@@ -31,6 +31,7 @@ use Rattle.frame_code.specs.Items.{repeated, prologue, saves, reloads, epilogue
 use Rattle.reading.specs.Program.{Program, constants}
 use Rattle.reading.specs.Plain.{Reading, with-cell, means, with-meaning, does, Reads, none-read, line-read}
 use Rattle.reading.specs.Terms.{table-cell, start, Clear, frame, regions, Terms}
+use Rattle.reading.proofs.Start.{fast-terms}
 use Rattle.call.specs.Layout.{span, body, padding, constants-from, items, place, code-length, routine-words}
 use Rattle.call.proofs.Good.{GoodOrder, Good}
 use Rattle.call.specs.Returned.{Returned}
@@ -114,20 +115,7 @@ module _ (bs : List ℕ) (f : ℕ → ℕ) where
   -- a fast frame of k states, no cap and no mask
   pub machine-terms : (k n : ℕ) → k ≤ 8 → n ≤ 65536 → Terms (record { frame = Fast; cap = 0; states = k; obs = 0; last = 0; mask = 0 }) n machine
   unfolding upd
-  machine-terms k n h l =
-      record {
-        code-aligned = refl;
-        block-aligned = λ h. absurd h;
-        table-aligned = λ h. absurd h;
-        cells-aligned = λ h. absurd h;
-        params-aligned = λ h. absurd (omega arith);
-        ra-aligned = refl;
-        ra-outside = λ w. omega (arith, w .1);
-        sp-aligned = refl;
-        separate = omega arith;
-        state-cells = λ h. absurd h;
-        obs-cells = λ h. absurd h;
-      }
+  machine-terms k n h l = fast-terms 0 k 0 0 0 n machine refl refl (λ w. omega (arith, w .1)) refl (omega arith)
 
 -- ---- document 01's sample: `fast,0,1,0,0,0`
 

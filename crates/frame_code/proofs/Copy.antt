@@ -77,7 +77,8 @@ module _ (Q : Floats) (P : ℕ → Type 0) (m0 m1 X F : ℕ → ℕ) (base most 
         same = rw m (h .same);
       }
 
-  module _ (fits : base + 8 * most ≤ 2 ^ 64) (many : count ≤ most) (all-in : (x : ℕ) → Cells x → P x) (before : Same P m1 m0) (bytes : (x : ℕ) → m0 x < 256) (table : Off P tab (16 * most)) (small : 16 * most ≤ 2 ^ 64) (apart : (i : ℕ) → i < count → Off P (through i) 8) (even : base % 8 ≡ 0) (table-even : tab % 8 ≡ 0) (states-even : (i : ℕ) → i < count → through i % 8 ≡ 0) (i : ℕ) (u : State) (l : i < count) (h : Copied i u) where
+  module _ (fits : base + 8 * most ≤ 2 ^ 64) (many : count ≤ most) (all-in : (x : ℕ) → Cells x → P x) (before : Same P m1 m0) (bytes : (x : ℕ) → m0 x < 256) (table : Off P tab (16 * most)) (small : 16 * most ≤ 2 ^ 64) (apart : (i : ℕ) → i < count → Off P (through i) 8)
+      (even : base % 8 ≡ 0) (table-even : tab % 8 ≡ 0) (states-even : (i : ℕ) → i < count → through i % 8 ≡ 0) (i : ℕ) (u : State) (l : i < count) (h : Copied i u) where
     near : Same P (u .mem) m0
     near x b o = h .same x b (λ p. o (all-in x p)) ∙ before x b o
 

@@ -61,7 +61,8 @@ module _ (Q : Floats) (P : ℕ → Type 0) (m X F : ℕ → ℕ) (base tab idx s
         same = rw e (h .same);
       }
 
-  module _ (may : (i x : ℕ) → i < count → dist (goal i) x < 8 → P x) (table : (i : ℕ) → i < count → Off P (w64 (tab + 16 * (skip + i))) 8) (cells : (i : ℕ) → i < count → Off P (w64 (base + 8 * (skip + i))) 8) (even : base % 8 ≡ 0) (table-even : tab % 8 ≡ 0) (goals-even : (i : ℕ) → i < count → goal i % 8 ≡ 0) (i : ℕ) (u : State) (l : i < count) (h : Given i u) where
+  module _ (may : (i x : ℕ) → i < count → dist (goal i) x < 8 → P x) (table : (i : ℕ) → i < count → Off P (w64 (tab + 16 * (skip + i))) 8) (cells : (i : ℕ) → i < count → Off P (w64 (base + 8 * (skip + i))) 8)
+      (even : base % 8 ≡ 0) (table-even : tab % 8 ≡ 0) (goals-even : (i : ℕ) → i < count → goal i % 8 ≡ 0) (i : ℕ) (u : State) (l : i < count) (h : Given i u) where
     pointer : w64 (load8 (u .mem) (w64 (u .x 18 + 0)) + u .x 19) ≡ goal i
     pointer = rw (at, load8-same P (u .mem) m (w64 (tab + 16 * (skip + i))) (h .same) (table i l), h .s3) (plain (load8 m (w64 (tab + 16 * (skip + i)))))
       where

@@ -90,7 +90,8 @@ module _ (places : ℕ → ℕ) (start here : ℕ) (s : State) (Q : Floats) wher
       rw (n, ← p) (ends-join (kept-ends Q s is x f (s .mem) h r) refl e)
 
   -- the cell into t0, and from there the choice
-  pub ifelse-does : (d a b i : ℕ) → d < 32 → a < 32 → b < 32 → 8 * i ≤ offset-limit → Accessible (cell s Stack i ∷ []) → At places start here (map instr (load-int-code 5 (base Stack) (8 * i) ++ choose-code d a b)) s → Done places start Q here (map instr (load-int-code 5 (base Stack) (8 * i) ++ choose-code d a b)) s (upd (s .f) d (choose 64 (cell-value s Stack i) (s .f a) (s .f b))) (s .mem) on
+  pub ifelse-does : (d a b i : ℕ) → d < 32 → a < 32 → b < 32 → 8 * i ≤ offset-limit → Accessible (cell s Stack i ∷ [])
+      → At places start here (map instr (load-int-code 5 (base Stack) (8 * i) ++ choose-code d a b)) s → Done places start Q here (map instr (load-int-code 5 (base Stack) (8 * i) ++ choose-code d a b)) s (upd (s .f) d (choose 64 (cell-value s Stack i) (s .f a) (s .f b))) (s .mem) on
   unfolding effect apply setx upd temporary
   ifelse-does d a b i hd ha hb hi c o =
       let is : List Instr = load-int-code 5 (base Stack) (8 * i) in

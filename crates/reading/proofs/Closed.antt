@@ -12,6 +12,7 @@ use Rattle.ast.specs.Mask.{saved}
 use Rattle.ast.specs.declared.Place.the-variants.{Mem, Stack}
 use Rattle.ast.specs.declared.Frame.the-variants.{Fast, Indirect}
 use Rattle.ast.specs.declared.Head.{Head}
+use Rattle.reading.proofs.Start.{fast-terms}
 use Rattle.reading.specs.Size.{frame-size, stack-size, whole-size}
 use Rattle.reading.specs.Terms.{table-used, table-cell, start-f, start-cells, end-obs, Region, Within, Whole, Clear, frame, block, table, code, regions, Terms}
 
@@ -111,22 +112,9 @@ fast =
       mem = λ x. 255;
     }
 
-fast-terms : Terms F 200 fast
+odd-fast-terms : Terms F 200 fast
 unfolding upd
-fast-terms =
-    record {
-      code-aligned = refl;
-      block-aligned = λ h. absurd h;
-      table-aligned = λ h. absurd h;
-      cells-aligned = λ h. absurd h;
-      params-aligned = λ h. absurd (omega arith);
-      ra-aligned = refl;
-      ra-outside = λ w. omega (arith, w .1);
-      sp-aligned = refl;
-      separate = omega arith;
-      state-cells = λ h. absurd h;
-      obs-cells = λ h. absurd h;
-    }
+odd-fast-terms = fast-terms 0 2 1 0 0 200 fast refl refl (λ w. omega (arith, w .1)) refl (omega arith)
 
 -- `indirect,0,1,0,0,0`: neither block nor parameters, so that a0 and a3 may be odd
 abbrev T1 : Head
