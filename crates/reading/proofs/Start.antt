@@ -36,7 +36,7 @@ module _ (cap states obs last mask n : ℕ) (s : State) where
   pub fast-terms : s .pc % 8 ≡ 0 → s .x 1 % 4 ≡ 0 → (Within (code n s) (s .x 1) → ⊥) → s .x 2 % 16 ≡ 0 → Separate (regions fast n s Fast) → Terms fast n s
   fast-terms c r o p w =
       record {
-        code-aligned = c;
+        code-aligned = omega (arith, c);
         block-aligned = λ h. absurd h;
         table-aligned = λ h. absurd h;
         cells-aligned = λ h. absurd h;
