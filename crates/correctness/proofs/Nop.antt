@@ -68,5 +68,5 @@ unfolding program-of
 nop-fits size file h =
     let f : Program → Answer Program = λ p. then (closed-off size p) finished in
     let g : Program → Answer Program = λ p. then (closed-without size p) finished in
-    let same : f ≡ g = fun-ext (λ p. ap (λ (a : Answer Program). then a finished) (closed-same size p h)) in
+    let same : f ≡ g = fun-ext (λ p. ap (λ (a : Answer Program). then a finished) (closed-same size p (omega (arith, h)))) in
     ap (λ (f : Program → Answer Program). cond (leb (length file) 65536) (then (file-read size (lines-of file)) f) (refused 7 1)) same
