@@ -134,7 +134,7 @@ extent file buf t after h =
 pub eights : OffsetClaim
 eights file buf t after h n =
     let x = program file buf t after h in
-    subst (λ (u : Summary). 0 < u .constants → u .offset % 8 ≡ 0) (sym (told file buf t after h (x .0) (x .1))) (offset-eight (x .0)) n
+    subst (λ (u : Summary). 0 < u .constants → u .offset % 8 ≡ 0) (sym (told file buf t after h (x .0) (x .1))) (offset-eight (x .0)) (omega (arith, n))
 
 pub words-valid : WordsClaim
 words-valid file buf t after h k b =
