@@ -1,4 +1,4 @@
--- What loads and stores do.
+-- What loads and stores do. Assumes nothing.
 use mathlib.Core.Path.{◌≡◌, refl, ◌∙◌}
 use mathlib.Core.Bool.{Bool, true, false, not, ◌||◌, cond}
 use mathlib.Core.List.{List, [], ◌∷◌, ◌++◌}
@@ -16,7 +16,7 @@ use Rattle.machine.specs.Step.{Among}
 use Rattle.machine.proofs.Exec.{execs}
 use Rattle.machine.proofs.Effects.{setx_twice}
 use Rattle.machine.proofs.Memory.{wrap_r, Apart, load4_store}
-use Rattle.machine.proofs.Straight.{next_aligned, at_first, path-run}
+use Rattle.machine.proofs.Straight.{aligned, at_first, path-run}
 use Rattle.accesses.specs.Code.{li_code, point_code, access_code}
 use Rattle.accesses.specs.Fault.{offset_limit, access_fault, last_pair}
 use Rattle.accesses.specs.Stands.{Stands, Goes, behind, cell_at, with_t0}
@@ -122,4 +122,4 @@ module _ (Q : Floats) (s : State) (b n a a' : ℕ) (hb : b < 32) (hn : n < 2040)
       let p = addr Q s b n a hb (omega arith) e h8 in
       let q : execs Q is s ≡ behind is s s.x s.f (store8 (store8 s.mem a (s.f d)) a' (s.f (d + 1))) = rw (p, ahead, eight s.pc) in
       rw (← q)
-      (path-run Q (Among s.pc 2) is s (omega (arith, pair_even.0, pair_even.1)) (at_first s.pc 1 o.sound.pc, o.aligned, o.code.0, ((1, omega arith, refl), next_aligned s o.aligned, rw p (load4_store s.mem a (s.f d) (next s) h ∙ o.code.1.0), tt)))
+      (path-run Q (Among s.pc 2) is s (omega (arith, pair_even.0, pair_even.1)) (at_first s.pc 1 o.sound.pc, o.aligned, o.code.0, ((1, omega arith, refl), aligned s o.aligned, rw p (load4_store s.mem a (s.f d) (next s) h ∙ o.code.1.0), tt)))

@@ -1,4 +1,4 @@
--- What accepted accesses do on the machine, proved.
+-- What accepted accesses do on the machine, proved. Assumes nothing.
 use Rattle.accesses.specs.Claims.{Claim}
 use Rattle.accesses.proofs.LoadImmediate.{li_accepted, li-runs}
 use Rattle.accesses.proofs.Runs.{load_float_runs, load_int_runs, save_float_runs, load_complex_runs, save-complex-runs}

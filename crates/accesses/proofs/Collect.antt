@@ -1,4 +1,4 @@
--- The encoder's answers for valid instructions, collected, are a plan of their words.
+-- The encoder's answers for valid instructions, collected, are a plan of their words. Assumes nothing.
 use mathlib.Core.Path.{◌≡◌, refl, sym, ap, ap₂, ◌∙◌}
 use mathlib.Core.Bool.{Bool, true, false, cond}
 use mathlib.Core.List.{List, [], ◌∷◌, ◌++◌, map, map-append, append-nil}
@@ -7,7 +7,7 @@ use native.Mathlib.Nat.{min-eq_left, mod-eq_of_lt}
 use native.Mathlib.Omega.{arith}
 use native.Mathlib.Numerals.{add-one}
 use borrow.Author.Tests.{lt-ltb, le-ltb}
-use lib.Dec.{eqb, ltb}
+use lib.Dec.{eqb, ltb, leb}
 use lib.ListN.{length, take, length-set, length-append, length-map}
 use lib.Seq.{take-suc-set, append_snoc}
 use lib.IntN.{ℤ, pos, negsuc}

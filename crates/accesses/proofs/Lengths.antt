@@ -1,4 +1,4 @@
--- No access has more than twelve words.
+-- No access has more than twelve words. Assumes nothing.
 use mathlib.Core.Bool.{Bool, true, false, cond}
 use mathlib.Core.List.{List, [], ◌∷◌}
 use Prim.Native.Nat.{ℕ, ◌≤◌}

@@ -1,4 +1,4 @@
--- The parts that `lui` or `auipc` and the word behind it add up to.
+-- The parts that `lui` or `auipc` and the word behind it add up to. Assumes nothing.
 use mathlib.Core.Path.{◌≡◌, refl, ap, ◌∙◌}
 use mathlib.Core.Bool.{Bool, true, false, cond}
 use Prim.Native.Nat.{ℕ, suc, ◌+◌, ◌-◌, ◌*◌, ◌%◌, ◌^◌, ◌≤◌, ◌<◌}

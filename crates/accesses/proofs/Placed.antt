@@ -1,4 +1,4 @@
--- A plan of valid instructions is placed as the instructions' items; a fault is answered whatever the items.
+-- A plan of valid instructions is placed as the instructions' items; a fault is answered whatever the items. Assumes nothing.
 use mathlib.Core.Path.{◌≡◌, refl, sym, ap, ap₂, ◌∙◌}
 use mathlib.Core.Bool.{Bool, true, false, cond}
 use mathlib.Core.List.{List, [], ◌++◌, map, append-nil}

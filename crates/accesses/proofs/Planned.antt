@@ -1,4 +1,4 @@
--- An access's and a size's plan, by the test that chose it.
+-- An access's and a size's plan, by the test that chose it. Assumes nothing.
 use mathlib.Core.Path.{◌≡◌, ap, ◌∙◌}
 use mathlib.Core.List.{List, [], ◌∷◌}
 use Prim.Native.Nat.{ℕ, ◌+◌, ◌≤◌, ◌<◌}

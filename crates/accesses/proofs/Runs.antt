@@ -1,4 +1,4 @@
--- Accepted loads and stores: their instructions are valid, and what they do, for any base, register and offset.
+-- Accepted loads and stores: their instructions are valid, and what they do, for any base, register and offset. Assumes nothing.
 use mathlib.Core.Path.{◌≡◌, refl}
 use mathlib.Core.Bool.{Bool, true, false, ◌&&◌, cond}
 use mathlib.Core.List.{List, [], ◌∷◌, ◌++◌}

@@ -1,4 +1,4 @@
--- What the stack's sizes do.
+-- What the stack's sizes do. Assumes nothing.
 use mathlib.Core.Path.{◌≡◌, refl}
 use mathlib.Core.Bool.{Bool, true, false, cond}
 use mathlib.Core.List.{List, [], ◌∷◌, ◌++◌}

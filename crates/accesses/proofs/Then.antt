@@ -1,4 +1,4 @@
--- One list of instructions behind another, from states that stand at their words.
+-- One list of instructions behind another, from states that stand at their words. Assumes nothing.
 use mathlib.Core.Path.{◌≡◌, ◌∙◌}
 use mathlib.Core.Bool.{Bool, true, false, ◌&&◌}
 use mathlib.Core.Option.{Option, some, none}

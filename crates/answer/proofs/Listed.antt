@@ -13,8 +13,8 @@ use Rattle.text.specs.Digits.{decimal, digits}
 use Rattle.assembler.specs.Bytes.{bytes}
 use Rattle.assembler.proofs.Writes.{length_bytes}
 use Rattle.reading.specs.Program.{Program}
-use Rattle.layout.specs.Layout.{items, place, routine_words, code_length}
-use Rattle.layout.proofs.Items.{resolved_length}
+use Rattle.call.specs.Layout.{items, place, routine_words, code_length}
+use Rattle.call.proofs.Items.{resolved_length}
 use Rattle.routine.specs.Routine.{Summary, Promise, program_of, summary_answer, buffer_after}
 use Rattle.ast.specs.declared.Frame.{Frame}
 use Rattle.routine.specs.declared.RoutineAnswer.{RoutineAnswer}
@@ -95,6 +95,5 @@ module _ (file buf after : List ℕ) (full : length buf ≡ 65536) where
   unfolding deck_text
   listed t p = rw (← full, p.0) (of_program (program_of (length buf) file) p.1)
 
-  pub deck_told : (t : Answer Summary) (r : Text) (out left : List ℕ) → length after ≡ length buf → Promise file buf t after → Tells (answer_text t after) after out r left
-      → Puts (deck_text file) 0 out r left × (t ≡ summary_answer (program_of 65536 file)) × (length (deck_text file) ≤ 245760)
-  deck_told t r out left n p q = (rw (← listed t p) q.0, p.0 ∙ ap (λ (k : ℕ). summary_answer (program_of k file)) full, rw (← listed t p) (q.1 (omega arith)))
+  pub deck_told : (t : Answer Summary) (r : Text) (out left : List ℕ) → length after ≡ length buf → Promise file buf t after → Tells (answer_text t after) after out r left → Puts (deck_text file) 0 out r left × (length (deck_text file) ≤ 245760)
+  deck_told t r out left n p q = rw (← listed t p) (q.0, q.1 (omega arith))

@@ -10,7 +10,7 @@ use Rattle.refusal.specs.declared.Refusal.{Refusal}
 use Rattle.refusal.specs.Number.{number_of}
 use Rattle.ast.specs.declared.Frame.{Frame}
 use Rattle.reading.specs.Program.{Program}
-use Rattle.routine.specs.Routine.{Summary, program_of, summary_answer}
+use Rattle.routine.specs.Routine.{Summary, Promise, program_of, summary_answer}
 use Rattle.routine.specs.declared.RoutineAnswer.{RoutineAnswer}
 use Rattle.routine.specs.declared.RoutineAnswer.TheVariants.{Accepted, Refused}
 use Rattle.routine.specs.Answer.{routine_answer}
@@ -38,7 +38,8 @@ same_reason : (a : Answer Program) → reason_of (summary_answer a) ≡ reason_o
 same_reason (accepted p) = refl
 same_reason (refused n line) = refl
 
--- of the routine's answer to a file
-pub reason_is : (file : List ℕ) (t : Answer Summary) → t ≡ summary_answer (program_of 65536 file) → reason_of t ≡ deck_reason file
+pub deck_said : (file buf after : List ℕ) (t : Answer Summary) (r : Text) (err left : List ℕ) → length buf ≡ 65536 → Promise file buf t after → Says (reason_of t) err r left → Says (deck_reason file) err r left
 unfolding deck_reason
-reason_is file t e = ap reason_of e ∙ same_reason (program_of 65536 file)
+deck_said file buf after t r err left full p q =
+    let e : reason_of t ≡ reason_of (program_of (length buf) file) = ap reason_of p.0 ∙ same_reason (program_of (length buf) file) in
+    rw (← full, ← e) q

@@ -2,7 +2,7 @@
 use Rattle.std.specs.Prelude.{List, [], ℕ, take}
 use Rattle.refusal.specs.Answer.{Answer, accepted, refused}
 use Rattle.reading.specs.Program.{Program}
-use Rattle.layout.specs.Layout.{routine_words}
+use Rattle.call.specs.Layout.{routine_words}
 use Rattle.routine.specs.Routine.{Summary, program_of}
 use Rattle.print.specs.Text.{word_lines, code_lines, refusal_line}
 use Rattle.print.specs.Reason.{reason_line}

@@ -1,18 +1,17 @@
 // The routine's answer as text.
-ghost use Rattle.std.specs.Prelude.{◌≡◌, ◌≤◌, length};
+ghost use Rattle.std.specs.Prelude.{◌≤◌, length};
 ghost use Rattle.print.specs.Text.{Puts};
 ghost use Rattle.routine.specs.Answer.{routine_answer};
-ghost use Rattle.routine.specs.Routine.{program_of, summary_answer};
-ghost use Rattle.answer.specs.Answer.{answer_text, deck_text, reason_of};
+ghost use Rattle.answer.specs.Answer.{answer_text, deck_text, reason_of, deck_reason};
 
 use print::Text;
 use routine::RoutineAnswer;
 
-// The routine's answer to a file, and how long a text is that was made of it.
+// How long the two texts are that were made of a file.
 #[derive(Drop)]
-pub struct DeckText {
-    pub answer: RoutineAnswer,
+pub struct DeckAnswer {
     pub text: Text,
+    pub reason: Text,
 }
 
 // The bytes of a buffer that count, and with them a file's.
@@ -39,25 +38,14 @@ pub fn answer_text(answer: RoutineAnswer, code: &[u8], out: &mut [u8]) -> Text
     }
 }
 
-// The routine's answer to a file, and all that is printed of it: at most 16,384 lines of 15 bytes.
-pub fn deck_answer(file: &[u8], out: &mut [u8]) -> DeckText
-    ensures { Puts (deck_text file.now) 0 out.old result.text out.new
-        × (routine_answer result.answer ≡ summary_answer (program_of 65536 file.now))
-        × (length (deck_text file.now) ≤ 245760) }
-{
-    let mut code = [0u8; ROOM];
-    let answer = routine::routine(file, &mut code);
-    let text = answer_text(answer, &code, out);
-    DeckText { answer, text }
-}
-
-// The text alone.
+// All that is printed of a file: at most 16,384 lines of 15 bytes.
 pub fn deck_text(file: &[u8], out: &mut [u8]) -> Text
     ensures { Puts (deck_text file.now) 0 out.old result out.new
         × (length (deck_text file.now) ≤ 245760) }
 {
-    let told = deck_answer(file, out);
-    told.text
+    let mut code = [0u8; ROOM];
+    let a = routine::routine(file, &mut code);
+    answer_text(a, &code, out)
 }
 
 // A refusal in words, for standard error; nothing of an accepted routine. 128 bytes are enough.
@@ -69,4 +57,17 @@ pub fn reason_text(answer: RoutineAnswer, out: &mut [u8]) -> Text
         RoutineAnswer::Accepted(_, _, _, _, _) => Text::Length(0),
         RoutineAnswer::Refused(why, line) => print::reason_line(refusal::number(why), line, out),
     }
+}
+
+// Both texts of a file: what goes to standard output into `out`, what goes to standard error into `err`.
+pub fn deck_answer(file: &[u8], out: &mut [u8], err: &mut [u8]) -> DeckAnswer
+    ensures { Puts (deck_text file.now) 0 out.old result.text out.new
+        × Puts (deck_reason file.now) 0 err.old result.reason err.new
+        × (length (deck_text file.now) ≤ 245760) × (length (deck_reason file.now) ≤ 128) }
+{
+    let mut code = [0u8; ROOM];
+    let a = routine::routine(file, &mut code);
+    let text = answer_text(a, &code, out);
+    let reason = reason_text(a, err);
+    DeckAnswer { text, reason }
 }

@@ -1,4 +1,4 @@
--- What `place` does with a plan, in terms of the instructions whose words it has.
+-- What `place` does with a plan, in terms of the instructions whose words it has. Assumes nothing.
 use mathlib.Core.Path.{◌≡◌, refl, sym, ap, ◌∙◌}
 use mathlib.Core.Bool.{Bool, true, false, ◌&&◌, cond}
 use mathlib.Core.List.{List, [], ◌∷◌, ◌++◌, map}

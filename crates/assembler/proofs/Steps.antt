@@ -1,4 +1,4 @@
--- An order refused, an order done; and the numbers of those that a function places.
+-- An order refused, an order done; and the numbers of those that a function places. Assumes nothing.
 use mathlib.Core.Path.{◌≡◌, refl, sym, ap, ◌∙◌}
 use mathlib.Core.Bool.{Bool, true, false, ◌&&◌, or-false}
 use mathlib.Core.List.{List, [], ◌∷◌, map}

@@ -1,4 +1,4 @@
--- Words written into a buffer.
+-- Words written into a buffer. Assumes nothing.
 use mathlib.Core.Path.{◌≡◌, refl, sym, ap, ◌∙◌}
 use mathlib.Core.Bool.{cond}
 use mathlib.Core.List.{List, [], ◌∷◌, ◌++◌, append_assoc, flat_map}
@@ -9,7 +9,7 @@ use native.Mathlib.Omega.{arith}
 use borrow.Author.Tests.{le-leb, lt-leb}
 use lib.Dec.{leb}
 use lib.ListN.{length, set, take, drop, get_or}
-use lib.Seq.{sets, sets-eq, length-sets, drop-set-lt, take-suc, length-take-le}
+use lib.Seq.{sets, sets-eq, length-sets, take-suc, length-take-le}
 use Rattle.assembler.specs.Bytes.{le_bytes, bytes, written, room}
 
 pub length_written : (b : List ℕ) (at : ℕ) (ws : List ℕ) → length (written b at ws) ≡ length b
@@ -69,16 +69,6 @@ written_is b at ws h =
     let e : length (bytes ws) ≡ 4 * length ws = length_bytes ws in
     sets-eq (bytes ws) b at (omega arith) ∙ ap (λ (k : ℕ). take at b ++ bytes ws ++ drop (at + k) b) e
     ∙ append_assoc (take at b) (bytes ws) (drop (at + 4 * length ws) b)
-
--- ---- bytes behind what is written
-
-sets_behind : (n : ℕ) (b : List ℕ) (at : ℕ) (bs : List ℕ) → at + length bs ≤ n → drop n (sets b at bs) ≡ drop n b
-sets_behind n b at [] h = refl
-sets_behind n b at (x ∷ bs) h = sets_behind n (set b at x) (suc at) bs (omega arith) ∙ drop-set-lt n b at x (omega arith)
-
-pub written_behind : (n : ℕ) (b : List ℕ) (at : ℕ) (ws : List ℕ) → at + 4 * length ws ≤ n → drop n (written b at ws) ≡ drop n b
-unfolding written
-written_behind n b at ws h = sets_behind n b at (bytes ws) (omega (arith, length_bytes ws))
 
 -- ---- by the test of the room
 

@@ -28,5 +28,5 @@ abbrev pub size_answer : Aligned → Answer ℕ
 size_answer (Size n) = accepted n
 size_answer (Refused r place) = refused (number_of r) place
 
-unfoldable pub stack_aligned : ℕ → Answer ℕ
-stack_aligned n = cond (leb n align_limit) (accepted (align16 n)) (refused (number_of Value) 0)
+unfoldable pub aligned : ℕ → Answer ℕ
+aligned n = cond (leb n align_limit) (accepted (align16 n)) (refused (number_of Value) 0)

@@ -15,8 +15,8 @@ use Rattle.assembler.specs.declared.Fault.{Fault}
 use Rattle.assembler.specs.declared.Fault.TheVariants as Fault
 use Rattle.assembler.specs.declared.Sets.{Sets}
 use Rattle.assembler.specs.declared.Sets.TheVariants as Sets
-use Rattle.assembler.specs.declared.Targets.{Targets}
-use Rattle.assembler.specs.declared.Targets.TheVariants as Targets
+use Rattle.assembler.specs.declared.Goes.{Goes}
+use Rattle.assembler.specs.declared.Goes.TheVariants as Goes
 
 -- ---- faults
 
@@ -110,10 +110,10 @@ labels_of (Sets.One a) = a ∷ []
 labels_of (Sets.Two a b) = a ∷ b ∷ []
 labels_of (Sets.Three a b c) = a ∷ b ∷ c ∷ []
 
-abbrev pub goes_to : Targets → List ℕ
-goes_to Targets.Nowhere = []
-goes_to (Targets.One a) = a ∷ []
-goes_to (Targets.Two a b) = a ∷ b ∷ []
+abbrev pub goes_to : Goes → List ℕ
+goes_to Goes.Nowhere = []
+goes_to (Goes.One a) = a ∷ []
+goes_to (Goes.Two a b) = a ∷ b ∷ []
 
 abbrev pub all_labels : List ℕ → Bool
 all_labels [] = true

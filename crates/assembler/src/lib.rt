@@ -1,7 +1,7 @@
 // assembler.rs and utils.rs: words, labels and jumps in lent memory.
-ghost use Rattle.std.specs.Prelude.{◌≡◌, true, false, ◌&&◌, ◌||◌, [], ◌∷◌, ◌+◌, ◌*◌, ◌%◌, ◌/◌, ◌^◌, ◌≤◌, ◌<◌, min, leb, eqb, length, get_or, take, set};
+ghost use Rattle.std.specs.Prelude.{◌≡◌, true, false, ◌&&◌, ◌||◌, cond, not, List, [], ◌∷◌, ℕ, ◌+◌, ◌*◌, ◌%◌, ◌/◌, ◌^◌, ◌≤◌, ◌<◌, min, leb, eqb, length, get_or, take, set};
 ghost use Rattle.std.proofs.lemmas.List.Edits.{sets};
-ghost use Rattle.refusal.specs.Answer.{refused};
+ghost use Rattle.refusal.specs.Answer.{accepted, refused};
 ghost use Rattle.refusal.specs.Number.{number_of};
 ghost use Rattle.assembler.specs.Item.{raw, label, jump as jump_item};
 ghost use Rattle.assembler.specs.Jump.{kind_number};
@@ -14,7 +14,7 @@ ghost use Rattle.assembler.specs.Put.{targets, twice, times, number_holds, numbe
 ghost use Rattle.assembler.specs.Plan.{rank, earlier, fault_number, first_of, refusal_fault, label_fault, jump_fault};
 ghost use Rattle.assembler.specs.Plan.{tail_items, tail_fault, plan_items, plan_fault, no_words, faulty, pushed};
 ghost use Rattle.assembler.specs.Plan.{labels_of, goes_to, sets_fault};
-ghost use Rattle.assembler.specs.Constant.{quad, constant_items, constant_fault, size_answer, stack_aligned};
+ghost use Rattle.assembler.specs.Constant.{quad, constant_items, constant_fault, size_answer, aligned};
 ghost use Rattle.ast.specs.Constant.{constant_bits};
 
 use ast::Constant;
@@ -106,7 +106,7 @@ pub enum Sets {
 
 // The labels that the jumps of a whole go to, one for each jump.
 #[derive(Drop)]
-pub enum Targets {
+pub enum Goes {
     Nowhere,
     One(u32),
     Two(u32, u32),
@@ -446,13 +446,13 @@ fn number_holds(labels: &Labels, n: u64, l: u32) -> bool
 }
 
 // Each is a label whose number is at most 4,096.
-fn numbers_sound(g: Targets, labels: &Labels) -> bool
+fn numbers_sound(g: Goes, labels: &Labels) -> bool
     ensures { result ≡ numbers_sound labels.now (goes_to g) }
 {
     match g {
-        Targets::Nowhere => true,
-        Targets::One(a) => number_holds(labels, 0, a),
-        Targets::Two(a, b) => both(number_holds(labels, 0, a), number_holds(labels, 0, b)),
+        Goes::Nowhere => true,
+        Goes::One(a) => number_holds(labels, 0, a),
+        Goes::Two(a, b) => both(number_holds(labels, 0, a), number_holds(labels, 0, b)),
     }
 }
 
@@ -464,26 +464,26 @@ fn times_of(a: u32, b: u32) -> u64
 }
 
 // Each is a label whose number, with these jumps, is at most 4,096.
-fn numbers_fit(g: Targets, labels: &Labels) -> bool
+fn numbers_fit(g: Goes, labels: &Labels) -> bool
     ensures { result ≡ numbers_fit labels.now (goes_to g) }
 {
     match g {
-        Targets::Nowhere => true,
-        Targets::One(a) => number_holds(labels, 1, a),
-        Targets::Two(a, b) => {
+        Goes::Nowhere => true,
+        Goes::One(a) => number_holds(labels, 1, a),
+        Goes::Two(a, b) => {
             let n = times_of(a, b);
             both(number_holds(labels, n, a), number_holds(labels, n, b))
         }
     }
 }
 
-pub fn go_count(g: Targets) -> usize
+pub fn go_count(g: Goes) -> usize
     ensures { (result ≡ length (goes_to g)) × (result ≤ 2) }
 {
     match g {
-        Targets::Nowhere => 0,
-        Targets::One(_) => 1,
-        Targets::Two(_, _) => 2,
+        Goes::Nowhere => 0,
+        Goes::One(_) => 1,
+        Goes::Two(_, _) => 2,
     }
 }
 
@@ -701,13 +701,13 @@ pub fn push(p: Plan, e: Encoded) -> Plan
 }
 
 // Where the jumps of a tail go.
-pub fn goes_of(t: Tail) -> Targets
+pub fn goes_of(t: Tail) -> Goes
     ensures { goes_to result ≡ targets (tail_items t) }
 {
     match t {
-        Tail::Nothing => Targets::Nowhere,
-        Tail::One(_, l, _) => Targets::One(l),
-        Tail::Pair(_, l, _) => Targets::Two(l, l),
+        Tail::Nothing => Goes::Nowhere,
+        Tail::One(_, l, _) => Goes::One(l),
+        Tail::Pair(_, l, _) => Goes::Two(l, l),
     }
 }
 
@@ -798,7 +798,7 @@ fn taken(s: Sets, labels: &Labels) -> bool
 pub fn check_whole(
     fault: Fault,
     sets: Sets,
-    goes: Targets,
+    goes: Goes,
     words: usize,
     buf: &[u8],
     labels: &Labels,
@@ -947,7 +947,7 @@ pub enum Aligned {
 
 // The next multiple of 16 above n.
 pub fn align_stack(n: u32) -> Aligned
-    ensures { size_answer result ≡ stack_aligned n }
+    ensures { size_answer result ≡ aligned n }
 {
     if n <= 0x7FFFF7FF {
         return Aligned::Size(n + 16 - n % 16);

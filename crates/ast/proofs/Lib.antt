@@ -1,2 +1,2 @@
 pub mod Masked
-pub mod Padded
+pub mod Views

@@ -12,7 +12,7 @@ use Rattle.ast.specs.declared.Order.{Order}
 use Rattle.ast.specs.declared.Order.TheVariants.{Unary, Scratched, Binary, Fused, Ifelse, LoadConst, Load, Save, BranchIf, SetLabel}
 use Rattle.ast.specs.declared.Operand.{Operand}
 use Rattle.ast.specs.declared.Operand.TheVariants.{Nothing, Loaded, Stored, Constant, GoneTo, Set}
-use Rattle.ast.specs.declared.Used.{Used}
+use Rattle.ast.specs.declared.View.{View}
 
 pub record Uses : Type 0 where
   -- the float registers that it names
@@ -96,7 +96,7 @@ weighs (some l) = 0
 
 -- ---- as the code has it: 0 for a register that it has not, 32 for one that it does not write
 
-abbrev pub padded : Uses → Used
+abbrev pub padded : Uses → View
 padded u =
     record {
       a = get_or u.registers 0 0;

@@ -112,7 +112,7 @@ pub enum Operand {
 
 // What an order uses: its registers, 0 where it has fewer than four; those that it writes, 32 where there are fewer than two.
 #[derive(Drop)]
-pub struct Used {
+pub struct View {
     pub a: u32,
     pub b: u32,
     pub c: u32,
@@ -289,10 +289,10 @@ pub fn counts_hold(head: Head) -> bool
 
 // ---- what an order uses
 
-fn used_of(a: u32, b: u32, c: u32, d: u32, written: u32, also: u32, operand: Operand) -> Used
+fn viewed(a: u32, b: u32, c: u32, d: u32, written: u32, also: u32, operand: Operand) -> View
     ensures { result ≡ record { a = a; b = b; c = c; d = d; written = written; also = also; operand = operand } }
 {
-    Used {
+    View {
         a,
         b,
         c,
@@ -303,38 +303,38 @@ fn used_of(a: u32, b: u32, c: u32, d: u32, written: u32, also: u32, operand: Ope
     }
 }
 
-fn unary_uses(k: Unary, d: u32, s: u32) -> Used
+fn unary_uses(k: Unary, d: u32, s: u32) -> View
     ensures { result ≡ padded (uses_of (Order.Unary k d s)) }
 {
     match k {
         Unary::Fmov => {
             if d == s {
-                return used_of(d, s, 0, 0, 32, 32, Operand::Nothing);
+                return viewed(d, s, 0, 0, 32, 32, Operand::Nothing);
             }
-            used_of(d, s, 0, 0, d, 32, Operand::Nothing)
+            viewed(d, s, 0, 0, d, 32, Operand::Nothing)
         }
-        Unary::Recip => used_of(d, s, 0, 0, 10, d, Operand::Nothing),
-        Unary::Round => used_of(d, s, 0, 0, d, 32, Operand::Nothing),
-        Unary::Floor => used_of(d, s, 0, 0, d, 32, Operand::Nothing),
-        Unary::Not => used_of(d, s, 0, 0, d, 32, Operand::Nothing),
+        Unary::Recip => viewed(d, s, 0, 0, 10, d, Operand::Nothing),
+        Unary::Round => viewed(d, s, 0, 0, d, 32, Operand::Nothing),
+        Unary::Floor => viewed(d, s, 0, 0, d, 32, Operand::Nothing),
+        Unary::Not => viewed(d, s, 0, 0, d, 32, Operand::Nothing),
     }
 }
 
 // The one place where the code goes by an order's kinds to say what it uses.
-pub fn uses(o: Order) -> Used
+pub fn uses(o: Order) -> View
     ensures { result ≡ padded (uses_of o) }
 {
     match o {
         Order::Unary(k, d, s) => unary_uses(k, d, s),
-        Order::Scratched(_, d, s, t) => used_of(d, s, t, 0, t, d, Operand::Nothing),
-        Order::Binary(_, d, a, b) => used_of(d, a, b, 0, d, 32, Operand::Nothing),
-        Order::Fused(_, d, a, b, c) => used_of(d, a, b, c, d, 32, Operand::Nothing),
-        Order::Ifelse(d, a, b, i) => used_of(d, a, b, 0, d, 32, Operand::Loaded(Place::Stack, i)),
-        Order::LoadConst(d, k) => used_of(d, 0, 0, 0, d, 32, Operand::Constant(k)),
-        Order::Load(d, p, i) => used_of(d, 0, 0, 0, d, 32, Operand::Loaded(p, i)),
-        Order::Save(s, p, i) => used_of(s, 0, 0, 0, 32, 32, Operand::Stored(p, i)),
-        Order::BranchIf(c, l, _) => used_of(c, 0, 0, 0, 32, 32, Operand::GoneTo(l)),
-        Order::SetLabel(l) => used_of(0, 0, 0, 0, 32, 32, Operand::Set(l)),
+        Order::Scratched(_, d, s, t) => viewed(d, s, t, 0, t, d, Operand::Nothing),
+        Order::Binary(_, d, a, b) => viewed(d, a, b, 0, d, 32, Operand::Nothing),
+        Order::Fused(_, d, a, b, c) => viewed(d, a, b, c, d, 32, Operand::Nothing),
+        Order::Ifelse(d, a, b, i) => viewed(d, a, b, 0, d, 32, Operand::Loaded(Place::Stack, i)),
+        Order::LoadConst(d, k) => viewed(d, 0, 0, 0, d, 32, Operand::Constant(k)),
+        Order::Load(d, p, i) => viewed(d, 0, 0, 0, d, 32, Operand::Loaded(p, i)),
+        Order::Save(s, p, i) => viewed(s, 0, 0, 0, 32, 32, Operand::Stored(p, i)),
+        Order::BranchIf(c, l, _) => viewed(c, 0, 0, 0, 32, 32, Operand::GoneTo(l)),
+        Order::SetLabel(l) => viewed(0, 0, 0, 0, 32, 32, Operand::Set(l)),
     }
 }
 

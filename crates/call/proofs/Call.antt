@@ -34,13 +34,13 @@ use Rattle.frame_code.proofs.Closing.{leaves}
 use Rattle.reading.specs.Program.{Program}
 use Rattle.reading.specs.Plain.{Reading, Reads, Ended}
 use Rattle.reading.specs.Terms.{table_used, bottom, base, cell_address, as_called, table_cell, start_f, start, observed, end_obs, Within, frame, Terms}
-use Rattle.layout.specs.Layout.{entry, exit, place, code_length, routine_words}
+use Rattle.call.specs.Layout.{entry, exit, place, code_length, routine_words}
 use Rattle.call.proofs.Offset.{line_offset}
 use Rattle.call.proofs.Good.{Good}
 use Rattle.base.specs.Tests.{member}
 use Rattle.call.specs.Returned.{callers, ByteOf, Observation, Returned}
 use Rattle.call.proofs.Claim.{Claim, ForwardClaim}
-use Rattle.layout.proofs.Items.{resolved_length}
+use Rattle.call.proofs.Items.{resolved_length}
 use Rattle.call.proofs.Whole.{offset_exit, entry_fits, InCode, part_in}
 use Rattle.call.proofs.Forth.{ends}
 use Rattle.call.proofs.Words.{code_stands}

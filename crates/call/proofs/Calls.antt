@@ -32,11 +32,11 @@ use Rattle.reading.specs.Program.{Program, constants}
 use Rattle.reading.specs.Plain.{Reading, with_cell, means, with_meaning, does, Reads, none_read, line_read}
 use Rattle.reading.specs.Terms.{table_cell, start, Clear, frame, regions, Terms}
 use Rattle.reading.proofs.Start.{fast_terms}
-use Rattle.layout.specs.Layout.{span, body, padding, constants_from, items, place, code_length, routine_words}
+use Rattle.call.specs.Layout.{span, body, padding, constants_from, items, place, code_length, routine_words}
 use Rattle.call.proofs.Good.{GoodOrder, Good}
 use Rattle.call.specs.Returned.{Returned}
 use Rattle.call.proofs.Claim.{Called}
-use Rattle.layout.proofs.Items.{resolved_length}
+use Rattle.call.proofs.Items.{resolved_length}
 use Rattle.call.proofs.Call.{call}
 
 -- ---- memory made of bytes at addresses

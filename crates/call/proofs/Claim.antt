@@ -8,7 +8,7 @@ use Rattle.assembler.specs.Bytes.{bytes}
 use Rattle.reading.specs.Program.{Program}
 use Rattle.reading.specs.Plain.{Reading, Reads, Ended, Forward}
 use Rattle.reading.specs.Terms.{start, Terms}
-use Rattle.layout.specs.Layout.{code_length, routine_words}
+use Rattle.call.specs.Layout.{code_length, routine_words}
 use Rattle.call.proofs.Good.{Good}
 use Rattle.call.specs.Returned.{Returned}
 

@@ -33,10 +33,10 @@ use Rattle.frame_code.proofs.Ends.{mem_at, indirect, PrologueTerms, PrologueDone
 use Rattle.frame_code.proofs.Opened.{opens}
 use Rattle.reading.specs.Program.{Program}
 use Rattle.reading.specs.Terms.{frame_bytes, bottom, base, as_called, table_cell, state_value, stack_value, start_cells, start, Terms}
-use Rattle.layout.specs.Layout.{span, body, items, place, entry, exit, code_items, data_items, code_length, routine_words}
+use Rattle.call.specs.Layout.{span, body, items, place, entry, exit, code_items, data_items, code_length, routine_words}
 use Rattle.call.proofs.Offset.{line_offset}
 use Rattle.call.proofs.Good.{Good}
-use Rattle.layout.proofs.Items.{span_append, resolved_length}
+use Rattle.call.proofs.Items.{span_append, resolved_length}
 use Rattle.call.proofs.Whole.{entry-part, entry_stands}
 use Rattle.call.proofs.Cells.{at_cell}
 use Rattle.call.proofs.Follow.{Rel, Ground}

@@ -32,12 +32,12 @@ use Rattle.orders.proofs.Does.{order_does}
 use Rattle.orders.proofs.Laws.{line_length}
 use Rattle.reading.specs.Program.{Program}
 use Rattle.reading.specs.Plain.{Reading, goes, const, means, with_meaning, passed, Step, does, passes, Reads, none_read, line_read}
-use Rattle.layout.specs.Layout.{span, place, items, code_length, routine_words}
+use Rattle.call.specs.Layout.{span, place, items, code_length, routine_words}
 use Rattle.call.proofs.Offset.{line_offset}
 use Rattle.call.proofs.Good.{GoodOrder, Good}
-use Rattle.layout.proofs.Items.{resolved_length}
+use Rattle.call.proofs.Items.{resolved_length}
 use Rattle.call.proofs.Whole.{line-part, constant-part, offset_next, offset_four, offset_exit, offset_small, user_place, constants-place, placed, InCode, part_in}
-use Rattle.layout.proofs.Padding.{offset_eight}
+use Rattle.call.proofs.Padding.{offset_eight}
 use Rattle.call.proofs.Cells.{Inside, Rooms, Fine, stored, stored_cells, stored_rest}
 use Rattle.call.proofs.Means.{accessible, same_meaning, fine-cells, exit-label}
 

@@ -13,7 +13,7 @@ use Rattle.ast.specs.declared.Operand.TheVariants.{Nothing, Loaded, Stored, Cons
 use Rattle.reading.specs.Line.{Line, order}
 use Rattle.orders.specs.Fault.{fault}
 use Rattle.reading.specs.Program.{Program, constants, label_line}
-use Rattle.layout.specs.Layout.{code_length}
+use Rattle.call.specs.Layout.{code_length}
 
 -- 5: a branch's label is set, and a constant that is loaded is there
 abbrev pub OperandNamed : List Line → Operand → Type 0

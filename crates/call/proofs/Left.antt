@@ -26,10 +26,10 @@ use Rattle.frame_code.proofs.Ends.{ObservedAt, PrologueDone, EpilogueTerms}
 use Rattle.reading.specs.Program.{Program}
 use Rattle.reading.specs.Plain.{Reading, Reads, Ended}
 use Rattle.reading.specs.Terms.{table_used, frame_bytes, bottom, base, start, Within, frame, Terms}
-use Rattle.layout.specs.Layout.{span, place, exit, code_length, routine_words}
+use Rattle.call.specs.Layout.{span, place, exit, code_length, routine_words}
 use Rattle.call.proofs.Offset.{line_offset}
 use Rattle.call.proofs.Good.{Good}
-use Rattle.layout.proofs.Items.{resolved_length}
+use Rattle.call.proofs.Items.{resolved_length}
 use Rattle.call.proofs.Whole.{exit-part, exit-stands, offset_four, offset_exit}
 use Rattle.call.proofs.Cells.{Inside, at_cell}
 use Rattle.call.proofs.Follow.{Rel, code-now}

@@ -1,6 +1,9 @@
 pub mod Offset
 pub mod Good
 pub mod Claim
+pub mod Items
+pub mod Labels
+pub mod Padding
 pub mod Placing
 pub mod Whole
 pub mod Cells

@@ -2,7 +2,7 @@
 use Prim.Native.Nat.{ℕ, ◌+◌}
 use lib.ListN.{take}
 use Rattle.reading.specs.Program.{Program}
-use Rattle.layout.specs.Layout.{span, body, entry}
+use Rattle.call.specs.Layout.{span, body, entry}
 
 module _ (p : Program) where
   -- where line n starts

@@ -23,8 +23,8 @@ use Rattle.accesses.specs.Code.{load_int_code, load_float_code, save_float_code}
 use Rattle.orders.specs.Code.{base, unary_code, scratched_code, binary_code, choose_code, code, line_code}
 use Rattle.reading.specs.Program.{here_or, label_line}
 use Rattle.ast.specs.Uses.{sets}
-use Rattle.layout.specs.Layout.{span, body, constants_from}
-use Rattle.layout.proofs.Items.{span_append, resolved_append, resolved_length, Unset, unset_append, unset_instrs, past}
+use Rattle.call.specs.Layout.{span, body, constants_from}
+use Rattle.call.proofs.Items.{span_append, resolved_append, resolved_length, Unset, unset_append, unset_instrs, past}
 
 -- ---- labels of an order
 

@@ -1,4 +1,4 @@
--- As far as the plain reading of a call comes, the machine comes.
+-- As far as the plain reading of a call comes, the machine comes. Assumes nothing.
 use mathlib.Core.Path.{◌≡◌}
 use Prim.Native.Nat.{ℕ, ◌+◌, ◌*◌, ◌<◌}
 use Rattle.ast.specs.Count.{cell_count}
@@ -12,7 +12,7 @@ use Rattle.frame_code.specs.Steps.{prologue_steps}
 use Rattle.reading.specs.Program.{Program}
 use Rattle.reading.specs.Plain.{Reading, Reads}
 use Rattle.reading.specs.Terms.{base, cell_address, start}
-use Rattle.layout.specs.Layout.{routine_words}
+use Rattle.call.specs.Layout.{routine_words}
 use Rattle.call.proofs.Good.{Good}
 use Rattle.call.proofs.Claim.{Called}
 use Rattle.call.proofs.Words.{code_stands}

@@ -31,12 +31,12 @@ use Rattle.base.proofs.Bools.{passed}
 use Rattle.frame_code.specs.Items.{code as instrs, obs_copy, at_epi, at_done, by_frame, repeated, closing, epilogue, epilogue_fast, epilogue_indirect, reloads}
 use Rattle.frame_code.proofs.Walk.{Stands}
 use Rattle.reading.specs.Program.{Program, constants, label_line}
-use Rattle.layout.specs.Layout.{span, body, padding, constants_from, entry, exit, code_items, pad, data_items, items, constants_offset, code_length, place, routine_words}
+use Rattle.call.specs.Layout.{span, body, padding, constants_from, entry, exit, code_items, pad, data_items, items, constants_offset, code_length, place, routine_words}
 use Rattle.call.proofs.Offset.{line_offset}
 use Rattle.call.proofs.Good.{Good}
-use Rattle.layout.proofs.Items.{span_append, span_four, resolved_append, resolved_length, Unset, unset_append, past, found, within, fresh_unset, stands_of, Worded, worded_append, worded_instrs, before_end}
-use Rattle.layout.proofs.Labels.{Early, Late, entry_fresh, exit_fresh}
-use Rattle.layout.proofs.Padding.{padding_is}
+use Rattle.call.proofs.Items.{span_append, span_four, resolved_append, resolved_length, Unset, unset_append, past, found, within, fresh_unset, stands_of, Worded, worded_append, worded_instrs, before_end}
+use Rattle.call.proofs.Labels.{Early, Late, entry_fresh, exit_fresh}
+use Rattle.call.proofs.Padding.{padding_is}
 use Rattle.call.proofs.Placing.{labelled, line_words, next_line, constant_place, constant_value, body_unset}
 
 -- ---- code in two parts

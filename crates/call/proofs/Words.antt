@@ -31,12 +31,12 @@ use Rattle.frame_code.specs.Items.{prologue, saves, reloads, epilogue}
 use Rattle.frame_code.proofs.Walk.{stands_left, stands_right}
 use Rattle.frame_code.proofs.Valid.{AllValid, prologue_valid, saves_valid, reloads_valid, epilogue_valid}
 use Rattle.reading.specs.Program.{Program, constants}
-use Rattle.layout.specs.Layout.{span, body, nop, padding, constants_from, entry, exit, code_items, pad, constants_offset, place, routine_words}
+use Rattle.call.specs.Layout.{span, body, nop, padding, constants_from, entry, exit, code_items, pad, constants_offset, place, routine_words}
 use Rattle.call.proofs.Offset.{line_offset}
 use Rattle.call.proofs.Good.{Good}
-use Rattle.layout.proofs.Items.{resolved_append, resolved_length, Fresh}
-use Rattle.layout.proofs.Labels.{Early, Late, entry_fresh, exit_fresh}
-use Rattle.layout.proofs.Padding.{padding_is, front_items, front_span, words_parted}
+use Rattle.call.proofs.Items.{resolved_append, resolved_length, Fresh}
+use Rattle.call.proofs.Labels.{Early, Late, entry_fresh, exit_fresh}
+use Rattle.call.proofs.Padding.{padding_is, front_items, front_span, words_parted}
 use Rattle.call.proofs.Whole.{entry_stands, exit-stands}
 
 -- each word is a valid instruction's

@@ -1,2 +1,4 @@
+-- the routine's words, from the lines
+pub mod Layout
 -- what a call that comes back has done
 pub mod Returned

@@ -1,5 +1,5 @@
 -- What a call that comes back has done (document 01, "Demand 3"): the conclusion of the theorem.
-use Rattle.std.specs.Prelude.{◌≡◌, List, ◌∷◌, ℕ, ◌+◌, ◌*◌, ◌^◌, ◌≤◌, ◌<◌, T}
+use Rattle.std.specs.Prelude.{◌≡◌, List, [], ◌∷◌, ℕ, ◌+◌, ◌*◌, ◌^◌, ◌≤◌, ◌<◌, T}
 use Rattle.isa.specs.Register.{ra, sp, gp, tp, a1, fa0}
 use Rattle.ast.specs.Count.{cell_count}
 use Rattle.ast.specs.Mask.{preserved}
@@ -43,7 +43,7 @@ Unchanged H s r x =
 
 -- The call from s, whose code has so many bytes, comes back: n orders were read, and the reading ended at r.
 -- Its twin is the machine that has skipped the call: s with pc at ra. Each equation of `end` with s below says that the two share it.
-pub record Returned (Q : Floats) (p : Program) (code-bytes : ℕ) (s : State) (n : ℕ) (r : Reading) : Type 0 where
+pub record Returned (Q : Floats) (p : Program) (code_bytes : ℕ) (s : State) (n : ℕ) (r : Reading) : Type 0 where
   -- a run to the end, which is a machine's state
   pub count : ℕ
   pub end : State
@@ -51,7 +51,7 @@ pub record Returned (Q : Floats) (p : Program) (code-bytes : ℕ) (s : State) (n
   pub sound : Sound end
   pub few : count ≤ 11 * n + frame_steps p.head (s.x a1)
   -- before the end pc is within the code, so it comes to ra, which is outside, at the end and not before
-  pub inside : (k : ℕ) (t : State) → k < count → Run Q s k t → Within (code code-bytes s) t.pc
+  pub inside : (k : ℕ) (t : State) → k < count → Run Q s k t → Within (code code_bytes s) t.pc
   pub first : (k : ℕ) (t : State) → k < count → Run Q s k t → t.pc ≡ s.x ra → ⊥
   -- shared with the twin: pc, which is ra; sp, ra, gp, tp and every register that the psABI preserves; the rounding mode
   pub pc : end.pc ≡ s.x ra

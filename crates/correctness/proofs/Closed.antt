@@ -17,7 +17,7 @@ use Rattle.accesses.specs.Code.{li_code, sub_stack_code}
 use Rattle.reading.specs.Meaning.{meaning, binary}
 use Rattle.ast.specs.Mask.{saved}
 use Rattle.reading.specs.Program.{Program, constants, label_line}
-use Rattle.layout.specs.Layout.{code_length, routine_words}
+use Rattle.call.specs.Layout.{code_length, routine_words}
 use Rattle.reading.specs.Plain.{with_cell, does, passes, none_read, line_read, Forward}
 use Rattle.reading.specs.Terms.{start, Terms}
 use Rattle.call.specs.Returned.{Returned}

@@ -17,13 +17,13 @@ use Rattle.refusal.specs.Answer.{Answer, accepted, refused}
 use Rattle.assembler.specs.Bytes.{bytes}
 use Rattle.assembler.proofs.Writes.{length_bytes}
 use Rattle.reading.specs.Program.{Program, constants}
-use Rattle.layout.specs.Layout.{constants_from, code_items, pad, data_items, items, place, code_length, constants_offset, routine_words}
+use Rattle.call.specs.Layout.{constants_from, code_items, pad, data_items, items, place, code_length, constants_offset, routine_words}
 use Rattle.call.proofs.Good.{Good}
 use Rattle.reading.specs.Terms.{start, Terms}
 use Rattle.call.specs.Returned.{Returned}
 use Rattle.call.proofs.Claim.{Called}
-use Rattle.layout.proofs.Items.{span_append, span_four, resolved_length}
-use Rattle.layout.proofs.Padding.{offset_eight}
+use Rattle.call.proofs.Items.{span_append, span_four, resolved_length}
+use Rattle.call.proofs.Padding.{offset_eight}
 use Rattle.call.proofs.Words.{decodes, code_stands}
 use Rattle.call.proofs.Forth.{ends}
 use Rattle.call.proofs.Call.{call}

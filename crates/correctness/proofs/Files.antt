@@ -31,7 +31,7 @@ use Rattle.reading.specs.Line.{order, constant}
 use Rattle.orders.specs.Code.{code, line_code, unary_code, binary_code}
 use Rattle.frame_code.specs.Items.{repeated, prologue, saves, reloads, epilogue}
 use Rattle.reading.specs.Program.{Program, constants}
-use Rattle.layout.specs.Layout.{span, body, padding, constants_from, items, place}
+use Rattle.call.specs.Layout.{span, body, padding, constants_from, items, place}
 use Rattle.call.proofs.Calls.{sample, product}
 use Rattle.reading.proofs.Decks.{larger, scaled, chosen}
 use Rattle.routine.specs.Routine.{line_read, lines_read, head_read, closed_off, body_lines, first_line, finished, program_of, Summary, summary_of, summary_answer, buffer_after, Promise}

@@ -1,4 +1,4 @@
--- An accepted file's program is what its lines say, line by line; it has at most 1,008 constants.
+-- An accepted file's program is what its lines say, line by line; it has at most 1,008 constants. Assumes nothing.
 use mathlib.Core.Path.{◌≡◌, refl, sym, ap, subst, ◌∙◌}
 use mathlib.Core.Bool.{Bool, true, false}
 use mathlib.Core.List.{List, [], ◌∷◌, ◌++◌, map, append_assoc, append-nil}
@@ -27,7 +27,7 @@ use Rattle.deck.specs.Judge.{Content, demand, operand_judged, judged, line_judge
 use Rattle.deck.specs.Judge as Deck
 use Rattle.reading.specs.Line.{Line, order, constant}
 use Rattle.reading.specs.Program.{Program, constants}
-use Rattle.layout.specs.Layout.{entry}
+use Rattle.call.specs.Layout.{entry}
 use Rattle.routine.specs.Routine.{placed_at, next_line, with_line, only, room_number, order_number, constant_number, as_line, line_read, lines_read, as_head, head_read, file_read, program_of}
 use Rattle.routine.proofs.LawLines.{constants_order, constants_last}
 use Rattle.correctness.proofs.Accepts.{same, unless_accepts, placed_accepts, then_accepts, operand_cases}

@@ -40,11 +40,11 @@ use Rattle.reading.specs.Line.{Line, order, constant}
 use Rattle.orders.specs.Code.{base, unary_code, scratched_code, binary_code, choose_code, code, line_code}
 use Rattle.frame_code.proofs.Valid.{AllValid}
 use Rattle.reading.specs.Program.{Program, constants}
-use Rattle.layout.specs.Layout.{span, body, padding, constants_from, entry, exit, code_items, pad, data_items, items, place}
+use Rattle.call.specs.Layout.{span, body, padding, constants_from, entry, exit, code_items, pad, data_items, items, place}
 use Rattle.call.proofs.Offset.{line_offset}
 use Rattle.call.proofs.Good.{Good}
 use Rattle.base.specs.Tests.{member}
-use Rattle.layout.proofs.Padding.{padding_is}
+use Rattle.call.proofs.Padding.{padding_is}
 use Rattle.call.proofs.Words.{entry_valid, exit_valid}
 use Rattle.routine.specs.Routine.{then, unless, next_line, last_line, with_line, only, shared, room_number, order_number, constant_number, placed_at, as_line, line_read, lines_read, as_head, head_read, file_read, closed_off, jump_lines, first_line, unset, far, refused_at, finished, program_of}
 use Rattle.routine.proofs.LawRoom.{span_words}

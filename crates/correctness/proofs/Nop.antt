@@ -1,4 +1,4 @@
--- The nop before constants takes no room that isn't there: code and constants end at a multiple of 8, and so does the room.
+-- The nop before constants takes no room that isn't there: code and constants end at a multiple of 8, and so does the room. Assumes nothing.
 use mathlib.Core.Path.{◌≡◌, refl, sym, ap, ◌∙◌, fun_ext}
 use mathlib.Core.Bool.{Bool, true, false, cond}
 use mathlib.Core.List.{List, ◌++◌}
@@ -14,9 +14,9 @@ use Rattle.assembler.specs.Item.{Item}
 use Rattle.assembler.specs.Bytes.{room}
 use Rattle.assembler.specs.Put.{jumps, labels}
 use Rattle.assembler.proofs.Items.{jumps_append, labels_append}
-use Rattle.layout.specs.Layout.{span, body, padding, constants_from, entry, exit, code_items, pad, data_items}
-use Rattle.layout.proofs.Items.{span_append, span_four}
-use Rattle.layout.proofs.Padding.{padding_span, padded_eight, constants_span}
+use Rattle.call.specs.Layout.{span, body, padding, constants_from, entry, exit, code_items, pad, data_items}
+use Rattle.call.proofs.Items.{span_append, span_four}
+use Rattle.call.proofs.Padding.{padding_span, padded_eight, constants_span}
 use Rattle.routine.specs.Routine.{then, file_read, closed_off, finished, program_of}
 use Rattle.routine.proofs.LawFit.{padding_labels, padding_jumps}
 use Rattle.correctness.specs.Refusals.{closed_without, NopFits}

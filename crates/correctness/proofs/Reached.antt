@@ -21,8 +21,8 @@ use Rattle.reading.specs.Line.{Line, order, constant}
 use Rattle.orders.specs.Code.{code, line_code}
 use Rattle.reading.specs.Program.{Program, constants, here_or, label_line}
 use Rattle.ast.specs.Uses.{sets}
-use Rattle.layout.specs.Layout.{span, body, constants_from, entry, exit, code_items, pad, data_items, items}
-use Rattle.layout.proofs.Items.{Unset}
+use Rattle.call.specs.Layout.{span, body, constants_from, entry, exit, code_items, pad, data_items, items}
+use Rattle.call.proofs.Items.{Unset}
 use Rattle.routine.specs.Routine.{last_line, body_lines, jump_lines, first_line, unset}
 use Rattle.routine.proofs.LawRoom.{is_none, place_among}
 use Rattle.routine.proofs.LawFit.{padding_jumps}

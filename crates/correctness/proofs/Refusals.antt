@@ -21,8 +21,8 @@ use Rattle.accesses.specs.Code.{li_code, sub_stack_code, add_stack_code, allocat
 use Rattle.orders.specs.Code.{code, line_code, scratched_code}
 use Rattle.frame_code.specs.Items.{repeated, prologue, saves, reloads, epilogue}
 use Rattle.reading.specs.Program.{Program, constants}
-use Rattle.layout.specs.Layout.{span, body, padding, constants_from, items}
-use Rattle.routine.specs.Routine.{line_read, lines_read, head_read, closed_off, body_lines, first_line, finished, program_of, summary_answer, code_of, buffer_after}
+use Rattle.call.specs.Layout.{span, body, padding, constants_from, items}
+use Rattle.routine.specs.Routine.{line_read, lines_read, head_read, closed_off, body_lines, first_line, finished, program_of, summary_answer, code_bytes, buffer_after}
 use Rattle.correctness.specs.Refusals.{TooLong, Zeroed, Behind}
 use Rattle.correctness.specs.Examples.{Malformed, Fields, Counts, Labels}
 use Rattle.correctness.proofs.Taken.{taken}
@@ -57,13 +57,13 @@ module _ (buf : List ℕ) where
       rw (← append_assoc c (replicate (size - length c) 0) (drop size buf))
       (drop_at front (drop size buf) size (filled c h), length-append front (drop size buf) ∙ omega (arith, filled c h, length-drop size buf))
 
-  behind_of : (file : List ℕ) (a : Answer Program) → program_of (length buf) file ≡ a → length (code_of a) ≤ size
+  behind_of : (file : List ℕ) (a : Answer Program) → program_of (length buf) file ≡ a → length (code_bytes a) ≤ size
   behind_of file (accepted p) e = omega (arith, code_fits p, fits_room (length buf) p (taken (length buf) file p e).roomy)
   behind_of file (refused n line) e = omega arith
 
 pub behind : Behind
 unfolding buffer_after
-behind file buf answer after h = rw h.1 (kept buf (code_of (program_of (length buf) file)) (behind_of buf file (program_of (length buf) file) refl))
+behind file buf answer after h = rw h.1 (kept buf (code_bytes (program_of (length buf) file)) (behind_of buf file (program_of (length buf) file) refl))
 
 -- ---- small files
 

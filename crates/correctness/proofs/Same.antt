@@ -11,7 +11,7 @@ use Rattle.deck.specs.Judge.{Content, line_judged}
 use Rattle.deck.specs.Judge as Deck
 use Rattle.reading.specs.Line.{Line, order, constant}
 use Rattle.reading.specs.Program.{Program}
-use Rattle.layout.specs.Layout.{entry}
+use Rattle.call.specs.Layout.{entry}
 use Rattle.routine.specs.Routine.{placed_at, next_line, with_line, only, room_number, order_number, constant_number, as_line, line_read, lines_read, as_head, head_read, file_read}
 use Rattle.correctness.specs.Follows.{OneProgram}
 use Rattle.correctness.proofs.Accepts.{same, unless_accepts, then_accepts}

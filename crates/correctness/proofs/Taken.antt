@@ -20,7 +20,7 @@ use Rattle.reading.specs.Line.{Line, order, constant}
 use Rattle.orders.specs.Fault.{fault}
 use Rattle.assembler.specs.Resolved.{jumps_in}
 use Rattle.reading.specs.Program.{Program}
-use Rattle.layout.specs.Layout.{body, entry, exit, data_items, items}
+use Rattle.call.specs.Layout.{body, entry, exit, data_items, items}
 use Rattle.routine.specs.Routine.{then, next_line, last_line, with_line, only, order_number, constant_number, room_number, as_line, line_read, lines_read, as_head, head_read, file_read, closed_off, jump_lines, first_line, unset, far, refused_at, finished, program_of, placed_at}
 use Rattle.correctness.proofs.Accepts.{same, unless_accepts, placed_accepts, cond_accepts, then_accepts}
 use Rattle.correctness.proofs.Contents.{Fit, line_fits}

@@ -1,5 +1,5 @@
 -- The digits of `bits` lines don't matter to the routine: files that differ only there are refused alike, or taken as programs that differ
--- only in bits of constants. These have one summary, and the same words before the constants.
+-- only in bits of constants. These have one summary, and the same words before the constants. Assumes nothing.
 use mathlib.Core.Path.{◌≡◌, refl, sym, ap, subst, ◌∙◌, fun_ext}
 use mathlib.Core.Bool.{Bool, true, false, cond, beq}
 use mathlib.Core.List.{List, [], ◌∷◌, ◌++◌, map, map-append}
@@ -35,9 +35,9 @@ use Rattle.assembler.specs.Resolved.{resolved, label_place, jumps_in}
 use Rattle.assembler.proofs.Items.{jumps_append, labels_append}
 use Rattle.finish.proofs.Append.{jumps_in_append, label_place_append}
 use Rattle.orders.specs.Code.{line_code}
-use Rattle.layout.specs.Layout.{span, body, constants_from, entry, exit, code_items, pad, data_items, items, constants_offset, place, routine_words}
-use Rattle.layout.proofs.Items.{span_append}
-use Rattle.layout.proofs.Padding.{front_items, words_parted}
+use Rattle.call.specs.Layout.{span, body, constants_from, entry, exit, code_items, pad, data_items, items, constants_offset, place, routine_words}
+use Rattle.call.proofs.Items.{span_append}
+use Rattle.call.proofs.Padding.{front_items, words_parted}
 use Rattle.routine.specs.Routine.{then, unless, next_line, with_line, last_line, only, room_number, order_number, constant_number, placed_at, as_line, line_read, lines_read, as_head, head_read, file_read, closed_off, body_lines, jump_lines, first_line, unset, far, refused_at, finished, program_of, summary_of}
 use Rattle.correctness.proofs.Accepts.{operand_cases}
 

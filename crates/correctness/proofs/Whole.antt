@@ -23,11 +23,11 @@ use Rattle.orders.specs.Fault.{fault}
 use Rattle.ast.specs.Uses.{registers_fit}
 use Rattle.finish.proofs.All.{zero_then}
 use Rattle.reading.specs.Program.{Program, constants, label_line}
-use Rattle.layout.specs.Layout.{span, body, constants_from, entry, exit, code_items, pad, data_items, items, code_length}
+use Rattle.call.specs.Layout.{span, body, constants_from, entry, exit, code_items, pad, data_items, items, code_length}
 use Rattle.call.proofs.Good.{Named, Good}
-use Rattle.layout.proofs.Items.{span_append, Unset, unset_append, fresh_unset}
-use Rattle.layout.proofs.Labels.{Early, Late, entry_fresh, exit_fresh}
-use Rattle.layout.proofs.Padding.{padding_is}
+use Rattle.call.proofs.Items.{span_append, Unset, unset_append, fresh_unset}
+use Rattle.call.proofs.Labels.{Early, Late, entry_fresh, exit_fresh}
+use Rattle.call.proofs.Padding.{padding_is}
 use Rattle.call.proofs.Placing.{body_unset}
 use Rattle.routine.specs.Routine.{shared, room_number, program_of}
 use Rattle.correctness.proofs.Taken.{FitLine, FitLines, Taken, taken}

@@ -5,7 +5,7 @@ use Rattle.assembler.specs.Bytes.{room}
 use Rattle.base.specs.Tests.{member}
 use Rattle.text.specs.Lines.{lines_of}
 use Rattle.reading.specs.Program.{Program, constants}
-use Rattle.layout.specs.Layout.{body, constants_from, entry, exit}
+use Rattle.call.specs.Layout.{body, constants_from, entry, exit}
 use Rattle.routine.specs.Routine.{then, unless, room_number, last_line, file_read, finished, program_of, Summary, Promise}
 
 -- "A file too long is refused before all else at line 1"

@@ -1,5 +1,5 @@
 -- The judge over forms is the judge over lines: a number below its bound is one of 64 bits, as itself; one that is not fails both tests.
---
+-- Assumes nothing.
 use mathlib.Core.Path.{◌≡◌, refl, sym, ◌∙◌}
 use mathlib.Core.Bool.{Bool, true, false, ◌&&◌, cond, beq}
 use mathlib.Core.List.{List, [], ◌∷◌}

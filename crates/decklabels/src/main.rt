@@ -1,41 +1,67 @@
-// Prints the labels of the deck file on standard input that nobody jumps to, or its refusal (document 02, point 2).
-ghost use Rattle.console.specs.Output.{Prints};
-ghost use Rattle.decklabels.specs.Printed.{printed};
-
-use console::{FILE, MESSAGE, Printed, WORDS};
+// Reads a deck file on standard input and prints its labels that nobody jumps to, each with the line that sets it, or its refusal
+// (document 02, point 2). A refusal goes to standard error too, in words.
+// Any argument gets a usage line on standard error, and nothing on standard output.
+// Where standard input can't be read, or standard output takes less than all, a message goes to standard error.
+use input::{FILE, Input};
+use libc::{STDERR_FILENO, STDOUT_FILENO};
+use print::Text;
 
 // 1,024 lines of at most 11 bytes.
 const TEXT: usize = 11264;
 
-// All that is printed.
-pub fn respond(args: &[u8], readable: bool, file: &[u8], out: &mut [u8], err: &mut [u8]) -> Printed
-    ensures { Prints (printed args.now readable file.now) 11264 result out.new err.new }
-{
-    let told = stale::deck_labels(file, out);
-    console::answered(
-        args.len() == 0,
-        readable,
-        told,
-        b"usage: decklabels < FILE\n",
-        b"decklabels: standard input can't be read\n",
-        err,
-    )
+// Enough for a refusal in words.
+const REASON: usize = 128;
+
+fn print_text(s: &[u8]) {
+    if !io::write_all(STDOUT_FILENO, s) {
+        io::write_all(
+            STDERR_FILENO,
+            b"decklabels: the answer was not written whole\n",
+        );
+    }
+}
+
+// What is printed of a file.
+fn print_labels(file: &[u8]) {
+    let mut out = [0u8; TEXT];
+    let mut err = [0u8; REASON];
+    let told = stale::deck_labels(file, &mut out);
+    let answer = told.answer;
+    let text = told.text;
+    match text {
+        Text::Length(n) => print_text(&out[..n]),
+        // It can't be: no answer is longer than TEXT.
+        Text::TooLong => {
+            io::write_all(STDERR_FILENO, b"decklabels: the answer is too long\n");
+        }
+    }
+    // No reason is longer than REASON.
+    if let Text::Length(n) = answer::reason_text(answer, &mut err) {
+        io::write_all(STDERR_FILENO, &err[..n]);
+    }
+}
+
+// The labels of the file on standard input.
+fn print_input() {
+    let mut file = [0u8; FILE];
+    match input::read(&mut file) {
+        Input::Read(n) => {
+            print_labels(&file[..n]);
+            if n == FILE {
+                input::skip_rest();
+            }
+        }
+        Input::Failed => {
+            io::write_all(STDERR_FILENO, b"decklabels: standard input can't be read\n");
+        }
+    }
 }
 
 fn main() {
-    let mut words = [0u8; WORDS];
-    let mut file = [0u8; FILE];
-    let mut out = [0u8; TEXT];
-    let mut err = [0u8; MESSAGE];
-    let a = console::arguments(&mut words);
-    let input = console::read(a == 0, &mut file);
-    let n = input.length;
-    let told = respond(&words[..a], input.readable, &file[..n], &mut out, &mut err);
-    console::write(
-        &out,
-        &err,
-        told,
-        b"decklabels: the answer was not written whole\n",
-    );
-    console::skip_rest(n);
+    // The program's own name is the first.
+    if os::arg_count() > 1 {
+        io::write_all(STDERR_FILENO, b"usage: decklabels < FILE\n");
+        return;
+    }
+    print_input();
 }

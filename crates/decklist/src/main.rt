@@ -1,63 +1,103 @@
-// Prints the listing of the deck file on standard input, or its refusal (document 02, points 5 and 10): the maintainer's view, or with the
-// argument `attendant` the attendant's.
+// Reads a deck file on standard input and prints the listing of its routine, or its refusal (document 02, points 5 and 10):
+// the maintainer's view, or with the argument `attendant` the attendant's. A refusal goes to standard error too, in words.
+// Any other arguments get a usage line on standard error, and nothing on standard output.
+// Where standard input can't be read, or standard output takes less than all, a message goes to standard error.
 ghost use Rattle.std.specs.Prelude.{◌≡◌};
-ghost use Rattle.console.specs.Output.{Prints};
-ghost use Rattle.decklist.specs.Printed.{known, view, printed};
+ghost use Rattle.decklist.specs.Inner.Arguments.{asked_for};
 
-use console::{FILE, MESSAGE, Printed, WORDS};
+use input::{FILE, Input};
+use libc::{STDERR_FILENO, STDOUT_FILENO};
 use listing::View;
+use print::Text;
 
 // 16,384 lines of at most 29 bytes.
 const TEXT: usize = 475136;
 
-// Whether the program knows its arguments.
-fn known(args: &[u8]) -> bool
-    ensures { result ≡ known args.now }
-{
-    if args.len() == 0 {
-        return true;
-    }
-    text::same(args, b"attendant\0")
+// Enough for a refusal in words.
+const REASON: usize = 128;
+
+// Longer than any argument that is known.
+const WORD: usize = 16;
+
+// What the arguments ask for.
+#[derive(Drop)]
+enum Asked {
+    For(View),
+    Unknown,
 }
 
-fn view(args: &[u8]) -> View
-    ensures { result ≡ view args.now }
-{
-    if args.len() == 0 {
-        return View::Maintainer;
+fn print_text(s: &[u8]) {
+    if !io::write_all(STDOUT_FILENO, s) {
+        io::write_all(
+            STDERR_FILENO,
+            b"decklist: the answer was not written whole\n",
+        );
     }
-    View::Attendant
 }
 
-// All that is printed.
-pub fn respond(args: &[u8], readable: bool, file: &[u8], out: &mut [u8], err: &mut [u8]) -> Printed
-    ensures { Prints (printed args.now readable file.now) 475136 result out.new err.new }
+// What is printed of a file.
+fn print_view(file: &[u8], view: View) {
+    let mut out = [0u8; TEXT];
+    let mut err = [0u8; REASON];
+    let told = listing::deck_view(file, view, &mut out);
+    let answer = told.answer;
+    let text = told.text;
+    match text {
+        Text::Length(n) => print_text(&out[..n]),
+        // It can't be: no answer is longer than TEXT.
+        Text::TooLong => {
+            io::write_all(STDERR_FILENO, b"decklist: the answer is too long\n");
+        }
+    }
+    // No reason is longer than REASON.
+    if let Text::Length(n) = answer::reason_text(answer, &mut err) {
+        io::write_all(STDERR_FILENO, &err[..n]);
+    }
+}
+
+// The listing of the file on standard input.
+fn print_input(view: View) {
+    let mut file = [0u8; FILE];
+    match input::read(&mut file) {
+        Input::Read(n) => {
+            print_view(&file[..n], view);
+            if n == FILE {
+                input::skip_rest();
+            }
+        }
+        Input::Failed => {
+            io::write_all(STDERR_FILENO, b"decklist: standard input can't be read\n");
+        }
+    }
+}
+
+// `count` arguments, the program's own name among them, of which `word` is the first behind it.
+fn asked_for(count: usize, word: &[u8]) -> Asked
+    ensures { result ≡ asked_for count word.now }
 {
-    let told = listing::deck_view(file, view(args), out);
-    console::answered(
-        known(args),
-        readable,
-        told,
-        b"usage: decklist [attendant] < FILE\n",
-        b"decklist: standard input can't be read\n",
-        err,
-    )
+    if count < 2 {
+        return Asked::For(View::Maintainer);
+    }
+    if count > 2 {
+        return Asked::Unknown;
+    }
+    if text::same(word, b"attendant") {
+        return Asked::For(View::Attendant);
+    }
+    Asked::Unknown
+}
+
+fn arguments() -> Asked {
+    let mut word = [0u8; WORD];
+    let n = os::arg(1, &mut word);
+    asked_for(os::arg_count(), &word[..n])
 }
 
 fn main() {
-    let mut words = [0u8; WORDS];
-    let mut file = [0u8; FILE];
-    let mut out = [0u8; TEXT];
-    let mut err = [0u8; MESSAGE];
-    let a = console::arguments(&mut words);
-    let input = console::read(known(&words[..a]), &mut file);
-    let n = input.length;
-    let told = respond(&words[..a], input.readable, &file[..n], &mut out, &mut err);
-    console::write(
-        &out,
-        &err,
-        told,
-        b"decklist: the answer was not written whole\n",
-    );
-    console::skip_rest(n);
+    match arguments() {
+        Asked::For(view) => print_input(view),
+        Asked::Unknown => {
+            io::write_all(STDERR_FILENO, b"usage: decklist [attendant] < FILE\n");
+        }
+    }
 }

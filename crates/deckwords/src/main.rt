@@ -1,41 +1,56 @@
-// Prints the words of the deck file on standard input with their byte offsets, or its refusal (document 01, "The deck file").
-ghost use Rattle.console.specs.Output.{Prints};
-ghost use Rattle.deckwords.specs.Printed.{printed};
-
-use console::{FILE, MESSAGE, Printed, WORDS};
+// Reads a deck file on standard input and prints its words with their byte offsets, or its refusal (document 01, "The deck file").
+// A refusal goes to standard error too, in words.
+// Where standard input can't be read, or standard output takes less than all, a message goes to standard error.
+use input::{FILE, Input};
+use libc::{STDERR_FILENO, STDOUT_FILENO};
+use print::Text;
 
 // 16,384 lines of at most 15 bytes.
 const TEXT: usize = 245760;
 
-// All that is printed.
-pub fn respond(args: &[u8], readable: bool, file: &[u8], out: &mut [u8], err: &mut [u8]) -> Printed
-    ensures { Prints (printed args.now readable file.now) 245760 result out.new err.new }
-{
-    let told = answer::deck_answer(file, out);
-    console::answered(
-        args.len() == 0,
-        readable,
-        told,
-        b"usage: deckwords < FILE\n",
-        b"deckwords: standard input can't be read\n",
-        err,
-    )
+// Enough for a refusal in words.
+const REASON: usize = 128;
+
+fn print_text(s: &[u8]) {
+    if !io::write_all(STDOUT_FILENO, s) {
+        io::write_all(
+            STDERR_FILENO,
+            b"deckwords: the answer was not written whole\n",
+        );
+    }
+}
+
+// What is printed of a file.
+fn print_answer(file: &[u8]) {
+    let mut out = [0u8; TEXT];
+    let mut err = [0u8; REASON];
+    let told = answer::deck_answer(file, &mut out, &mut err);
+    let text = told.text;
+    let reason = told.reason;
+    match text {
+        Text::Length(n) => print_text(&out[..n]),
+        // It can't be: no answer is longer than TEXT.
+        Text::TooLong => {
+            io::write_all(STDERR_FILENO, b"deckwords: the answer is too long\n");
+        }
+    }
+    // No reason is longer than REASON.
+    if let Text::Length(n) = reason {
+        io::write_all(STDERR_FILENO, &err[..n]);
+    }
 }
 
 fn main() {
-    let mut words = [0u8; WORDS];
     let mut file = [0u8; FILE];
-    let mut out = [0u8; TEXT];
-    let mut err = [0u8; MESSAGE];
-    let a = console::arguments(&mut words);
-    let input = console::read(a == 0, &mut file);
-    let n = input.length;
-    let told = respond(&words[..a], input.readable, &file[..n], &mut out, &mut err);
-    console::write(
-        &out,
-        &err,
-        told,
-        b"deckwords: the answer was not written whole\n",
-    );
-    console::skip_rest(n);
+    match input::read(&mut file) {
+        Input::Read(n) => {
+            print_answer(&file[..n]);
+            if n == FILE {
+                input::skip_rest();
+            }
+        }
+        Input::Failed => {
+            io::write_all(STDERR_FILENO, b"deckwords: standard input can't be read\n");
+        }
+    }
 }

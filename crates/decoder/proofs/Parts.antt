@@ -1,4 +1,4 @@
--- Parts of a word as the code takes them out.
+-- Parts of a word as the code takes them out. Assumes nothing.
 use mathlib.Core.Path.{◌≡◌, refl}
 use mathlib.Core.Bool.{Bool, true, false, ◌&&◌, cond}
 use mathlib.Core.List.{List, [], ◌∷◌}

@@ -1,4 +1,4 @@
--- What each outcome of the checks answers, and the words of each format.
+-- What each outcome of the checks answers, and the words of each format. Assumes nothing.
 use mathlib.Core.Path.{◌≡◌, refl, sym, ap, ◌∙◌}
 use mathlib.Core.Bool.{Bool, true, false, ◌&&◌, cond, and-false}
 use mathlib.Core.List.{List, [], ◌∷◌, ◌++◌, map}

@@ -1,4 +1,4 @@
--- The bits that a field's helper answers are the immediate's two's complement, exactly where the field holds it.
+-- The bits that a field's helper answers are the immediate's two's complement, exactly where the field holds it. Assumes nothing.
 use mathlib.Core.Path.{◌≡◌, refl, sym}
 use mathlib.Core.Bool.{Bool, true, false, cond}
 use Prim.Native.Nat.{ℕ, ◌+◌, ◌-◌, ◌%◌, ◌^◌, ◌≤◌, ◌<◌}

@@ -1,4 +1,4 @@
--- Signed numbers that are handed on: a local is held as its bits and read back.
+-- Signed numbers that are handed on: a local is held as its bits and read back. Assumes nothing.
 use mathlib.Core.Path.{◌≡◌}
 use Prim.Native.Nat.{ℕ, ◌<◌, ◌^◌}
 use native.Mathlib.Omega.{arith}

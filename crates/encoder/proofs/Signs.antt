@@ -1,5 +1,5 @@
 -- What a signed number's test and casts say, by its two cases. A signed local is held as its bits, so each need reads
--- `to_z w (of_z w z)`, which is z where z fits.
+-- `to_z w (of_z w z)`, which is z where z fits. Assumes nothing.
 use mathlib.Core.Path.{◌≡◌, refl, sym, ap, subst, ◌∙◌}
 use mathlib.Core.Bool.{Bool, true, false, cond}
 use Prim.Native.Nat.{ℕ, zero, suc, ◌-◌, ◌^◌, ◌<◌, zero-le, suc-le-suc}

@@ -1,4 +1,4 @@
--- The table's rule: every base word is the encoding of its row. One test over the whole table, and what it says at each entry.
+-- The table's rule: every base word is the encoding of its row. One test over the whole table, and what it says at each entry. Assumes nothing.
 use mathlib.Core.Path.{◌≡◌, refl, ap, ◌∙◌}
 use mathlib.Core.List.{List, [], ◌∷◌, map}
 use Prim.Native.Nat.{ℕ, zero, suc, ◌<◌}

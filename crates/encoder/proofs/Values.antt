@@ -1,4 +1,4 @@
--- An instruction as a value: an operation's number beyond its shape's last is the first.
+-- An instruction as a value: an operation's number beyond its shape's last is the first. Assumes nothing.
 use mathlib.Core.Path.{◌≡◌, refl, sym, ap, ◌∙◌}
 use mathlib.Core.Bool.{Bool, true, false, cond}
 use mathlib.Core.List.{List}

@@ -1,6 +1,6 @@
 // macros.rs: the word of an instruction, or its refusal. `rvv!` becomes a function for each form, operands in its order;
 // dots in a name become underscores, and `fadd.d` with a rounding mode is `fadd_d_rm`. `addiw`, which `rvv!` lacks, is document 02's.
-ghost use Rattle.std.specs.Prelude.{◌≡◌, true, ◌≤◌, ◌<◌, pos, negsuc, get_or, [], ◌∷◌};
+ghost use Rattle.std.specs.Prelude.{◌≡◌, true, ◌≤◌, ◌<◌, T, pos, negsuc, get_or, [], ◌∷◌};
 ghost use Rattle.encoder.specs.Answer.{word_answer, encoded};
 ghost use Rattle.encoder.specs.Table.{row_of};
 ghost use Rattle.encoder.specs.Sign.{sign_of};

@@ -1,4 +1,4 @@
--- An order's number taken apart is the order.
+-- An order's number taken apart is the order. Assumes nothing.
 use mathlib.Core.Path.{◌≡◌, refl, sym, ap, subst, ◌∙◌}
 use mathlib.Core.Bool.{Bool, true, false, beq}
 use mathlib.Core.Option.{Option, some, none, map, some-injective, none-ne-some}

@@ -1,4 +1,4 @@
--- Orders that have jumps or set a label, by what emitting them answers.
+-- Orders that have jumps or set a label, by what emitting them answers. Assumes nothing.
 use mathlib.Core.Path.{◌≡◌, refl, sym, ap, ◌∙◌}
 use mathlib.Core.Bool.{Bool, true, false, cond, ◌&&◌}
 use mathlib.Core.Option.{some, none}
@@ -22,6 +22,7 @@ use Rattle.assembler.specs.declared.EmitResult.{EmitResult}
 use Rattle.assembler.specs.declared.Answer.TheVariants.{Accepted, Refused}
 use Rattle.assembler.specs.State.{State, Outcome, state, emit_answer, outcome, sound, fits}
 use Rattle.assembler.specs.Put.{labels, twice, words, jumps, targets, with_word, with_jump, with_label, place, placed, numbers_sound, numbers_fit, ranked, verdict, put_number, settled, put}
+use Rattle.orders.specs.Code.{code}
 use Rattle.orders.specs.Emitted.{items, emitted}
 use Rattle.orders.specs.Fault.{fault}
 use Rattle.fast.specs.Inner.Fast.{taken, not_mine, asm_of, left}

@@ -1,4 +1,4 @@
--- Operands packed into one number, field by field.
+-- Operands packed into one number, field by field. Assumes nothing.
 use mathlib.Core.Path.{◌≡◌, refl, sym, ap, subst, ◌∙◌}
 use mathlib.Core.Bool.{Bool, true, false, cond, ◌&&◌}
 use mathlib.Core.Option.{Option, some, none, map, some-injective, none-ne-some}

@@ -1,4 +1,4 @@
--- The packed fields of a kind are the number of the order that the line says.
+-- The packed fields of a kind are the number of the order that the line says. Assumes nothing.
 use mathlib.Core.Path.{◌≡◌, refl, sym, ap, ◌∙◌}
 use mathlib.Core.Bool.{Bool, true, false, cond, not, ◌&&◌, ◌||◌}
 use mathlib.Core.Option.{Option, some, none, map}

@@ -1,4 +1,4 @@
--- The packed fields are those of the order that the line says.
+-- The packed fields are those of the order that the line says. Assumes nothing.
 use mathlib.Core.Path.{◌≡◌, refl, ◌∙◌}
 use mathlib.Core.Bool.{Bool, true, false, cond}
 use mathlib.Core.Option.{Option, some, none, map}

@@ -1,4 +1,4 @@
--- A whole line.
+-- A whole line. Assumes nothing.
 use mathlib.Core.Path.{◌≡◌, refl, sym, ap, ◌∙◌}
 use mathlib.Core.Bool.{Bool, true, false, cond, ◌||◌}
 use mathlib.Core.Option.{Option, some, none, map, none-ne-some}

@@ -1,4 +1,4 @@
--- Items joined: their jumps and labels.
+-- Items joined: their jumps and labels. Assumes nothing.
 use mathlib.Core.Path.{◌≡◌, refl, ap, ◌∙◌}
 use mathlib.Core.Bool.{Bool, true, false, cond}
 use mathlib.Core.List.{List, [], ◌∷◌, ◌++◌}

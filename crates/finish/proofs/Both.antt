@@ -1,4 +1,4 @@
--- An order that is accepted whole is accepted in two parts as well.
+-- An order that is accepted whole is accepted in two parts as well. Assumes nothing.
 use mathlib.Core.Path.{◌≡◌, refl, sym, ap, ◌∙◌}
 use mathlib.Core.Bool.{Bool, true, false, ◌&&◌, ◌||◌}
 use mathlib.Core.List.{List, [], ◌∷◌, ◌++◌}

@@ -13,4 +13,5 @@ pub mod Each
 pub mod All
 pub mod Resolves
 pub mod Both
+pub mod Behind
 pub mod Counted

@@ -1,4 +1,4 @@
--- A jump noted in the memory is one more behind the others, with its tag; those before it stay.
+-- A jump noted in the memory is one more behind the others, with its tag; those before it stay. Assumes nothing.
 use mathlib.Core.Path.{◌≡◌, refl, sym, ap, ◌∙◌}
 use mathlib.Core.List.{List, [], ◌∷◌, ◌++◌, append_assoc}
 use Prim.Native.Nat.{ℕ, zero, suc, ◌+◌, ◌*◌, ◌≤◌, ◌<◌}

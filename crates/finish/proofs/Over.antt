@@ -1,4 +1,4 @@
--- Jumps' words written over those reserved: the buffer then holds the items resolved.
+-- Jumps' words written over those reserved: the buffer then holds the items resolved. Assumes nothing.
 use mathlib.Core.Path.{◌≡◌, refl, sym, ap, ◌∙◌}
 use mathlib.Core.List.{List, [], ◌∷◌, ◌++◌, flat_map}
 use Prim.Native.Nat.{ℕ, suc, ◌+◌, ◌*◌, ◌≤◌}

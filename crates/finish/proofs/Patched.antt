@@ -1,4 +1,4 @@
--- Jumps' words written one by one.
+-- Jumps' words written one by one. Assumes nothing.
 use mathlib.Core.Path.{◌≡◌, ap, ◌∙◌}
 use mathlib.Core.Bool.{true, cond}
 use mathlib.Core.List.{List, [], ◌∷◌}

@@ -4,15 +4,18 @@ use mathlib.Core.Bool.{false}
 use mathlib.Core.List.{List, [], ◌∷◌}
 use mathlib.Core.Option.{Option, none, some}
 use Prim.Native.Nat.{ℕ, ◌+◌, ◌*◌, ◌^◌, ◌≤◌, ◌<◌}
+use lib.IntN.{sub_ℕ}
 use lib.ListN.{length, get_or}
+use Rattle.isa.proofs.Validity.{Valid}
 use Rattle.assembler.specs.Limit.{label_limit, jump_limit}
 use Rattle.assembler.specs.Item.{Item, instr, raw, jump, label}
+use Rattle.assembler.specs.Jump.{jump_instr}
 use Rattle.assembler.specs.Bytes.{written, room}
 use Rattle.assembler.specs.Memory.{jumps_of}
 use Rattle.assembler.proofs.Tags.{tags_of}
 use Rattle.assembler.specs.State.{State}
 use Rattle.assembler.specs.Put.{words, jumps, targets, times}
-use Rattle.assembler.specs.Resolved.{label_place, jumps_in}
+use Rattle.assembler.specs.Resolved.{label_place, jumps_in, place_in}
 
 -- label memory's entry for a place
 abbrev pub entry : Option ℕ → ℕ
@@ -44,3 +47,12 @@ pub record Represents (b : List ℕ) (is : List Item) (tags : List ℕ) (s : Sta
   pub wide_jumps : length s.jumps ≡ 20480
   pub set_labels : (l : ℕ) → l < label_limit → get_or s.labels l 0 ≡ entry_of is l
   pub wide_labels : length s.labels ≡ label_limit
+
+-- each jump of items, of which the first is at `here`: its label is set by `all`, and its instruction is valid
+abbrev pub Reaching : List Item → ℕ → List Item → Type 0
+Reaching all here [] = Unit {0}
+Reaching all here (instr i ∷ is) = Reaching all (here + 4) is
+Reaching all here (raw w ∷ is) = Reaching all (here + 4) is
+Reaching all here (jump k l r ∷ is) =
+    (label_place l 0 all ≡ none → ⊥) × Valid (jump_instr k r (sub_ℕ (place_in all l) here)) × Reaching all (here + 4) is
+Reaching all here (label l ∷ is) = Reaching all here is

@@ -1,4 +1,4 @@
--- Labels looked at 64 at a time.
+-- Labels looked at 64 at a time. Assumes nothing.
 use mathlib.Core.Path.{◌≡◌, refl}
 use mathlib.Core.Bool.{Bool, true, false, not}
 use mathlib.Core.List.{List}

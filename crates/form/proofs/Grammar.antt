@@ -1,4 +1,4 @@
--- The grammar: from reading by kind and values (`Inverse`) to what a line says.
+-- The grammar: from reading by kind and values (`Inverse`) to what a line says. Assumes nothing.
 use mathlib.Core.Path.{◌≡◌, refl, sym, ap, subst, ◌∙◌}
 use mathlib.Core.List.{List, ◌++◌}
 use mathlib.Core.Option.{Option, some, none, map, some-injective, none-ne-some}
@@ -97,3 +97,7 @@ read_line l h =
 
 pub grammar : Grammar
 grammar = (line_read, read_line)
+
+-- what is said by no line is no line's text
+pub no_text : (s : List ℕ) → said s ≡ none → (l : DeckLine) → Fits l → text l ≡ s → ⊥
+no_text s e l h t = none-ne-some l (sym e ∙ ap said (sym t) ∙ read_line l h)

@@ -1,4 +1,4 @@
--- Names and numbers of kinds: each name is in the table or among the long ones, and nothing else is.
+-- Names and numbers of kinds: each name is in the table or among the long ones, and nothing else is. Assumes nothing.
 use mathlib.Core.Path.{◌≡◌, refl, sym, ◌∙◌}
 use mathlib.Core.Bool.{Bool, true, false, cond, ◌&&◌, ◌||◌}
 use mathlib.Core.Option.{Option, some, none, map, some-injective, none-ne-some}

@@ -21,7 +21,6 @@ const NO_KIND: u64 = 0xff;
 
 // ---- operations
 
-// These four are public for the fast path, which has an order as a number.
 pub fn unary_at(n: u64) -> Unary
     ensures { result ≡ unary_at n }
 {

@@ -1,4 +1,4 @@
--- A mask walked upward from its lowest set bit comes to the registers that it saves.
+-- A mask walked upward from its lowest set bit comes to the registers that it saves. Assumes nothing.
 use mathlib.Core.Path.{◌≡◌, refl, sym, ap, ◌∙◌, subst}
 use mathlib.Core.Logic.{◌⊎◌, inl, inr}
 use mathlib.Core.Bool.{Bool, true, false, cond}

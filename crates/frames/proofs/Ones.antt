@@ -1,4 +1,4 @@
--- The ones of a mask's preserved bits count the registers that it saves.
+-- The ones of a mask's preserved bits count the registers that it saves. Assumes nothing.
 use mathlib.Core.Path.{◌≡◌, refl, sym, ap, ◌∙◌}
 use mathlib.Core.Bool.{Bool, true, false, cond}
 use mathlib.Core.List.{List, [], ◌∷◌, ◌++◌}

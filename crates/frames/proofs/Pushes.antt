@@ -1,4 +1,4 @@
--- Instructions of preserved registers, pushed as a mask is walked, and placed.
+-- Instructions of preserved registers, pushed as a mask is walked, and placed. Assumes nothing.
 use mathlib.Core.Path.{◌≡◌, refl}
 use mathlib.Core.Bool.{Bool, true, false, cond}
 use mathlib.Core.List.{List, [], ◌∷◌, map}

@@ -1,4 +1,4 @@
--- How many words the pieces have, their labels and where their jumps go, by the tests of the code.
+-- How many words the pieces have, their labels and where their jumps go, by the tests of the code. Assumes nothing.
 use mathlib.Core.Path.{◌≡◌, refl, sym, ap, ◌∙◌}
 use mathlib.Core.Bool.{Bool, true, false, cond}
 use mathlib.Core.List.{List, [], ◌∷◌, ◌++◌, map}

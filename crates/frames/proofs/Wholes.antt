@@ -1,4 +1,4 @@
--- How many words the whole frames have, their labels, where their jumps go, and how they are parted.
+-- How many words the whole frames have, their labels, where their jumps go, and how they are parted. Assumes nothing.
 use mathlib.Core.Path.{◌≡◌, refl, sym, ap, subst, ◌∙◌}
 use mathlib.Core.Bool.{true, false, cond}
 use mathlib.Core.List.{List, [], ◌∷◌, ◌++◌, append_assoc, append-nil}

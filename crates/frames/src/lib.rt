@@ -21,9 +21,7 @@ ghost use Rattle.frame_code.specs.Inner.Copies.{copy_first, copy_each, copy_labe
 ghost use Rattle.frames.specs.Whole.{head_of, prologue_put, epilogue_put};
 ghost use Rattle.frames.specs.Inner.Whole.{is_accepted, looped as looped_of, entry};
 
-use assembler::{
-    Answer, Asm, EmitResult, Fault, JumpKind, Jumps, Labels, Plan, Sets, Tail, Targets,
-};
+use assembler::{Answer, Asm, EmitResult, Fault, Goes, JumpKind, Jumps, Labels, Plan, Sets, Tail};
 use ast::{Frame, Head};
 use encoder::{A0, A1, A2, A3, Encoded, FA0, RA, SP, T0, T1, T2, ZERO};
 
@@ -63,7 +61,7 @@ const AT_EPILOGUE: u32 = 2038;
 fn precheck(
     fault: Fault,
     sets: Sets,
-    goes: Targets,
+    goes: Goes,
     words: usize,
     buf: &mut [u8],
     labels: &mut Labels,
@@ -168,7 +166,7 @@ pub fn load_used_registers(
     let d = precheck(
         Fault::Nothing,
         Sets::Two(AT_SUCCESS, AT_EPILOGUE),
-        Targets::Nowhere,
+        Goes::Nowhere,
         1 + n,
         buf,
         labels,
@@ -394,7 +392,7 @@ fn copy_row(
     let d = precheck(
         Fault::Nothing,
         Sets::Nothing,
-        Targets::Nowhere,
+        Goes::Nowhere,
         m,
         buf,
         labels,
@@ -434,7 +432,7 @@ fn straight(
     let d = precheck(
         Fault::Nothing,
         Sets::Nothing,
-        Targets::Nowhere,
+        Goes::Nowhere,
         w,
         buf,
         labels,
@@ -475,7 +473,7 @@ fn looped(
     let d = precheck(
         Fault::Nothing,
         Sets::One(l),
-        Targets::One(l),
+        Goes::One(l),
         w,
         buf,
         labels,
@@ -545,7 +543,7 @@ fn fast_start(
     let d = precheck(
         Fault::Nothing,
         Sets::Nothing,
-        Targets::Nowhere,
+        Goes::Nowhere,
         w,
         buf,
         labels,
@@ -589,7 +587,7 @@ fn enter(tag: u32, buf: &mut [u8], labels: &mut Labels, jumps: &mut Jumps, asm: 
     let d = precheck(
         Fault::Nothing,
         Sets::One(AT_SELF),
-        Targets::One(AT_MAIN),
+        Goes::One(AT_MAIN),
         14,
         buf,
         labels,
@@ -624,13 +622,13 @@ fn start_sets(states: u32) -> Sets
 }
 
 // Its jumps: past the copies, and the loop's.
-fn start_goes(states: u32) -> Targets
+fn start_goes(states: u32) -> Goes
     ensures { goes_to result ≡ at_main ∷ cond (ltb 16 states) (at_pro ∷ []) [] }
 {
     if 16 < states {
-        return Targets::Two(AT_MAIN, AT_PRO);
+        return Goes::Two(AT_MAIN, AT_PRO);
     }
-    Targets::One(AT_MAIN)
+    Goes::One(AT_MAIN)
 }
 
 // Of its epilogue: the loop's comes with more than 16 observations.
@@ -643,13 +641,13 @@ fn end_sets(obs: u32) -> Sets
     Sets::One(AT_DONE)
 }
 
-fn end_goes(obs: u32) -> Targets
+fn end_goes(obs: u32) -> Goes
     ensures { goes_to result ≡ at_done ∷ cond (ltb 16 obs) (at_epi ∷ []) [] }
 {
     if 16 < obs {
-        return Targets::Two(AT_DONE, AT_EPI);
+        return Goes::Two(AT_DONE, AT_EPI);
     }
-    Targets::One(AT_DONE)
+    Goes::One(AT_DONE)
 }
 
 fn indirect_start(
@@ -723,22 +721,22 @@ fn indirect_end(
 // ---- by the frame of line 1
 
 // Where the jumps go; a frame whose counts are refused looks at its labels all the same.
-fn prologue_goes(head: Head) -> Targets
+fn prologue_goes(head: Head) -> Goes
     ensures { goes_to result ≡ targets (prologue_items head) }
 {
     let f = head.frame;
     match f {
-        Frame::Fast => Targets::Nowhere,
+        Frame::Fast => Goes::Nowhere,
         Frame::Indirect => start_goes(head.states),
     }
 }
 
-fn epilogue_goes(head: Head) -> Targets
+fn epilogue_goes(head: Head) -> Goes
     ensures { goes_to result ≡ targets (epilogue_items head) }
 {
     let f = head.frame;
     match f {
-        Frame::Fast => Targets::Nowhere,
+        Frame::Fast => Goes::Nowhere,
         Frame::Indirect => end_goes(head.obs),
     }
 }

@@ -1,4 +1,4 @@
--- What a form says is what its line says.
+-- What a form says is what its line says. Assumes nothing.
 use mathlib.Core.Path.{◌≡◌, refl, ap}
 use mathlib.Core.Bool.{Bool, true, false, cond}
 use mathlib.Core.List.{List}

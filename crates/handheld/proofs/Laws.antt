@@ -1,7 +1,7 @@
 -- What is promised of `deck_emit` holds of `deck_emit_in` too; a deck file's text is never empty, so 0 says that there was no room.
 use mathlib.Core.Path.{◌≡◌, ap, ◌∙◌}
 use mathlib.Core.List.{List, [], ◌∷◌, ◌++◌}
-use Prim.Native.Nat.{ℕ, ◌≤◌, ◌<◌}
+use Prim.Native.Nat.{ℕ, ◌+◌, ◌≤◌, ◌<◌}
 use native.Mathlib.Omega.{arith}
 use lib.ListN.{length, length-append}
 use Rattle.refusal.specs.Answer.{Answer, accepted, refused}
@@ -11,8 +11,8 @@ use Rattle.ast.specs.declared.Head.{Head}
 use Rattle.accesses.specs.Code.{sub_stack_code}
 use Rattle.frame_code.specs.Items.{prologue, saves, prologue_fast, prologue_indirect, by_frame}
 use Rattle.reading.specs.Program.{Program}
-use Rattle.layout.specs.Layout.{span, body, exit, data_items, items, place, routine_words}
-use Rattle.layout.proofs.Items.{span_append, resolved_length}
+use Rattle.call.specs.Layout.{span, body, exit, data_items, items, place, routine_words}
+use Rattle.call.proofs.Items.{span_append, resolved_length}
 use Rattle.routine.specs.Routine.{program_of}
 use Rattle.routine.specs.Run.{run}
 use Rattle.routine.proofs.Law.{run_promise}

@@ -1,4 +1,4 @@
--- The list of unused labels as numbers.
+-- The list of unused labels as numbers. Assumes nothing.
 use mathlib.Core.Path.{◌≡◌, refl, sym, ap, ◌∙◌}
 use mathlib.Core.List.{List, [], ◌∷◌}
 use Prim.Native.Nat.{ℕ}

@@ -1,4 +1,4 @@
--- `hi` and `lo` add up to the number they were taken from.
+-- `hi` and `lo` add up to the number they were taken from. Assumes nothing.
 use mathlib.Core.Path.{◌≡◌, refl}
 use mathlib.Core.Logic.{◌⊎◌, inl, inr}
 use mathlib.Core.Bool.{Bool, true, false, cond}

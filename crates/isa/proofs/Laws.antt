@@ -1,4 +1,4 @@
--- Laws of the encoding: an instruction's word gives the instruction back, and no other word does.
+-- Laws of the encoding: an instruction's word gives the instruction back, and no other word does. Assumes nothing.
 use mathlib.Core.Path.{◌≡◌, refl, ap, ◌∙◌}
 use mathlib.Core.Bool.{Bool, true, false, ◌&&◌, ◌||◌, cond}
 use mathlib.Core.Option.{Option, some, none}

@@ -1,4 +1,4 @@
--- An instruction's word is the word of its operation with no operands, the base word, and its operands at their places.
+-- An instruction's word is the word of its operation with no operands, the base word, and its operands at their places. Assumes nothing.
 use mathlib.Core.Path.{◌≡◌}
 use Prim.Native.Nat.{ℕ, ◌+◌, ◌*◌, ◌/◌, ◌%◌}
 use native.Mathlib.Omega.{arith}

@@ -1,4 +1,4 @@
--- The listing of a routine's code, from what the routine promises.
+-- The listing of a routine's code, from what the routine promises. Assumes nothing.
 use mathlib.Core.Path.{◌≡◌, refl, sym, ap, ◌∙◌, fun_ext}
 use mathlib.Core.Bool.{Bool, true, false}
 use mathlib.Core.List.{List}
@@ -20,7 +20,7 @@ use Rattle.refusal.specs.Number.{number_of}
 use Rattle.ast.specs.declared.Frame.{Frame}
 use Rattle.reading.specs.Program.{Program}
 use Rattle.assembler.specs.Bytes.{bytes}
-use Rattle.layout.specs.Layout.{constants_offset, routine_words}
+use Rattle.call.specs.Layout.{constants_offset, routine_words}
 use Rattle.routine.specs.Routine.{Summary, Promise, program_of, summary_of, summary_answer, buffer_after}
 use Rattle.routine.specs.Answer.{routine_answer}
 use Rattle.routine.specs.declared.RoutineAnswer.{RoutineAnswer}

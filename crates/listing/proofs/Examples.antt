@@ -26,7 +26,7 @@ use Rattle.reading.specs.Program.{constants}
 use Rattle.orders.specs.Code.{line_code}
 use Rattle.orders.specs.Code as Orders
 use Rattle.frame_code.specs.Items.{repeated, prologue, saves, reloads, epilogue}
-use Rattle.layout.specs.Layout.{span, body, padding, constants_from, items, place}
+use Rattle.call.specs.Layout.{span, body, padding, constants_from, items, place}
 use Rattle.routine.specs.Routine.{line_read, lines_read, head_read, closed_off, body_lines, first_line, finished, program_of}
 use Rattle.print.specs.Text.{words_of, refusal_line}
 use Rattle.print.specs.Listing.{operands_text, instr_line, data_line, hidden_line, listing_line, view_line, view_lines}

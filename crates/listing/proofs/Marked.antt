@@ -1,4 +1,4 @@
--- The marks that the file's lines give are those of its program's constants.
+-- The marks that the file's lines give are those of its program's constants. Assumes nothing.
 use mathlib.Core.Path.{◌≡◌, refl, sym, ap, ◌∙◌, fun_ext}
 use mathlib.Core.Bool.{Bool, true, false, ◌&&◌}
 use mathlib.Core.List.{List, [], ◌∷◌, map}

@@ -1,4 +1,4 @@
--- The marks of constants, as the loop over the file's lines makes them.
+-- The marks of constants, as the loop over the file's lines makes them. Assumes nothing.
 use mathlib.Core.Path.{◌≡◌, refl, sym, ap, ◌∙◌}
 use mathlib.Core.Bool.{Bool, true, false, not, ◌&&◌, cond}
 use mathlib.Core.List.{List, [], ◌∷◌, ◌++◌, append_assoc, append-nil}

@@ -1,4 +1,4 @@
--- WHAT THE ATTENDANT CAN'T SEE: digits of `bits` lines alter neither the text nor what the routine tells.
+-- WHAT THE ATTENDANT CAN'T SEE: digits of `bits` lines alter neither the text nor what the routine tells. Assumes nothing.
 use mathlib.Core.Path.{◌≡◌, refl, sym, ap, ◌∙◌, fun_ext}
 use mathlib.Core.Bool.{Bool, true}
 use mathlib.Core.List.{List, [], ◌∷◌, ◌++◌, map, flat_map, append_assoc}
@@ -15,9 +15,9 @@ use Rattle.ast.specs.declared.Constant.TheVariants.{Float, Bits}
 use Rattle.reading.specs.Line.{Line, order, constant}
 use Rattle.reading.specs.Program.{Program, constants}
 use Rattle.assembler.specs.Bytes.{bytes}
-use Rattle.layout.specs.Layout.{constants_offset, routine_words, place}
-use Rattle.layout.proofs.Items.{resolved_length}
-use Rattle.layout.proofs.Padding.{front_items, front_span}
+use Rattle.call.specs.Layout.{constants_offset, routine_words, place}
+use Rattle.call.proofs.Items.{resolved_length}
+use Rattle.call.proofs.Padding.{front_items, front_span}
 use Rattle.routine.specs.Routine.{program_of, summary_of, summary_answer}
 use Rattle.correctness.proofs.Unread.{blank_line, blank, blanked, zeroed, zeroed_bits, code_words, code_words_blank, offset_blank, summary_blank, halves, words_split, program_blanked}
 use Rattle.print.specs.Text.{le_word, words_of}
@@ -29,8 +29,6 @@ use Rattle.listing.specs.declared.View.TheVariants.{Attendant}
 
 -- ---- the files
 
--- Each file is compared with one whose `bits` lines have zeros for digits (`zeroed`, crates/correctness/proofs/Unread.antt).
--- Files that are alike become the same one. The routine answers it with their summary, and the same words before the constants.
 pub alike_zeroed : {ts us : List (List ℕ)} → Alike ts us → map zeroed ts ≡ map zeroed us
 alike_zeroed end = refl
 alike_zeroed (same_line line a) = ap (λ (s : List (List ℕ)). zeroed line ∷ s) (alike_zeroed a)

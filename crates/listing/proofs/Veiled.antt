@@ -1,4 +1,4 @@
--- The attendant's text is the maintainer's outside the hidden digits.
+-- The attendant's text is the maintainer's outside the hidden digits. Assumes nothing.
 use mathlib.Core.Path.{◌≡◌, refl, sym, ap, ◌∙◌}
 use mathlib.Core.Bool.{Bool, true, false, cond}
 use mathlib.Core.List.{List, [], ◌∷◌, ◌++◌, append_assoc}
@@ -12,7 +12,7 @@ use Rattle.refusal.specs.Answer.{Answer, accepted, refused}
 use Rattle.text.specs.Ascii.{bytes}
 use Rattle.text.specs.Digits.{decimal, digits}
 use Rattle.reading.specs.Program.{Program}
-use Rattle.layout.specs.Layout.{constants_offset, routine_words}
+use Rattle.call.specs.Layout.{constants_offset, routine_words}
 use Rattle.assembler.specs.Bytes as Code
 use Rattle.routine.specs.Routine.{program_of}
 use Rattle.print.specs.Text.{words_of, hex}

@@ -6,7 +6,7 @@ use Rattle.print.specs.Text.{words_of, refusal_line, Puts}
 use Rattle.print.specs.Listing.{listing_lines, foreign_from}
 use Rattle.assembler.specs.Bytes.{bytes}
 use Rattle.reading.specs.Program.{Program}
-use Rattle.layout.specs.Layout.{constants_offset, routine_words}
+use Rattle.call.specs.Layout.{constants_offset, routine_words}
 use Rattle.routine.specs.Routine.{program_of}
 use Rattle.listing.specs.declared.CodeAnswer.{CodeAnswer}
 use Rattle.listing.specs.declared.CodeAnswer.TheVariants as CodeAnswer

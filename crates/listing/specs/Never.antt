@@ -5,7 +5,7 @@ use Rattle.print.specs.Text.{words_of}
 use Rattle.print.specs.Listing.{listing_lines}
 use Rattle.assembler.specs.Bytes.{bytes}
 use Rattle.reading.specs.Program.{Program}
-use Rattle.layout.specs.Layout.{constants_offset, routine_words}
+use Rattle.call.specs.Layout.{constants_offset, routine_words}
 use Rattle.routine.specs.Routine.{Summary, Promise, program_of}
 use Rattle.listing.specs.Listing.{listed, deck_listing}
 

@@ -8,7 +8,7 @@ use Rattle.print.specs.Listing.{listing_line, hidden_half, view_lines}
 use Rattle.assembler.specs.Bytes.{bytes}
 use Rattle.reading.specs.Line.{Line, order, constant}
 use Rattle.reading.specs.Program.{Program}
-use Rattle.layout.specs.Layout.{constants_offset, routine_words}
+use Rattle.call.specs.Layout.{constants_offset, routine_words}
 use Rattle.routine.specs.Routine.{program_of}
 use Rattle.listing.specs.Listing.{deck_listing}
 use Rattle.listing.specs.declared.View.{View}

@@ -13,7 +13,6 @@ ghost use Rattle.listing.specs.Inner.Marks.{hidden_by};
 
 mod marks;
 
-use answer::DeckText;
 use print::{First, Text};
 use routine::RoutineAnswer;
 
@@ -45,6 +44,13 @@ pub struct CodeListing {
 pub enum View {
     Maintainer,
     Attendant,
+}
+
+// The routine's answer to a file, and how long its listing is.
+#[derive(Drop)]
+pub struct DeckListing {
+    pub answer: RoutineAnswer,
+    pub text: Text,
 }
 
 // Constants may start at `constants` in n bytes of code.
@@ -136,7 +142,7 @@ fn answer_text(view: View, file: &[u8], answer: RoutineAnswer, code: &[u8], out:
 }
 
 // What a view shows of a deck file: the listing of its routine, or the refusal; whole in `out`, or not at all.
-pub fn deck_view(file: &[u8], view: View, out: &mut [u8]) -> DeckText
+pub fn deck_view(file: &[u8], view: View, out: &mut [u8]) -> DeckListing
     ensures { Puts (deck_view view file.now) 0 out.old result.text out.new
         × (routine_answer result.answer ≡ summary_answer (program_of 65536 file.now))
         × (length (deck_view view file.now) ≤ 475136) }
@@ -144,11 +150,11 @@ pub fn deck_view(file: &[u8], view: View, out: &mut [u8]) -> DeckText
     let mut code = [0u8; ROOM];
     let answer = routine::routine(file, &mut code);
     let text = answer_text(view, file, answer, &code, out);
-    DeckText { answer, text }
+    DeckListing { answer, text }
 }
 
 // The listing of a deck file's routine, as its maintainer sees it, or the refusal.
-pub fn deck_listing(file: &[u8], out: &mut [u8]) -> DeckText
+pub fn deck_listing(file: &[u8], out: &mut [u8]) -> DeckListing
     ensures { Puts (deck_listing file.now) 0 out.old result.text out.new
         × (routine_answer result.answer ≡ summary_answer (program_of 65536 file.now))
         × (length (deck_listing file.now) ≤ 475136) }

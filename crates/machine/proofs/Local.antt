@@ -1,4 +1,4 @@
--- What an effect depends on: pc, the registers, the rounding mode, and the bytes that the instruction accesses; and where it writes.
+-- What an effect depends on: pc, the registers, the rounding mode, and the bytes that the instruction accesses; and where it writes. Assumes nothing.
 use mathlib.Core.Path.{◌≡◌, refl, ap, ◌∙◌, fun_ext}
 use mathlib.Core.Option.{Option, some, none}
 use Prim.Native.Nat.{ℕ}

@@ -1,12 +1,14 @@
--- Laws of 64-bit numbers, of functions changed at one place, and of loads and stores.
+-- Laws of 64-bit numbers, of functions changed at one place, and of loads and stores. Assumes nothing.
 use mathlib.Core.Path.{◌≡◌, refl, fun_ext}
 use mathlib.Core.Logic.{◌≢◌}
 use mathlib.Core.Bool.{Bool, true, false, cond}
-use Prim.Native.Nat.{ℕ, ◌+◌, ◌*◌, ◌/◌, ◌%◌, ◌^◌, ◌≤◌, ◌<◌}
+use Prim.Native.Nat.{ℕ, ◌+◌, ◌-◌, ◌*◌, ◌/◌, ◌%◌, ◌^◌, ◌≤◌, ◌<◌}
 use native.Mathlib.Omega.{arith}
 use borrow.Author.Tests.{lt-ltb, le-ltb, eq-eqb, ne_eqb, ltb-true, ltb-false}
 use lib.Dec.{eqb, ltb, lit<}
-use Rattle.machine.specs.Word.{w64, upd, dist, byte, load4, load8, store8}
+use lib.IntN.{pos, negsuc}
+use Rattle.isa.specs.Immediate.{twos, signed}
+use Rattle.machine.specs.Word.{w64, sext, upd, dist, byte, load4, load8, store8}
 
 -- ---- 64-bit numbers
 
@@ -15,6 +17,14 @@ wrap_l a b = omega arith
 
 pub wrap_r : (a b : ℕ) → w64 (a + w64 b) ≡ w64 (a + b)
 wrap_r a b = omega arith
+
+-- sign extension from 32 bits is the signed number's two's complement in 64
+pub sext_signed : (n : ℕ) → n < 2 ^ 32 → sext 32 n ≡ twos 64 (signed 32 n)
+sext_signed n h = by (ltb n (2 ^ 31)) refl
+  where
+    by : (b : Bool) → ltb n (2 ^ 31) ≡ b → sext 32 n ≡ twos 64 (cond b (pos n) (negsuc (2 ^ 32 - 1 - n)))
+    by true e = omega (arith, ltb-true n (2 ^ 31) e)
+    by false e = omega (arith, ltb-false n (2 ^ 31) e)
 
 -- ---- a function changed at one place
 

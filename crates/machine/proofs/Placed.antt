@@ -1,4 +1,4 @@
--- Code in memory: its parts, what leaves it standing, and how it comes from a buffer's bytes.
+-- Code in memory: its parts, what leaves it standing, and how it comes from a buffer's bytes. Assumes nothing.
 use mathlib.Core.Path.{◌≡◌, ◌∙◌}
 use mathlib.Core.List.{List, [], ◌∷◌, ◌++◌}
 use Prim.Native.Nat.{ℕ, zero, suc, ◌+◌, ◌*◌, ◌^◌, ◌≤◌, ◌<◌}

@@ -1,11 +1,12 @@
--- Laws of steps and runs.
+-- Laws of steps and runs. Assumes nothing.
 use mathlib.Core.Path.{◌≡◌, refl, subst, sym, ◌∙◌}
 use mathlib.Core.Bool.{Bool, true, false, cond}
+use mathlib.Core.Logic.{◌≢◌}
 use mathlib.Core.Option.{Option, some, none, bind}
 use Prim.Native.Nat.{ℕ, zero, suc, ◌+◌, ◌%◌, ◌<◌}
 use native.Mathlib.Nat.{zero-add, suc-add}
 use native.Mathlib.Omega.{arith}
-use borrow.Author.Tests.{eq-eqb}
+use borrow.Author.Tests.{eq-eqb, ne_eqb}
 use Rattle.isa.specs.Instr.{Instr}
 use Rattle.isa.proofs.Validity.{Valid}
 use Rattle.isa.specs.Encode.{encode}
@@ -35,6 +36,11 @@ module _ (Q : Floats) where
   pub step_at : (i : Instr) (s : State) → Valid i → OnEight (access i s) → s.pc % 4 ≡ 0 → load4 s.mem s.pc ≡ encode i → step Q s ≡ some (exec Q i s)
   unfolding step bind
   step_at i s v h a e = rw (fetch_at s a, e, decode_encode i v) (rw (passes (access i s) h))
+
+  -- No step, where pc is no multiple of 4.
+  pub step_none : (s : State) → s.pc % 4 ≢ 0 → step Q s ≡ none
+  unfolding step fetch bind
+  step_none s a = rw (ne_eqb (s.pc % 4) 0 a)
 
   pub run_of : {s u : State} {n : ℕ} → Run Q s n u → run Q n s ≡ some u
   unfolding run bind

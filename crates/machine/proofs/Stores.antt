@@ -1,4 +1,4 @@
--- Straight code with stores in a row: it stands while they miss it.
+-- Straight code with stores in a row: it stands while they miss it. Assumes nothing.
 use mathlib.Core.Path.{◌≡◌, refl, ◌∙◌}
 use mathlib.Core.Bool.{Bool, true, false, ◌&&◌}
 use mathlib.Core.List.{List, [], ◌∷◌}
@@ -18,7 +18,7 @@ use Rattle.machine.proofs.Exec.{execs, Fit}
 use Rattle.machine.proofs.Memory.{dist_ahead, inside, store_miss}
 use Rattle.machine.proofs.Effects.{flows, apply_pc}
 use Rattle.machine.proofs.Runs.{step_at, no_step, one_more, wider}
-use Rattle.machine.proofs.Straight.{next_aligned, at_first, at_next, flow}
+use Rattle.machine.proofs.Straight.{aligned, at_first, at_next, flow}
 use Rattle.machine.proofs.Placed.{code_kept}
 
 -- P x: the byte at x may be written
@@ -87,7 +87,7 @@ module _ (P : ℕ → Type 0) where
         in
         one_more Q (at_first s.pc (length is) b) (step_at Q i s w.0 w.1 a c.0)
         (wider Q (λ x m. at_next s.pc (length is) x (rw p at m))
-        (landing-run is (exec Q i s) w.2 h.1 (omega arith) (rw p f) (rw p (omega arith)) (rw p (next_aligned s a)) (rw p r)))
+        (landing-run is (exec Q i s) w.2 h.1 (omega arith) (rw p f) (rw p (omega arith)) (rw p (aligned s a)) (rw p r)))
 
 -- ---- stores to a range that doesn't go round
 

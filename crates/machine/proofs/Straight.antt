@@ -1,4 +1,4 @@
--- What straight code does, and a path with jumps.
+-- What straight code does, and a path with jumps. Assumes nothing.
 use mathlib.Core.Path.{◌≡◌, refl, ◌∙◌}
 use mathlib.Core.Bool.{Bool, true, not, ◌&&◌}
 use mathlib.Core.List.{List, [], ◌∷◌, ◌++◌}
@@ -20,8 +20,8 @@ use Rattle.base.proofs.Bools.{and_l, and_r}
 use Rattle.machine.proofs.Runs.{step_at, no_step, one_more, joined, wider}
 
 -- the next word of straight code is at a multiple of 4 too
-pub next_aligned : (s : State) → s.pc % 4 ≡ 0 → next s % 4 ≡ 0
-next_aligned s a = omega arith
+pub aligned : (s : State) → s.pc % 4 ≡ 0 → next s % 4 ≡ 0
+aligned s a = omega arith
 
 -- ---- addresses of words
 
@@ -48,7 +48,7 @@ module _ (Q : Floats) where
       let p : (exec Q i s).pc ≡ next s = apply_pc e s (quiet_flows e q) in
       one_more Q (at_first s.pc (suc (length is)) l) (step_at Q i s w.0 w.1 a c.0)
       (wider Q (λ x m. at_next s.pc (suc (length is)) x (rw p at m))
-      (lead_run (j ∷ is) (exec Q i s) w.2 (and_r (quiet e) _ h) (rw p (omega arith)) (rw p (next_aligned s a)) (rw (apply_mem e s q, p) c.1)))
+      (lead_run (j ∷ is) (exec Q i s) w.2 (and_r (quiet e) _ h) (rw p (omega arith)) (rw p (aligned s a)) (rw (apply_mem e s q, p) c.1)))
 
   -- no jump at all
   abbrev pub flow : List Instr → State → Bool

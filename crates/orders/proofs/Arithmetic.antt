@@ -1,4 +1,4 @@
--- Orders that work on registers alone, operation by operation: valid instructions, how many, and that they do what is meant.
+-- Orders that work on registers alone, operation by operation: valid instructions, how many, and that they do what is meant. Assumes nothing.
 use mathlib.Core.Path.{◌≡◌, refl, ap}
 use mathlib.Core.Bool.{Bool, true, false, ◌&&◌, cond}
 use mathlib.Core.List.{List, [], ◌∷◌, map}

@@ -1,4 +1,4 @@
--- 64-bit values that the orders' words compute, in the meaning's terms.
+-- 64-bit values that the orders' words compute, in the meaning's terms. Assumes nothing.
 use mathlib.Core.Path.{◌≡◌, refl, ◌∙◌, ap, fun_ext}
 use mathlib.Core.Bool.{Bool, true, false, not, cond}
 use Prim.Native.Nat.{ℕ, zero, suc, ◌-◌, ◌*◌, ◌/◌, ◌%◌, ◌^◌, ◌<◌, max}

@@ -1,4 +1,4 @@
--- The cases of `order_does`.
+-- The cases of `order_does`. Assumes nothing.
 use mathlib.Core.Path.{◌≡◌}
 use mathlib.Core.List.{[], ◌∷◌}
 use Prim.Native.Nat.{ℕ, ◌*◌}

@@ -1,4 +1,4 @@
--- Orders that read or write a cell do what they mean.
+-- Orders that read or write a cell do what they mean. Assumes nothing.
 use mathlib.Core.Path.{◌≡◌, refl, ◌∙◌}
 use mathlib.Core.Logic.{◌≢◌}
 use mathlib.Core.Bool.{Bool, true, false, not, ◌||◌, cond}

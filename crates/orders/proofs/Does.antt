@@ -1,4 +1,4 @@
--- Demand 2, proved.
+-- Demand 2, proved. Assumes nothing.
 use Rattle.orders.specs.Does.{Claim}
 use Rattle.orders.proofs.Cases.{by_case}
 

@@ -1,4 +1,4 @@
--- Items that are instructions alone, what is not refused, and ends that go on.
+-- Items that are instructions alone, what is not refused, and ends that go on. Assumes nothing.
 use mathlib.Core.Path.{◌≡◌, refl, ap}
 use mathlib.Core.Bool.{◌&&◌, cond}
 use mathlib.Core.List.{List, [], ◌∷◌, map}

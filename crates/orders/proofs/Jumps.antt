@@ -1,4 +1,4 @@
--- Orders with a pair of jumps do what they mean, once the pair is as finishing leaves it.
+-- Orders with a pair of jumps do what they mean, once the pair is as finishing leaves it. Assumes nothing.
 use mathlib.Core.Path.{◌≡◌, refl, ◌∙◌, ap}
 use mathlib.Core.Bool.{Bool, true, false, not, cond}
 use mathlib.Core.List.{List, [], ◌∷◌}

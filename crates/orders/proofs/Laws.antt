@@ -1,4 +1,4 @@
--- Laws of the orders' code: valid instructions, and how many words.
+-- Laws of the orders' code: valid instructions, and how many words. Assumes nothing.
 use mathlib.Core.Path.{◌≡◌, refl}
 use mathlib.Core.List.{List, [], ◌∷◌, ◌++◌, map}
 use Prim.Native.Nat.{ℕ, ◌*◌, ◌≤◌}

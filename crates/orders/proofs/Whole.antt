@@ -1,4 +1,4 @@
--- An order placed whole: asked for, its instructions written, then the jumps behind them; or refused.
+-- An order placed whole: asked for, its instructions written, then the jumps behind them; or refused. Assumes nothing.
 use mathlib.Core.Path.{◌≡◌, refl, sym, ap, ap₂, subst, ◌∙◌}
 use mathlib.Core.Bool.{Bool, true, false, ◌&&◌, cond}
 use mathlib.Core.List.{List, [], ◌∷◌, ◌++◌, map, append-nil}
@@ -15,7 +15,7 @@ use Rattle.refusal.specs.Answer.{Answer, accepted, refused}
 use Rattle.assembler.specs.Bytes.{room, written}
 use Rattle.assembler.specs.Item.{Item, instr, raw, label}
 use Rattle.assembler.specs.State.{State, Outcome, state, sound, fits}
-use Rattle.assembler.specs.Put.{targets, labels, twice, numbers_sound, numbers_fit, place, placed, ranked, verdict, put_number, settled, put}
+use Rattle.assembler.specs.Put.{words, targets, labels, twice, numbers_sound, numbers_fit, place, placed, ranked, verdict, put_number, settled, put}
 use Rattle.assembler.specs.Plan.{earlier, fault_number, label_fault, jump_fault, tail_items, tail_fault, plan_items, plan_fault, no_words}
 use Rattle.assembler.specs.Resolved.{resolved}
 use Rattle.assembler.specs.declared.Asm.{Asm}
@@ -33,7 +33,7 @@ use Rattle.base.proofs.Bools.{true_not_false, T_true, both, join, passed}
 use Rattle.ast.specs.Uses.{uses, padded, operand_within, index_holds, saves_hold, sets, weighs, registers_fit}
 use Rattle.ast.specs.declared.Operand.{Operand}
 use Rattle.ast.specs.declared.Operand.TheVariants.{Nothing, Loaded, Stored, Constant, GoneTo, Set}
-use Rattle.ast.specs.declared.Used.{Used}
+use Rattle.ast.specs.declared.View.{View}
 use Rattle.ast.specs.declared.Head.{Head}
 use Rattle.ast.specs.declared.Order.{Order}
 use Rattle.ast.specs.declared.Order.TheVariants.{Unary, Scratched, Binary, Fused, Ifelse, LoadConst, Load, Save, BranchIf, SetLabel}
@@ -60,16 +60,16 @@ cell_limit i = by (leb i 0xFFFFFFF) refl
     by false e = let l : 0xFFFFFFF < i = leb-false i 0xFFFFFFF e in sym (lt-leb (8 * i) offset_limit (omega arith))
 
 -- by the view that the code has
-pub fault_right : (o : Order) (u : Used) {t : Bool} {f : ℕ} → t ≡ registers_fit (uses o).registers → t ≡ true → u ≡ padded (uses o) → f ≡ operand_fault u.operand → f ≡ fault o
+pub fault_right : (o : Order) (u : View) {t : Bool} {f : ℕ} → t ≡ registers_fit (uses o).registers → t ≡ true → u ≡ padded (uses o) → f ≡ operand_fault u.operand → f ≡ fault o
 unfolding fault
-fault_right o u r t e h = rw (sym r ∙ t) (h ∙ ap (λ (v : Used). operand_fault v.operand) e)
+fault_right o u r t e h = rw (sym r ∙ t) (h ∙ ap (λ (v : View). operand_fault v.operand) e)
 
 pub fault_registers : (o : Order) {t : Bool} → t ≡ registers_fit (uses o).registers → t ≡ false → 1 ≡ fault o
 unfolding fault
 fault_registers o r t = rw (sym r ∙ t)
 
-pub rest_view : (o : Order) (u : Used) {x : Operand} → u ≡ padded (uses o) → u.operand ≡ x → behind_operand x u.a ≡ rest_of o
-rest_view o u e h = ap (λ (x : Operand). behind_operand x u.a) (sym h) ∙ ap (λ (v : Used). behind_operand v.operand v.a) e
+pub rest_view : (o : Order) (u : View) {x : Operand} → u ≡ padded (uses o) → u.operand ≡ x → behind_operand x u.a ≡ rest_of o
+rest_view o u e h = ap (λ (x : Operand). behind_operand x u.a) (sym h) ∙ ap (λ (v : View). behind_operand v.operand v.a) e
 
 -- the operand of an order that is not refused
 abbrev pub Small : Operand → Type 0
@@ -101,8 +101,8 @@ order_small o {x} h e = small x (ap operand_fault (sym e) ∙ (operands_fit o h)
 const_fits : (d : ℕ) → d < 32 → jump_fault d ≡ 0
 const_fits d h = rw (lt-ltb d 32 h)
 
-pub const_small : (o : Order) (u : Used) {k : ℕ} → fault o ≡ 0 → u ≡ padded (uses o) → u.operand ≡ Constant k → k ≤ 1007
-const_small o u {k} h e x = order_small o {x = Constant k} h (sym (ap (λ (v : Used). v.operand) e) ∙ x)
+pub const_small : (o : Order) (u : View) {k : ℕ} → fault o ≡ 0 → u ≡ padded (uses o) → u.operand ≡ Constant k → k ≤ 1007
+const_small o u {k} h e x = order_small o {x = Constant k} h (sym (ap (λ (v : View). v.operand) e) ∙ x)
 
 pub label_fits : (l : ℕ) → l ≤ last_user_label → label_fault l ≡ 0
 label_fits l h = rw (lt-ltb l 2039 (omega arith))

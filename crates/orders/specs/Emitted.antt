@@ -25,7 +25,6 @@ abbrev pub count_fault : Order → ℕ
 count_fault o = cond (registers_fit (uses o).registers) (number_of Count) (number_of Register)
 
 -- it writes a register outside the mask, or a saved one's cell: its own fault, then 11
--- (11 is handed on as a fault, so 2 of a label's number comes before it without a case of its own: `ranked`)
 abbrev pub unsaved_fault : (fault : ℕ) → ℕ
 unsaved_fault fault = cond (eqb fault 0) (number_of Unsaved) fault
 

@@ -1,5 +1,5 @@
 // mod.rs, orders: the words of each order, all or nothing. Registers are physical.
-ghost use Rattle.std.specs.Prelude.{◌≡◌, cond, ◌++◌, map, leb};
+ghost use Rattle.std.specs.Prelude.{◌≡◌, cond, [], ◌++◌, map, ◌≤◌, leb, length};
 ghost use Rattle.assembler.specs.Item.{instr};
 ghost use Rattle.assembler.specs.State.{before, after};
 ghost use Rattle.assembler.specs.Put.{targets};
@@ -12,7 +12,7 @@ ghost use Rattle.orders.specs.Inner.Parts.{instrs, rest_of};
 pub mod named;
 mod write;
 
-use assembler::{Answer, Asm, EmitResult, Fault, JumpKind, Jumps, Labels, Sets, Tail, Targets};
+use assembler::{Answer, Asm, EmitResult, Fault, Goes, JumpKind, Jumps, Labels, Sets, Tail};
 use ast::{Head, Operand, Order};
 use encoder::ZERO;
 pub use write::{
@@ -139,7 +139,7 @@ pub fn emit(
     let f = fault(o);
     let k = assembler::fault_number(f);
     if k != 0 {
-        return assembler::check_whole(f, Sets::Nothing, Targets::Nowhere, 0, buf, labels, asm);
+        return assembler::check_whole(f, Sets::Nothing, Goes::Nowhere, 0, buf, labels, asm);
     }
     let r = behind(o);
     match r {
@@ -172,16 +172,16 @@ fn unsaved(f: Fault) -> Fault
 }
 
 // Where the jumps of an order go, if it has no fault.
-fn order_targets(o: Order) -> Targets
+fn goes(o: Order) -> Goes
     ensures { goes_to result ≡ targets (items o) }
 {
     if assembler::fault_number(fault(o)) != 0 {
-        return Targets::Nowhere;
+        return Goes::Nowhere;
     }
     let r = behind(o);
     match r {
         Rest::Jumps(t) => assembler::goes_of(t),
-        Rest::Label(_) => Targets::Nowhere,
+        Rest::Label(_) => Goes::Nowhere,
         Rest::Alone(t) => assembler::goes_of(t),
     }
 }
@@ -205,7 +205,7 @@ pub fn emit_in(
         return assembler::check_whole(
             unsaved(fault(o)),
             Sets::Nothing,
-            order_targets(o),
+            goes(o),
             0,
             buf,
             labels,
@@ -215,7 +215,7 @@ pub fn emit_in(
     assembler::check_whole(
         count_fault(o),
         Sets::Nothing,
-        Targets::Nowhere,
+        Goes::Nowhere,
         0,
         buf,
         labels,

@@ -7,8 +7,8 @@ use native.Mathlib.Omega.{arith}
 use borrow.Author.Tests.{leb-true}
 use native.Mathlib.Nat.{zero-add}
 use lib.Dec.{leb}
-use lib.ListN.{length, take, drop}
-use lib.Seq.{sets, sets-eq, take_at}
+use lib.ListN.{length}
+use lib.Seq.{sets}
 use Rattle.print.specs.Text.{Puts, length_in}
 use Rattle.print.specs.declared.Text.{Text}
 use Rattle.print.specs.declared.Text.TheVariants as Text
@@ -40,8 +40,3 @@ pub text_room : (text buf left : List ℕ) (n : ℕ) (r : Text) → r ≡ length
 text_room text buf left n r e f g =
     let h = length_within text 0 buf n (sym e ∙ f) in
     omega arith
-
--- what was written from the start of a buffer on
-pub front : (z ls : List ℕ) → length ls ≤ length z → take (length ls) (sets z 0 ls) ≡ ls
-front z ls h =
-    ap (take (length ls)) (sets-eq ls z 0 (omega arith)) ∙ take_at ls (drop (0 + length ls) z) (length ls) refl

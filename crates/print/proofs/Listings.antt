@@ -1,4 +1,4 @@
--- The listing's lines: their parts, how long they are, and a turn of the loops over the words.
+-- The listing's lines: their parts, how long they are, and a turn of the loops over the words. Assumes nothing.
 use mathlib.Core.Path.{◌≡◌, refl, sym, ap, ◌∙◌}
 use mathlib.Core.Bool.{Bool, true, false, cond}
 use mathlib.Core.List.{List, [], ◌∷◌, ◌++◌}

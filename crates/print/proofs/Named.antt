@@ -1,4 +1,4 @@
--- The table of names: every row has its instruction's name. One test over the whole table, and what it says at each row.
+-- The table of names: every row has its instruction's name. One test over the whole table, and what it says at each row. Assumes nothing.
 use mathlib.Core.Path.{◌≡◌, refl, sym, ap, ◌∙◌}
 use mathlib.Core.Bool.{Bool, true, ◌&&◌}
 use mathlib.Core.List.{List, [], ◌∷◌, map}

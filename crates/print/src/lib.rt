@@ -5,10 +5,10 @@ ghost use Rattle.text.specs.Digits.{digit_byte, digits, decimal};
 ghost use Rattle.print.specs.Text.{Puts, hex, word_line, code_lines, refusal_line};
 ghost use Rattle.print.specs.Inner.Text.{word_in};
 
-mod disassembly;
+mod listing;
 mod reason;
 
-pub use disassembly::{first_foreign, lines_text, view_text};
+pub use listing::{first_foreign, lines_text, view_text};
 pub use reason::{put_text, reason_line, refusal_text};
 
 // How long a text is that was put into a buffer; nothing is put where it does not fit.

@@ -130,14 +130,14 @@ module _ (H : Head) (s : State) where
   table = record { start = s.x a1; size = 16 * cells H }
 
 -- the code: so many bytes from pc on, constants included
-abbrev pub code : (code-bytes : ℕ) → State → Region
-code code-bytes s = record { start = s.pc; size = code-bytes }
+abbrev pub code : (code_bytes : ℕ) → State → Region
+code code_bytes s = record { start = s.pc; size = code_bytes }
 
-module _ (H : Head) (code-bytes : ℕ) (s : State) where
+module _ (H : Head) (code_bytes : ℕ) (s : State) where
   -- "Code, frame below sp, and (in an indirect frame) the parameter block at a3"; with a1 zero the block at a0 joins, else the table
   abbrev pub regions : Frame → List Region
-  regions Fast = code code-bytes s ∷ frame H s ∷ []
-  regions Indirect = code code-bytes s ∷ frame H s ∷ params H s ∷ cond (eqb (s.x a1) 0) (block H s) (table H s) ∷ []
+  regions Fast = code code_bytes s ∷ frame H s ∷ []
+  regions Indirect = code code_bytes s ∷ frame H s ∷ params H s ∷ cond (eqb (s.x a1) 0) (block H s) (table H s) ∷ []
 
   pub record Terms : Type 0 where
     -- document 02, point 7: the code, the block where a0 is it, the table and its cells where it is used, the parameters if any,
@@ -149,7 +149,7 @@ module _ (H : Head) (code-bytes : ℕ) (s : State) where
     pub params-aligned : 0 < cell_count H Param → s.x a3 % 8 ≡ 0
     -- ra is "at a multiple of 4, ra outside the code; sp is a multiple of 16"
     pub ra-aligned : s.x ra % 4 ≡ 0
-    pub ra-outside : Within (code code-bytes s) (s.x ra) → ⊥
+    pub ra-outside : Within (code code_bytes s) (s.x ra) → ⊥
     pub sp-aligned : s.x sp % 16 ≡ 0
     pub separate : Separate (regions H.frame)
     -- "no state cell touches the frame, and no observation cell touches code, frame, table or parameters"

@@ -1,4 +1,4 @@
--- The record that is accepted is within its bounds.
+-- The record that is accepted is within its bounds. Assumes nothing.
 use mathlib.Core.Path.{◌≡◌, sym, ap, ◌∙◌}
 use mathlib.Core.Bool.{true, ◌&&◌}
 use mathlib.Core.List.{List, [], ◌++◌, append-nil}

@@ -1,4 +1,4 @@
--- The numbers of jumps that a routine leaves add up to its jump count: all that it does is placing and finishing.
+-- The numbers of jumps that a routine leaves add up to its jump count: all that it does is placing and finishing. Assumes nothing.
 use mathlib.Core.Path.{◌≡◌}
 use mathlib.Core.Bool.{Bool, true, false, cond}
 use mathlib.Core.List.{List, [], ◌∷◌, ◌++◌}
@@ -17,12 +17,12 @@ use Rattle.assembler.specs.Put.{put}
 use Rattle.assembler.specs.Constant.{constant_items, constant_fault}
 use Rattle.frame_code.specs.Items.{prologue, epilogue, saves, reloads}
 use Rattle.frame_code.specs.Fault.{prologue_fault, epilogue_fault}
-use Rattle.layout.specs.Layout.{padding}
+use Rattle.call.specs.Layout.{padding}
 use Rattle.finish.specs.Finish.{finish}
-use Rattle.finish.specs.Counted.{total, fresh, Since, start, placing, finishing}
+use Rattle.finish.specs.Counted.{total, Since, start, placing, finishing}
 use Rattle.finish.proofs.Counted.{adds}
 use Rattle.routine.specs.Routine.{Summary}
-use Rattle.routine.specs.Run.{RunOutcome, refused_at, on_to, next, finish_outcome, finish_run, constants_run, constants_then, padding_then, leave_run, says, line_run, waiting, lines_run, enter_run, head_run, first_run, file_run, cleared, blanked, run}
+use Rattle.routine.specs.Run.{RunOutcome, refused_at, on_to, next, finish_outcome, finish_run, constants_run, constants_then, padding_then, leave_run, says, line_run, waiting, lines_run, enter_run, head_run, first_run, file_run, cleared, fresh, blanked, run}
 use Rattle.routine.specs.Counted.{RunAdds}
 
 -- what follows on a state keeps it one
@@ -108,5 +108,5 @@ blank_adds (refused n line) s e = e
 pub run_adds : RunAdds
 unfolding run
 run_adds file js b =
-    let m = file_run file (fresh js (cleared b)) in
-    blank_adds m.answer m.state (adds m.state (file_since file (fresh js (cleared b)) (start js (cleared b))))
+    let m = file_run file (fresh js b) in
+    blank_adds m.answer m.state (adds m.state (file_since file (fresh js b) (start js (cleared b))))

@@ -1,4 +1,4 @@
--- The routine's run over lent memory is its plain definition: the answer, and the buffer afterwards.
+-- The routine's run over lent memory is its plain definition: the answer, and the buffer afterwards. Assumes nothing.
 use mathlib.Core.Path.{◌≡◌, refl, sym, ap, subst, ◌∙◌}
 use mathlib.Core.Bool.{Bool, true, false, cond}
 use mathlib.Core.List.{List, [], ◌∷◌, ◌++◌, append-nil}
@@ -24,13 +24,12 @@ use Rattle.frame_code.specs.Items.{prologue, saves}
 use Rattle.frame_code.specs.Fault.{prologue_fault}
 use Rattle.ast.specs.Counts.{prologue_holds, epilogue_holds, result_holds}
 use Rattle.finish.proofs.Represents.{Represents}
-use Rattle.finish.specs.Counted.{fresh}
 use Rattle.finish.proofs.All.{fresh_represents}
 use Rattle.reading.specs.Program.{Program, constants}
-use Rattle.layout.specs.Layout.{body, routine_words}
-use Rattle.layout.proofs.Labels.{Early}
+use Rattle.call.specs.Layout.{body, routine_words}
+use Rattle.call.proofs.Labels.{Early}
 use Rattle.routine.specs.Routine.{then, unless, shared, room_number, only, placed_at, as_head, head_read, lines_read, file_read, program_of, body_lines, summary_answer, buffer_after, Promise}
-use Rattle.routine.specs.Run.{RunOutcome, refused_at, next, enter_run, head_run, first_run, file_run, lines_run, cleared, blanked, run}
+use Rattle.routine.specs.Run.{RunOutcome, refused_at, next, enter_run, head_run, first_run, file_run, lines_run, cleared, fresh, blanked, run}
 use Rattle.routine.proofs.LawRoom.{space_number, room_space}
 use Rattle.routine.proofs.LawFit.{fit_append, fit_labelled, prologue_fit, saves_fit, shared_none, prologue_once, entry_early, saves_labels, saves_jumps}
 use Rattle.base.proofs.Each.{each_map}
@@ -165,15 +164,15 @@ kept b p m a = rw a.0 a.1
 -- ---- the laws
 
 module _ (file js b : List ℕ) (n : length js ≡ 20480) where
-  made : Agrees (cleared b) (program_of (length b) file) (file_run file (fresh js (cleared b)))
-  made = rw (cleared_length b) at (file_agrees (cleared b) (fresh js (cleared b)) (fresh_represents (cleared b) js n) file)
+  made : Agrees (cleared b) (program_of (length b) file) (file_run file (fresh js b))
+  made = rw (cleared_length b) at (file_agrees (cleared b) (fresh js b) (fresh_represents (cleared b) js n) file)
 
   -- The run is the plain definition, whatever the jump memory held.
   pub run_promise : Promise file b (run file js b).answer (run file js b).state.buf
   unfolding run
-  run_promise = promised b (program_of (length b) file) (file_run file (fresh js (cleared b))) made
+  run_promise = promised b (program_of (length b) file) (file_run file (fresh js b)) made
 
   -- What an accepted routine leaves in record, labels and jumps.
   pub run_accepted : (p : Program) → program_of (length b) file ≡ accepted p → Left (cleared b) p (run file js b).state
   unfolding run
-  run_accepted p e = kept (cleared b) p (file_run file (fresh js (cleared b))) (subst (λ (x : Answer Program). Agrees (cleared b) x (file_run file (fresh js (cleared b)))) e made)
+  run_accepted p e = kept (cleared b) p (file_run file (fresh js b)) (subst (λ (x : Answer Program). Agrees (cleared b) x (file_run file (fresh js b))) e made)

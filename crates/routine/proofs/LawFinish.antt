@@ -1,4 +1,4 @@
--- Finishing over memory is the plain definition's finishing.
+-- Finishing over memory is the plain definition's finishing. Assumes nothing.
 use mathlib.Core.Path.{◌≡◌, refl, sym, ap, subst, ◌∙◌}
 use mathlib.Core.Bool.{Bool, true, false, not, ◌||◌, cond}
 use mathlib.Core.List.{List, [], ◌∷◌}
@@ -26,8 +26,8 @@ use Rattle.finish.specs.Finish.{FinishOutcome, first, label_good, labels_good, j
 use Rattle.finish.proofs.Represents.{Represents, entry}
 use Rattle.finish.proofs.Resolves.{place_known, finish_represents}
 use Rattle.reading.specs.Program.{Program, constants}
-use Rattle.layout.specs.Layout.{span, items, place, constants_offset}
-use Rattle.layout.proofs.Items.{within, resolved_length}
+use Rattle.call.specs.Layout.{span, items, place, constants_offset}
+use Rattle.call.proofs.Items.{within, resolved_length}
 use Rattle.routine.specs.Routine.{unset, far, first_line, jump_lines, finished, refused_at}
 use Rattle.routine.specs.Run.{finish_run}
 use Rattle.routine.proofs.LawRoom.{span_words, laid_sound, set_among, made_among, made_few}

@@ -1,4 +1,4 @@
--- The items of frames, orders and constants: their jumps' registers and labels, and the labels that they set.
+-- The items of frames, orders and constants: their jumps' registers and labels, and the labels that they set. Assumes nothing.
 use mathlib.Core.Path.{◌≡◌, refl, subst}
 use mathlib.Core.Bool.{Bool, true, false, ◌&&◌, cond}
 use mathlib.Core.List.{List, [], ◌∷◌, ◌++◌, map, append_assoc}
@@ -29,10 +29,10 @@ use Rattle.orders.specs.Code.{base, unary_code, scratched_code, binary_code, cho
 use Rattle.orders.specs.Fault.{fault}
 use Rattle.finish.proofs.Represents.{Labelled}
 use Rattle.finish.proofs.All.{zero_else}
-use Rattle.layout.specs.Layout.{padding, constants_from}
-use Rattle.layout.proofs.Items.{Fresh}
-use Rattle.layout.proofs.Padding.{padding_is}
-use Rattle.layout.proofs.Labels.{Early, Late, entry_fresh, exit_fresh}
+use Rattle.call.specs.Layout.{padding, constants_from}
+use Rattle.call.proofs.Items.{Fresh}
+use Rattle.call.proofs.Padding.{padding_is}
+use Rattle.call.proofs.Labels.{Early, Late, entry_fresh, exit_fresh}
 use Rattle.routine.specs.Routine.{shared}
 use Rattle.routine.proofs.LawRoom.{Once}
 

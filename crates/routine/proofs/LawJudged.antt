@@ -1,4 +1,4 @@
--- A line that is judged good has no fault left for what is placed.
+-- A line that is judged good has no fault left for what is placed. Assumes nothing.
 use mathlib.Core.Path.{◌≡◌, refl}
 use mathlib.Core.Bool.{Bool, true, false, beq}
 use mathlib.Core.Option.{Option, some, none}

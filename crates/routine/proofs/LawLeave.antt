@@ -1,4 +1,4 @@
--- What follows the body: reloads, epilogue, the nop, constants and finishing, one after the other or as one.
+-- What follows the body: reloads, epilogue, the nop, constants and finishing, one after the other or as one. Assumes nothing.
 use mathlib.Core.Path.{◌≡◌, refl, sym, ap, ap₂, subst, ◌∙◌}
 use mathlib.Core.Bool.{true, false}
 use mathlib.Core.List.{List, [], ◌∷◌, ◌++◌, map, append-nil, append_assoc}
@@ -22,9 +22,9 @@ use Rattle.frame_code.specs.Fault.{epilogue_fault}
 use Rattle.ast.specs.Counts.{epilogue_holds}
 use Rattle.finish.proofs.Represents.{Represents}
 use Rattle.reading.specs.Program.{Program, constants}
-use Rattle.layout.specs.Layout.{span, body, padding, constants_from, entry, exit, code_items, pad, data_items, items, constants_offset}
-use Rattle.layout.proofs.Items.{span_append}
-use Rattle.layout.proofs.Labels.{Late}
+use Rattle.call.specs.Layout.{span, body, padding, constants_from, entry, exit, code_items, pad, data_items, items, constants_offset}
+use Rattle.call.proofs.Items.{span_append}
+use Rattle.call.proofs.Labels.{Late}
 use Rattle.routine.specs.Routine.{then, unless, shared, room_number, last_line, closed_off, finished, body_lines, jump_lines}
 use Rattle.routine.specs.Run.{RunOutcome, next, finish_run, constants_run, constants_then, padding_then, leave_run}
 use Rattle.routine.proofs.LawRoom.{Once, span_words, space_number, room_space}

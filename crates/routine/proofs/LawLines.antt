@@ -1,4 +1,4 @@
--- The lines one after the other.
+-- The lines one after the other. Assumes nothing.
 use mathlib.Core.Path.{◌≡◌, refl, sym, ap, subst, ◌∙◌}
 use mathlib.Core.Bool.{Bool, true, false, cond}
 use mathlib.Core.List.{List, [], ◌∷◌, ◌++◌, map, append-nil, append_assoc}
@@ -28,7 +28,7 @@ use Rattle.orders.proofs.Whole.{deck_fault, items_all}
 use Rattle.ast.specs.Counts.{epilogue_holds}
 use Rattle.finish.proofs.Represents.{Represents}
 use Rattle.reading.specs.Program.{Program, constants}
-use Rattle.layout.specs.Layout.{body, entry}
+use Rattle.call.specs.Layout.{body, entry}
 use Rattle.routine.specs.Routine.{then, unless, room_number, order_number, constant_number, placed_at, as_line, line_read, lines_read, next_line, last_line, with_line, closed_off, finished, body_lines}
 use Rattle.routine.specs.Run.{RunOutcome, refused_at, next, constant_run, line_run, waiting, lines_run}
 use Rattle.routine.proofs.LawFit.{Fit, fit_append, fit_labelled, code_fit, code_labels, each_append}

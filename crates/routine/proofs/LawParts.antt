@@ -1,4 +1,4 @@
--- The run over memory and the plain definition agree: what that says, and one order more.
+-- The run over memory and the plain definition agree: what that says, and one order more. Assumes nothing.
 use mathlib.Core.Path.{◌≡◌, refl, sym, ap, ◌∙◌}
 use mathlib.Core.Bool.{true, false}
 use mathlib.Core.List.{List, ◌++◌}
@@ -10,7 +10,6 @@ use Rattle.assembler.specs.Item.{Item}
 use Rattle.assembler.specs.Bytes.{written, room}
 use Rattle.assembler.specs.Memory.{jumps_of}
 use Rattle.assembler.proofs.Tags.{tags_of}
-use Rattle.assembler.proofs.Writes.{written_behind}
 use Rattle.assembler.specs.State.{State}
 use Rattle.base.proofs.Bools.{join}
 use Rattle.assembler.specs.Put.{words, jumps, labels, placed, put_number, settled, put}
@@ -19,8 +18,9 @@ use Rattle.assembler.proofs.Checks.{v-fault}
 use Rattle.assembler.proofs.Steps.{put_done, settled_no}
 use Rattle.finish.proofs.Represents.{Represents, Labelled, entry_of}
 use Rattle.finish.proofs.All.{put_represents}
+use Rattle.finish.proofs.Behind.{written_behind}
 use Rattle.reading.specs.Program.{Program}
-use Rattle.layout.specs.Layout.{items, code_length, routine_words}
+use Rattle.call.specs.Layout.{items, code_length, routine_words}
 use Rattle.routine.specs.Routine.{then, unless, shared, room_number, jump_lines, summary_of}
 use Rattle.routine.specs.Run.{RunOutcome, refused_at, next}
 use Rattle.routine.proofs.LawRoom.{Once, laid_size, laid_sound, numbers-known, put-room, space_number, room_space, space_none, space_part}

@@ -1,4 +1,4 @@
--- Over a state that items were placed in, an order is refused exactly where the plain definition refuses it.
+-- Over a state that items were placed in, an order is refused exactly where the plain definition refuses it. Assumes nothing.
 use mathlib.Core.Path.{◌≡◌, refl, sym, ap, ap₂, ◌∙◌}
 use mathlib.Core.Bool.{Bool, true, false, not, ◌&&◌, ◌||◌, cond}
 use mathlib.Core.List.{List, [], ◌∷◌, ◌++◌}
@@ -25,8 +25,8 @@ use Rattle.finish.proofs.Append.{label_within}
 use Rattle.finish.proofs.Each.{low_half}
 use Rattle.finish.proofs.All.{jumps_are}
 use Rattle.finish.proofs.Both.{sound_is}
-use Rattle.layout.specs.Layout.{span}
-use Rattle.layout.proofs.Items.{span_append}
+use Rattle.call.specs.Layout.{span}
+use Rattle.call.proofs.Items.{span_append}
 use Rattle.routine.specs.Routine.{shared, room_number}
 
 pub span_words : (is : List Item) → 4 * length (words is) ≡ span is
@@ -141,7 +141,6 @@ module _ (b : List ℕ) (is : List Item) (ts : List ℕ) (s : State) (a : Repres
   made_few l h = omega (arith, made_among l h, times_few l (targets is), jumps_are is)
 
   module _ (js : List Item) (h : Labelled js) where
-    -- in a routine no number is refused: its labels start zeroed, so no label has more jumps than there are
     pub numbers-known : numbers_sound s.labels (targets js) ≡ true
     numbers-known =
         all_is (number_holds s.labels 0) (targets js)

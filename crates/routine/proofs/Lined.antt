@@ -1,4 +1,4 @@
--- One line of the run, and line 1.
+-- One line of the run, and line 1. Assumes nothing.
 use mathlib.Core.Path.{◌≡◌, refl, sym, ap, ◌∙◌}
 use mathlib.Core.Bool.{Bool, true, false, cond}
 use mathlib.Core.List.{List, [], ◌∷◌, ◌++◌, append-nil}
@@ -24,8 +24,7 @@ use Rattle.assembler.specs.declared.EmitResult.{EmitResult}
 use Rattle.assembler.specs.declared.Answer.TheVariants.{Accepted, Refused}
 use Rattle.orders.specs.Emitted.{emitted_in}
 use Rattle.routine.specs.Inner.Places.{is_constant, first_said}
-use Rattle.finish.specs.Counted.{fresh}
-use Rattle.routine.specs.Run.{says, cleared, waiting, line_run, lines_run, leave_run, head_run, file_run, run}
+use Rattle.routine.specs.Run.{says, fresh, cleared, waiting, line_run, lines_run, leave_run, head_run, file_run, run}
 use Rattle.routine.specs.Answer.{run_outcome}
 use Rattle.routine.specs.declared.RoutineAnswer.TheVariants as Ruled
 use Rattle.routine.specs.declared.RoutineResult.{RoutineResult}
@@ -111,10 +110,10 @@ module _ (file : List ℕ) (s : State) where
 
 -- ---- the whole
 
-pub file_fresh : (file js b ls c : List ℕ) → ls ≡ replicate 2039 0 → c ≡ cleared b → file_run file (state (record { len = 0; jumps = 0; closed = false }) ls js c) ≡ file_run file (fresh js (cleared b))
+pub file_fresh : (file js b ls c : List ℕ) → ls ≡ replicate 2039 0 → c ≡ cleared b → file_run file (state (record { len = 0; jumps = 0; closed = false }) ls js c) ≡ file_run file (fresh js b)
 file_fresh file js b ls c e f = rw (e, f)
 
-module _ (file js b : List ℕ) (x : RoutineResult) (ls₂ js₂ b₂ : List ℕ) (e : run_outcome x ls₂ js₂ b₂ ≡ file_run file (fresh js (cleared b))) where
+module _ (file js b : List ℕ) (x : RoutineResult) (ls₂ js₂ b₂ : List ℕ) (e : run_outcome x ls₂ js₂ b₂ ≡ file_run file (fresh js b)) where
   pub run_refused : (r : Refusal) (line : ℕ) → x.answer ≡ Ruled.Refused r line → (b₃ : List ℕ) → b₃ ≡ cleared b₂ → run_outcome x ls₂ js₂ b₃ ≡ run file js b
   unfolding run
   run_refused r line h b₃ g = rw (← e, g, h)

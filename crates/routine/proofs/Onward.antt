@@ -1,4 +1,4 @@
--- What follows an answer, part by part of the run: a refusal ends it at its line, else the state is handed on.
+-- What follows an answer, part by part of the run: a refusal ends it at its line, else the state is handed on. Assumes nothing.
 use mathlib.Core.Path.{◌≡◌}
 use mathlib.Core.List.{List, ◌∷◌}
 use Prim.Native.Nat.{ℕ, ◌+◌}
@@ -18,7 +18,7 @@ use Rattle.finish.specs.Finish.{finish, finish_outcome}
 use Rattle.finish.specs.declared.FinishResult.{FinishResult}
 use Rattle.frame_code.specs.Items.{prologue, epilogue, saves, reloads}
 use Rattle.frame_code.specs.Fault.{prologue_fault, epilogue_fault}
-use Rattle.layout.specs.Layout.{padding}
+use Rattle.call.specs.Layout.{padding}
 use Rattle.routine.specs.Run.{RunOutcome, refused_at, next, enter_run, constants_run, constants_then, padding_then, finish_run, leave_run}
 use Rattle.routine.specs.Answer.{run_outcome}
 use Rattle.routine.specs.declared.RoutineAnswer.TheVariants as Ruled

@@ -1,4 +1,4 @@
--- The nop before constants, where it is placed and where nothing is.
+-- The nop before constants, where it is placed and where nothing is. Assumes nothing.
 use mathlib.Core.Path.{◌≡◌, refl, ap, ◌∙◌}
 use mathlib.Core.List.{[], ◌∷◌}
 use Prim.Native.Nat.{ℕ, zero, suc, ◌%◌, ◌<◌}
@@ -12,7 +12,7 @@ use Rattle.assembler.specs.State.{State}
 use Rattle.assembler.specs.Put.{words, targets, labels, place, placed, put}
 use Rattle.accesses.specs.Plans.{word_of}
 use Rattle.accesses.proofs.Collect.{answered, word}
-use Rattle.layout.specs.Layout.{nop, padding}
+use Rattle.call.specs.Layout.{nop, padding}
 
 pub padding_none : (n k : ℕ) → k ≡ 0 → padding n k ≡ []
 unfolding padding

@@ -1,4 +1,4 @@
--- Constants by their lines' places.
+-- Constants by their lines' places. Assumes nothing.
 use mathlib.Core.Path.{◌≡◌, ◌∙◌}
 use mathlib.Core.Bool.{true}
 use mathlib.Core.List.{List, ◌∷◌, ◌++◌, map-append}

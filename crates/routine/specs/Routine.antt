@@ -26,7 +26,7 @@ use Rattle.base.specs.Tests.{any, member}
 use Rattle.assembler.specs.Resolved.{jumps_in, place_in}
 use Rattle.orders.specs.Code.{code, line_code}
 use Rattle.reading.specs.Program.{Program, constants}
-use Rattle.layout.specs.Layout.{span, body, entry, exit, data_items, items, constants_offset, code_length, routine_words}
+use Rattle.call.specs.Layout.{span, body, entry, exit, data_items, items, constants_offset, code_length, routine_words}
 
 -- a refusal, or what is made of what was accepted
 abbrev pub then : {A B : Type 0} → Answer A → (A → Answer B) → Answer B
@@ -183,14 +183,14 @@ summary_answer (accepted p) = accepted (summary_of p)
 summary_answer (refused n line) = refused n line
 
 -- the code; none where the file is refused
-abbrev pub code_of : Answer Program → List ℕ
-code_of (accepted p) = bytes (routine_words p)
-code_of (refused n line) = []
+abbrev pub code_bytes : Answer Program → List ℕ
+code_bytes (accepted p) = bytes (routine_words p)
+code_bytes (refused n line) = []
 
 -- The buffer afterwards: the code, then zeros; bytes behind the room as they were.
 unfoldable pub buffer_after : Answer Program → List ℕ → List ℕ
 buffer_after a buf =
-    code_of a ++ (replicate (room (length buf) - length (code_of a)) 0 ++ drop (room (length buf)) buf)
+    code_bytes a ++ (replicate (room (length buf) - length (code_bytes a)) 0 ++ drop (room (length buf)) buf)
 
 -- What the routine promises of a file and a buffer: its answer, and the buffer afterwards.
 abbrev pub Promise : (file buf : List ℕ) → (answer : Answer Summary) → (after : List ℕ) → Type 0

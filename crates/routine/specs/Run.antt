@@ -16,11 +16,10 @@ use Rattle.assembler.specs.Constant.{constant_items, constant_fault}
 use Rattle.assembler.specs.State.{State, Outcome}
 use Rattle.assembler.specs.Put.{put}
 use Rattle.finish.specs.Finish.{finish}
-use Rattle.finish.specs.Counted.{fresh}
 use Rattle.orders.specs.Emitted.{emitted_in}
 use Rattle.frame_code.specs.Items.{prologue, epilogue, saves, reloads}
 use Rattle.frame_code.specs.Fault.{prologue_fault, epilogue_fault}
-use Rattle.layout.specs.Layout.{padding}
+use Rattle.call.specs.Layout.{padding}
 use Rattle.routine.specs.Routine.{Summary}
 
 -- what the routine answers, and the state it leaves
@@ -131,6 +130,11 @@ file_run file s = cond (leb (length file) 65536) (first_run (lines_of file) s) (
 unfoldable pub cleared : List ℕ → List ℕ
 cleared buf = replicate (room (length buf)) 0 ++ drop (room (length buf)) buf
 
+-- an empty record, no label set, a cleared buffer
+abbrev pub fresh : (jumps buf : List ℕ) → State
+fresh js b =
+    record { asm = record { len = 0; jumps = 0; closed = false }; labels = replicate 2039 0; jumps = js; buf = cleared b }
+
 abbrev pub with_buf : List ℕ → State → State
 with_buf b s = record { asm = s.asm; labels = s.labels; jumps = s.jumps; buf = b }
 
@@ -140,4 +144,4 @@ blanked (accepted t) s = record { answer = accepted t; state = s }
 blanked (refused n line) s = record { answer = refused n line; state = with_buf (cleared s.buf) s }
 
 unfoldable pub run : (file jumps buf : List ℕ) → RunOutcome
-run file js b = blanked (file_run file (fresh js (cleared b))).answer (file_run file (fresh js (cleared b))).state
+run file js b = blanked (file_run file (fresh js b)).answer (file_run file (fresh js b)).state

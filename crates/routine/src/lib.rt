@@ -7,7 +7,7 @@ ghost use Rattle.assembler.specs.Put.{put};
 ghost use Rattle.assembler.specs.declared.Answer.TheVariants.{Accepted as Taken, Refused as Stop};
 ghost use Rattle.ast.specs.Constant.{constant_limit};
 ghost use Rattle.fast.specs.Inner.Fast.{asm_of};
-ghost use Rattle.layout.specs.Layout.{padding};
+ghost use Rattle.call.specs.Layout.{padding};
 ghost use Rattle.routine.specs.Run.{cleared, enter_run, finish_run, leave_run, constant_run, says, line_run};
 ghost use Rattle.routine.specs.Run.{lines_run, file_run, run};
 ghost use Rattle.routine.specs.Routine.{Promise};

@@ -1,4 +1,4 @@
--- What is printed of a deck file, from what the routine leaves.
+-- What is printed of a deck file, from what the routine leaves. Assumes nothing.
 use mathlib.Core.Path.{◌≡◌, refl, ap, ◌∙◌}
 use mathlib.Core.List.{List}
 use Prim.Native.Nat.{ℕ, ◌^◌, ◌≤◌, ◌<◌}

@@ -1,4 +1,4 @@
--- The list of the memory that a routine leaves is that of its program.
+-- The list of the memory that a routine leaves is that of its program. Assumes nothing.
 use mathlib.Core.Path.{◌≡◌, refl, ap, ◌∙◌}
 use mathlib.Core.Bool.{Bool, true, false, not, ◌&&◌, ◌||◌, cond}
 use mathlib.Core.List.{List, [], ◌∷◌}
@@ -21,7 +21,7 @@ use Rattle.finish.proofs.All.{jumps_are}
 use Rattle.finish.proofs.Both.{sound_is}
 use Rattle.finish.proofs.Represents.{entry}
 use Rattle.reading.specs.Program.{Program}
-use Rattle.layout.specs.Layout.{items, code_length}
+use Rattle.call.specs.Layout.{items, code_length}
 use Rattle.routine.specs.Routine.{program_of}
 use Rattle.routine.specs.Run.{cleared, run}
 use Rattle.routine.proofs.Law.{run_accepted}

@@ -1,4 +1,4 @@
--- A file's own labels are set and jumped to by its lines alone.
+-- A file's own labels are set and jumped to by its lines alone. Assumes nothing.
 use mathlib.Core.Path.{◌≡◌, refl, ap, ◌∙◌}
 use mathlib.Core.Bool.{Bool, true, false, ◌||◌, cond}
 use mathlib.Core.List.{List, [], ◌∷◌, ◌++◌, map}
@@ -28,8 +28,8 @@ use Rattle.accesses.specs.Code.{li_code, sub_stack_code, allocate_stack_code, lo
 use Rattle.frame_code.specs.Items as F
 use Rattle.frame_code.specs.Items.{mv, opening, closing, times_over, states_from, state_copy, obs_copy, count_down, at_pro, at_epi, save, reload, by_frame, repeated, prologue, prologue_fast, prologue_indirect, epilogue, epilogue_fast, epilogue_indirect, saves, reloads}
 use Rattle.orders.specs.Code.{base, unary_code, scratched_code, binary_code, choose_code, code, line_code}
-use Rattle.layout.specs.Layout.{span, body, constants_from, entry, exit, code_items, pad, data_items, items}
-use Rattle.layout.proofs.Padding.{padding_is}
+use Rattle.call.specs.Layout.{span, body, constants_from, entry, exit, code_items, pad, data_items, items}
+use Rattle.call.proofs.Padding.{padding_is}
 use Rattle.stale.specs.Deck.{unused_by}
 use Rattle.stale.specs.Laws.{sets_label, jumps_to, LinesSay}
 use Rattle.unused.proofs.From.{member_append, exact_of}

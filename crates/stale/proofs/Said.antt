@@ -1,4 +1,4 @@
--- The text of the labels that are listed, and of the routine's answer.
+-- The text of the labels that are listed, and of the routine's answer. Assumes nothing.
 use mathlib.Core.Path.{◌≡◌, refl, sym, ap, subst, ◌∙◌}
 use mathlib.Core.Bool.{Bool, true, false, ◌&&◌, cond}
 use mathlib.Core.List.{List}
@@ -11,7 +11,6 @@ use Rattle.assembler.specs.State.{sound}
 use Rattle.assembler.specs.declared.Asm.{Asm}
 use Rattle.print.specs.Text.{Puts}
 use Rattle.print.specs.declared.Text.{Text}
-use Rattle.print.proofs.Fitting.{front}
 use Rattle.unused.specs.Unused.{is_unused, unused_in, numbers_good, listed, unused_answer, counted, put_list}
 use Rattle.stale.specs.Deck.{labels_text}
 use Rattle.stale.specs.Inner.Scan.{file_line}
@@ -19,6 +18,11 @@ use Rattle.stale.specs.Inner.Text.{list_of, count_of, line_in, memory_text, Says
 use Rattle.unused.specs.declared.Unused.{Unused}
 use Rattle.unused.proofs.From.{from_short}
 use Rattle.stale.proofs.Texts.{labels_short, same_text}
+
+-- what was written from the start on
+pub front : (z ls : List ℕ) → length ls ≤ length z → take (length ls) (sets z 0 ls) ≡ ls
+front z ls h =
+    ap (take (length ls)) (sets-eq ls z 0 (omega arith)) ∙ take_at ls (drop (0 + length ls) z) (length ls) refl
 
 -- ---- the list
 

@@ -1,4 +1,4 @@
--- The lines that set labels: as the loop over the file's lines notes them, and as the program has them.
+-- The lines that set labels: as the loop over the file's lines notes them, and as the program has them. Assumes nothing.
 use mathlib.Core.Path.{◌≡◌, refl, sym, ap, ◌∙◌}
 use mathlib.Core.Bool.{Bool, true, false, cond}
 use mathlib.Core.List.{List, [], ◌∷◌, map}

@@ -9,7 +9,7 @@ use Rattle.assembler.specs.Limit.{label_limit}
 use Rattle.assembler.specs.Item.{Item}
 use Rattle.assembler.specs.Put.{targets, labels}
 use Rattle.reading.specs.Program.{Program, label_line}
-use Rattle.layout.specs.Layout.{items}
+use Rattle.call.specs.Layout.{items}
 use Rattle.routine.specs.Routine.{program_of}
 use Rattle.unused.specs.Unused.{passing}
 

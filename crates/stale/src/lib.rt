@@ -13,13 +13,19 @@ ghost use Rattle.stale.specs.Deck.{label_text, own_text, labels_text, deck_label
 ghost use Rattle.stale.specs.Inner.Scan.{label_of, set_line, file_line};
 ghost use Rattle.stale.specs.Inner.Text.{count_of, line_in, memory_text, Within, summary_text, Says};
 
-use answer::DeckText;
 use assembler::{Asm, JUMPS, LABELS, Labels, ROOM};
 use ast::Operand;
 use deck::Judged;
 use print::Text;
 use routine::RoutineAnswer;
 use unused::Unused;
+
+// The routine's answer to a file, and how long the text of its labels is.
+#[derive(Drop)]
+pub struct DeckLabels {
+    pub answer: RoutineAnswer,
+    pub text: Text,
+}
 
 // A deck file's own labels are below this.
 const OWN: usize = 1024;
@@ -204,7 +210,7 @@ fn answer_text(
 
 // A deck file's stale labels, a line for each: the label, and the line that sets it; or the refusal. Whole in `out`, or not at all.
 // 11,264 bytes are enough.
-pub fn deck_labels(file: &[u8], out: &mut [u8]) -> DeckText
+pub fn deck_labels(file: &[u8], out: &mut [u8]) -> DeckLabels
     ensures { Puts (deck_labels file.now) 0 out.old result.text out.new
         × (routine_answer result.answer ≡ summary_answer (program_of 65536 file.now))
         × (length (deck_labels file.now) ≤ 11264) }
@@ -216,5 +222,5 @@ pub fn deck_labels(file: &[u8], out: &mut [u8]) -> DeckText
     let answer = left.answer;
     let asm = left.asm;
     let text = answer_text(file, answer, &labels, asm, out);
-    DeckText { answer, text }
+    DeckLabels { answer, text }
 }

@@ -1,7 +1,6 @@
 // Rows, one by one: a code or a deck file is put together, listed, and its answer and text compared.
 use crate::code::CODE;
-use answer::DeckText;
-use listing::{CodeAnswer, CodeListing, View};
+use listing::{CodeAnswer, CodeListing, DeckListing, View};
 use print::Text;
 use routine::RoutineAnswer;
 use test_rows::Outcome;
@@ -77,7 +76,7 @@ fn told(l: CodeListing) -> Numbers {
     with_text(number(a), place(a), t)
 }
 
-fn deck_told(l: DeckText) -> Numbers {
+fn deck_told(l: DeckListing) -> Numbers {
     let a = l.answer;
     let t = l.text;
     match a {

@@ -1,4 +1,4 @@
--- Bytes from place i of a list on, each of them b or not.
+-- Bytes from place i of a list on, each of them b or not. Assumes nothing.
 use mathlib.Core.Path.{◌≡◌}
 use mathlib.Core.Bool.{true, false}
 use mathlib.Core.List.{List}

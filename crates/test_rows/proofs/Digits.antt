@@ -1,4 +1,4 @@
--- Reading digits from place i of a list on.
+-- Reading digits from place i of a list on. Assumes nothing.
 use mathlib.Core.Path.{◌≡◌}
 use mathlib.Core.List.{List}
 use Prim.Native.Nat.{ℕ, ◌+◌, ◌*◌, ◌<◌, ◌≤◌}

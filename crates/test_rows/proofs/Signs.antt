@@ -1,4 +1,4 @@
--- -1 - m for m = 2^32 - 1 - n, as the needs of `signed` have it.
+-- -1 - m for m = 2^32 - 1 - n, as the needs of `signed` have it. Assumes nothing.
 use mathlib.Core.Path.{◌≡◌, refl, sym, ap, subst, ◌∙◌}
 use Prim.Native.Nat.{ℕ, zero, suc, ◌-◌, ◌<◌, ◌≤◌}
 use native.Mathlib.Omega.{arith}

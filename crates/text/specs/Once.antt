@@ -8,6 +8,5 @@ abbrev pub reads : List ℕ → Stopped
 reads s = record { numeral = numeral (read_decimal (field s)); stop = upto s }
 
 -- "No byte behind the field's comma alters the answer": bytes f are read alike whether a comma and any bytes t follow, or the line ends.
--- There is no premise: f may have a comma of its own.
 abbrev pub CommaEnds : Type 0
 CommaEnds = (f t : List ℕ) → reads (f ++ 44 ∷ t) ≡ reads f

@@ -394,7 +394,6 @@ pub fn short_field(s: &[u8]) -> ShortField
 
 // A number of one or two digits that a comma ends, in the field that starts at a, and where it ends; both take the same way.
 // It declines, by 100 and a, anything else, and fields that start fewer than three bytes before the end.
-// So what stands behind may change whether it declines, never what the line answers: a declined line goes the general way.
 pub fn near_field(s: &[u8], a: usize) -> ShortField
     ensures { result ≡ near s.now a }
 {

@@ -1,4 +1,4 @@
--- The list or its refusal, by what was tested.
+-- The list or its refusal, by what was tested. Assumes nothing.
 use mathlib.Core.Path.{◌≡◌, refl, ap, ◌∙◌}
 use mathlib.Core.Bool.{Bool, true, false, ◌&&◌, cond}
 use mathlib.Core.List.{List}

@@ -1,15 +1,15 @@
 use borrow.Author.Tests.{le-leb, lt-leb}
 use borrow.Author.Rules.{rules}
-use Rattle.assembler.specs.Constant.{stack_aligned}
+use Rattle.assembler.specs.Constant.{aligned}
 use Rattle.assembler.proofs.align_stack.Statement.{statement}
 use Rattle.assembler.proofs.align_stack.Tie as tie
 
 returns : tie.Need-returns
-unfolding stack_aligned
+unfolding aligned
 returns c = simp (le-leb _ _ c.if1.true)
 
 returns-2 : tie.Need-returns-2
-unfolding stack_aligned
+unfolding aligned
 returns-2 c = simp (lt-leb _ _ c.if1.false)
 
 pub align-stack-spec : {M : Type 1} → statement M

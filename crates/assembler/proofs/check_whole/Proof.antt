@@ -1,13 +1,15 @@
 use mathlib.Core.Path.{◌≡◌, sym, ap, ap₂, ◌∙◌}
+use mathlib.Core.Bool.{◌&&◌}
 use Prim.Native.Nat.{ℕ, ◌≤◌}
 use mathlib.Core.List.{List}
 use native.Mathlib.Omega.{arith}
+use lib.ListN.{length}
 use borrow.Author.Rules.{rules}
-use Rattle.assembler.specs.State.{State, state}
-use Rattle.assembler.specs.Put.{numbers_sound, numbers_fit, verdict, settled}
+use Rattle.assembler.specs.State.{State, state, sound, fits}
+use Rattle.assembler.specs.Put.{twice, numbers_sound, numbers_fit, ranked, verdict, settled}
 use Rattle.assembler.specs.Plan.{earlier, fault_number, labels_of, goes_to, sets_fault}
 use Rattle.assembler.proofs.Tests.{earlier_small}
-use Rattle.assembler.proofs.Plans.{whole_number}
+use Rattle.assembler.proofs.Plans.{asked, whole_number}
 use Rattle.assembler.proofs.Steps.{settled_yes, settled_refused}
 use Rattle.assembler.proofs.check_whole.Statement.{statement}
 use Rattle.assembler.proofs.check_whole.Tie as tie

@@ -5,7 +5,7 @@ use borrow.Author.Rules.{rules}
 use Rattle.assembler.specs.Item.{jump}
 use Rattle.assembler.specs.Plan.{jump_fault}
 use Rattle.assembler.specs.State.{State, state}
-use Rattle.assembler.specs.Put.{labels, place, placed, put_number}
+use Rattle.assembler.specs.Put.{words, targets, labels, twice, place, placed, put_number}
 use Rattle.assembler.proofs.Numbers.{holds_room, jump_number}
 use Rattle.assembler.proofs.Steps.{put_refused, put_done}
 use Rattle.assembler.proofs.jump.Statement.{statement}

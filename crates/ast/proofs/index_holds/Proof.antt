@@ -1,6 +1,7 @@
 use mathlib.Core.Path.{ap, ◌∙◌}
+use Prim.Native.Nat.{ℕ}
 use lib.Dec.{ltb}
-use Rattle.ast.proofs.Padded.{within}
+use Rattle.ast.proofs.Views.{within}
 use borrow.Author.Rules.{rules}
 use Rattle.ast.proofs.index_holds.Statement.{statement}
 use Rattle.ast.proofs.index_holds.Tie as tie

@@ -1,4 +1,4 @@
-use Rattle.ast.proofs.Padded.{no_a, no_b, no_c, by_d}
+use Rattle.ast.proofs.Views.{no_a, no_b, no_c, by_d}
 use borrow.Author.Rules.{rules}
 use Rattle.ast.proofs.registers_fit.Statement.{statement}
 use Rattle.ast.proofs.registers_fit.Tie as tie

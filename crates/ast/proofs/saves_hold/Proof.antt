@@ -1,6 +1,6 @@
 use mathlib.Core.Path.{sym, ◌∙◌}
 use borrow.Author.Tests.{not-true, not-false}
-use Rattle.ast.proofs.Padded.{no_first, no_second, by-operand}
+use Rattle.ast.proofs.Views.{no_first, no_second, by-operand}
 use borrow.Author.Rules.{rules}
 use Rattle.ast.proofs.saves_hold.Statement.{statement}
 use Rattle.ast.proofs.saves_hold.Tie as tie

@@ -6,31 +6,31 @@ returns : tie.Need-returns
 returns c = rw c.before.before.o.given.1 c.unary-uses.ensures
 
 returns-2 : tie.Need-returns-2
-returns-2 c = rw c.before.before.o2.given.1 c.used-of.ensures
+returns-2 c = rw c.before.before.o2.given.1 c.viewed.ensures
 
 returns-3 : tie.Need-returns-3
-returns-3 c = rw c.before.before.o3.given.1 c.used-of2.ensures
+returns-3 c = rw c.before.before.o3.given.1 c.viewed2.ensures
 
 returns-4 : tie.Need-returns-4
-returns-4 c = rw c.before.before.o4.given.1 c.used-of3.ensures
+returns-4 c = rw c.before.before.o4.given.1 c.viewed3.ensures
 
 returns-5 : tie.Need-returns-5
-returns-5 c = rw c.before.before.o5.given.1 c.used-of4.ensures
+returns-5 c = rw c.before.before.o5.given.1 c.viewed4.ensures
 
 returns-6 : tie.Need-returns-6
-returns-6 c = rw c.before.before.o6.given.1 c.used-of5.ensures
+returns-6 c = rw c.before.before.o6.given.1 c.viewed5.ensures
 
 returns-7 : tie.Need-returns-7
-returns-7 c = rw c.before.before.o7.given.1 c.used-of6.ensures
+returns-7 c = rw c.before.before.o7.given.1 c.viewed6.ensures
 
 returns-8 : tie.Need-returns-8
-returns-8 c = rw c.before.before.o8.given.1 c.used-of7.ensures
+returns-8 c = rw c.before.before.o8.given.1 c.viewed7.ensures
 
 returns-9 : tie.Need-returns-9
-returns-9 c = rw c.before.before.o9.given.1 c.used-of8.ensures
+returns-9 c = rw c.before.before.o9.given.1 c.viewed8.ensures
 
 returns-10 : tie.Need-returns-10
-returns-10 c = rw c.before.before.o10.given.1 c.used-of9.ensures
+returns-10 c = rw c.before.before.o10.given.1 c.viewed9.ensures
 
 pub uses-spec : {M : Type 1} → statement M
 uses-spec =

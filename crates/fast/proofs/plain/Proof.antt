@@ -1,7 +1,7 @@
 use mathlib.Core.Path.{refl, sym, ◌∙◌}
 use native.Mathlib.Omega.{arith}
 use Rattle.fast.specs.Inner.Packed.{unpacked}
-use Rattle.fast.proofs.Written.{plain_fits, cell_refused, record-refused, small, done}
+use Rattle.fast.proofs.Written.{plain_fits, few_jumps, cell_refused, record-refused, small, done}
 use borrow.Author.Rules.{rules}
 use Rattle.fast.proofs.plain.Statement.{statement}
 use Rattle.fast.proofs.plain.Tie as tie

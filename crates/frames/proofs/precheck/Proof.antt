@@ -1,6 +1,7 @@
 use mathlib.Core.Path.{◌≡◌, ap, ◌∙◌}
 use Prim.Native.Nat.{ℕ}
 use borrow.Author.Rules.{rules}
+use lib.ListN.{length}
 use Rattle.assembler.specs.State.{state}
 use Rattle.assembler.specs.Put.{verdict, settled}
 use Rattle.assembler.specs.Plan.{earlier, fault_number, labels_of, goes_to, sets_fault}

@@ -1,4 +1,5 @@
 use mathlib.Core.Path.{sym, ap, ◌∙◌}
+use mathlib.Core.List.{[]}
 use Rattle.assembler.specs.Plan.{goes_to}
 use Rattle.assembler.specs.State.{State, state}
 use Rattle.orders.specs.Emitted.{unsaved_fault}
@@ -30,7 +31,7 @@ returns-2 c =
     let i = k.before.before in
     let s = i.before.before.before in
     let a = s.args in
-    order_unsaved a.head a.tag a.o (whole s) g.before.unsaved.result (goes_to g.order-targets.result) _ (sym i.before.index_holds.ensures ∙ i.if1.true) (sym k.before.saves_hold.ensures ∙ k.if2.false) (g.before.unsaved.ensures ∙ ap unsaved_fault f.fault.ensures) g.order-targets.ensures (c.check-whole.ensures a.jumps.now)
+    order_unsaved a.head a.tag a.o (whole s) g.before.unsaved.result (goes_to g.goes.result) _ (sym i.before.index_holds.ensures ∙ i.if1.true) (sym k.before.saves_hold.ensures ∙ k.if2.false) (g.before.unsaved.ensures ∙ ap unsaved_fault f.fault.ensures) g.goes.ensures (c.check-whole.ensures a.jumps.now)
 
 returns-3 : tie.Need-returns-3
 returns-3 c =

@@ -1,4 +1,5 @@
 use borrow.Author.Tests.{le-leb, lt-leb}
+use borrow.Author.Rules.{rules}
 use Rattle.orders.proofs.up_to.Statement.{statement}
 use Rattle.orders.proofs.up_to.Tie as tie
 

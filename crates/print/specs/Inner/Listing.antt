@@ -2,7 +2,7 @@
 use Rattle.std.specs.Prelude.{cond, List, [], ◌∷◌, ◌++◌, ◌≡◌, ℕ, ◌-◌, ◌*◌, ◌^◌, ◌≤◌, ltb, length, get_or, take, drop}
 use Rattle.text.specs.Ascii.{bytes}
 use Rattle.text.specs.Digits.{decimal}
-use Rattle.print.specs.declared.disassembly.Operands.{Operands}
+use Rattle.print.specs.declared.listing.Operands.{Operands}
 
 -- ---- the table of names, in the order of the table of base words, eight bytes each
 

@@ -6,7 +6,7 @@ use Rattle.refusal.specs.Answer.{accepted}
 use Rattle.assembler.specs.Item.{Item}
 use Rattle.assembler.specs.State.{State, state}
 use Rattle.assembler.specs.Put.{put}
-use Rattle.layout.specs.Layout.{padding}
+use Rattle.call.specs.Layout.{padding}
 use Rattle.routine.proofs.Padded.{padding_none, padding_even, nop_word, word_placed}
 use Rattle.routine.proofs.pad.Statement.{statement}
 use Rattle.routine.proofs.pad.Tie as tie

@@ -1,6 +1,5 @@
 use mathlib.Core.Path.{◌≡◌, ◌∙◌}
-use Rattle.finish.specs.Counted.{fresh}
-use Rattle.routine.specs.Run.{cleared as blank, file_run}
+use Rattle.routine.specs.Run.{fresh, file_run}
 use Rattle.routine.specs.Answer.{run_outcome}
 use Rattle.routine.proofs.Lined.{file_fresh, run_refused, run_accepted}
 use borrow.Author.Rules.{rules}
@@ -18,7 +17,7 @@ begun c = c.before.before.before.before
 
 -- the file is read over a fresh state
 fresh-run : (c : tie.After-read-file) → let a = (start (begun (cleared c))).args in let r = c.read-file in
-    run_outcome r.result r.new.1.1.0 r.new.1.1.1.0 r.new.1.0 ≡ file_run a.file.now (fresh a.jumps.now (blank a.buf.now))
+    run_outcome r.result r.new.1.1.0 r.new.1.1.1.0 r.new.1.0 ≡ file_run a.file.now (fresh a.jumps.now a.buf.now)
 fresh-run c =
     let a = (start (begun (cleared c))).args in
     c.read-file.ensures ∙ file_fresh a.file.now a.jumps.now a.buf.now _ _ (cleared c).clear-labels.ensures (begun (cleared c)).clear.ensures

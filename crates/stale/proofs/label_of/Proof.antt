@@ -2,14 +2,14 @@ use borrow.Author.Rules.{rules}
 use mathlib.Core.Path.{◌∙◌, ap}
 use mathlib.Core.Option.{get_or}
 use Rattle.ast.specs.Uses.{label_set}
-use Rattle.ast.specs.declared.Used.{Used}
+use Rattle.ast.specs.declared.View.{View}
 use Rattle.stale.proofs.label_of.Statement.{statement}
 use Rattle.stale.proofs.label_of.Tie as tie
 
 returns : tie.Need-returns
 returns c =
     let j = c.before.before.before in
-    rw (← j.before.before.read_line.ensures, j.j.given.1) (c.operand-label.ensures ∙ ap (λ (v : Used). get_or (label_set v.operand) 1024) c.before.uses.ensures)
+    rw (← j.before.before.read_line.ensures, j.j.given.1) (c.operand-label.ensures ∙ ap (λ (v : View). get_or (label_set v.operand) 1024) c.before.uses.ensures)
 
 returns-2 : tie.Need-returns-2
 returns-2 c = rw (← c.before.before.read_line.ensures, c.enum_told.given.1)

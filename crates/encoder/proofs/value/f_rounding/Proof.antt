@@ -1,4 +1,5 @@
 use borrow.Author.Rules.{rules}
+use mathlib.Core.Path.{◌∙◌}
 use Rattle.encoder.proofs.Values.{f_fixed}
 use Rattle.encoder.proofs.value.f_rounding.Statement.{statement}
 use Rattle.encoder.proofs.value.f_rounding.Tie as tie

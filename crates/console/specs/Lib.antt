@@ -1,2 +1,0 @@
--- what a program prints: its arguments, and its two texts
-pub mod Output

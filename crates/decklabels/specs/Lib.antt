@@ -1,2 +1,0 @@
--- what the program prints
-pub mod Printed

@@ -1,0 +1,2 @@
+-- what the arguments ask for
+pub mod Arguments

@@ -1,0 +1,2 @@
+-- what was read of standard input
+pub mod Input

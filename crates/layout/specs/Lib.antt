@@ -1,2 +1,0 @@
--- the words of a routine, from its lines
-pub mod Layout

@@ -1,1 +1,0 @@
-// Definitions and their laws only: the words of a routine, from its lines.
