@@ -1,5 +1,7 @@
 // mod.rs, accesses: li, loads, stores, pairs and stack sizes. Each is placed whole, or refused and nothing changes.
 // A plan's words are the encoder's answers, collected.
+#![tactic(auto)]
+
 ghost use Rattle.std.specs.Prelude.{◌≡◌, [], ◌∷◌, map, ◌+◌, ◌≤◌, ◌<◌, min, ltb, pos, neg_ℤ};
 ghost use Rattle.isa.specs.Immediate.{lo};
 ghost use Rattle.isa.specs.Instr.{I};
@@ -169,7 +171,7 @@ fn far(base: u32, n: u32, last: Encoded) -> Plan
 }
 
 // What an access does with a cell.
-#[derive(Drop)]
+#[derive(Clone, Copy)]
 pub enum Cell {
     LoadFloat,
     SaveFloat,

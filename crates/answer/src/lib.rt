@@ -1,4 +1,6 @@
 // The routine's answer as text.
+#![tactic(auto)]
+
 ghost use Rattle.std.specs.Prelude.{◌≤◌, length};
 ghost use Rattle.print.specs.Text.{Puts};
 ghost use Rattle.routine.specs.Answer.{routine_answer};
@@ -8,7 +10,7 @@ use print::Text;
 use routine::RoutineAnswer;
 
 // How long the two texts are that were made of a file.
-#[derive(Drop)]
+#[derive(Clone, Copy)]
 pub struct DeckAnswer {
     pub text: Text,
     pub reason: Text,

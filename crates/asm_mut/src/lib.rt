@@ -2,6 +2,8 @@
 // Each function over it takes it apart, calls the function by value, and stores what came back.
 // `emit` serves every order and `lay_access` every access; `tag` is the caller's own number, kept with each jump.
 // `through` lends to `emit`.
+#![tactic(auto)]
+
 ghost use Rattle.std.specs.Prelude.{◌≡◌, [], ◌∷◌};
 ghost use Rattle.assembler.specs.Item.{raw, label, jump as jump_item};
 ghost use Rattle.assembler.specs.State.{before, after};
@@ -21,7 +23,7 @@ use ast::{Constant, Head, Order};
 // ---- the accesses, by value
 
 // Register and value; register, base and offset; a size.
-#[derive(Drop)]
+#[derive(Clone, Copy)]
 pub enum Access {
     Li(u32, i32),
     LoadFloat(u32, u32, u32),
@@ -244,7 +246,7 @@ pub fn epilogue(
 // ---- finishing
 
 // `tag` is the caller's own number of the jump that 5 or 6 is about, else 0.
-#[derive(Drop)]
+#[derive(Clone, Copy)]
 pub struct FinishAnswer {
     pub answer: Answer,
     pub tag: u32,

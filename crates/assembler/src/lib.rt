@@ -1,4 +1,6 @@
 // assembler.rs and utils.rs: words, labels and jumps in lent memory.
+#![tactic(auto)]
+
 ghost use Rattle.std.specs.Prelude.{◌≡◌, true, false, ◌&&◌, ◌||◌, cond, not, List, [], ◌∷◌, ℕ, ◌+◌, ◌*◌, ◌%◌, ◌/◌, ◌^◌, ◌≤◌, ◌<◌, min, leb, eqb, length, get_or, take, set};
 ghost use Rattle.std.proofs.lemmas.List.Edits.{sets};
 ghost use Rattle.refusal.specs.Answer.{accepted, refused};
@@ -36,7 +38,7 @@ pub type Labels = [u64; LABELS];
 pub type Jumps = [u32; JUMPS];
 
 // What finishing writes for a jump: `auipc` t0; `ld`, `jalr` or `fld` through t0; `beq` s2, zero; `bne` t2, zero.
-#[derive(Drop)]
+#[derive(Clone, Copy)]
 pub enum JumpKind {
     Auipc,
     Ld,
@@ -47,7 +49,7 @@ pub enum JumpKind {
 }
 
 // Written length, jump count and the closed mark.
-#[derive(Drop)]
+#[derive(Clone, Copy)]
 pub struct Asm {
     pub len: usize,
     pub jumps: usize,
@@ -55,20 +57,20 @@ pub struct Asm {
 }
 
 // A refusal has its reason and its place.
-#[derive(Drop)]
+#[derive(Clone, Copy)]
 pub enum Answer {
     Accepted,
     Refused(Refusal, u32),
 }
 
-#[derive(Drop)]
+#[derive(Clone, Copy)]
 pub struct EmitResult {
     pub asm: Asm,
     pub answer: Answer,
 }
 
 // Jumps behind the words of an order: none; one (label, register); or an `auipc` with its second word (label, register).
-#[derive(Drop)]
+#[derive(Clone, Copy)]
 pub enum Tail {
     Nothing,
     One(JumpKind, u32, u32),
@@ -76,7 +78,7 @@ pub enum Tail {
 }
 
 // What is wrong with an operand: document 01's numbers 1, 2, 3, 9, 10 and 11, or nothing. The others aren't an operand's.
-#[derive(Drop)]
+#[derive(Clone, Copy)]
 pub enum Fault {
     Nothing,
     Register,
@@ -88,7 +90,7 @@ pub enum Fault {
 }
 
 // An order: the first n of w, then a tail.
-#[derive(Drop)]
+#[derive(Clone, Copy)]
 pub struct Plan {
     pub n: usize,
     pub fault: Fault,
@@ -96,7 +98,7 @@ pub struct Plan {
 }
 
 // The labels that a whole would set.
-#[derive(Drop)]
+#[derive(Clone, Copy)]
 pub enum Sets {
     Nothing,
     One(u32),
@@ -105,7 +107,7 @@ pub enum Sets {
 }
 
 // The labels that the jumps of a whole go to, one for each jump.
-#[derive(Drop)]
+#[derive(Clone, Copy)]
 pub enum Goes {
     Nowhere,
     One(u32),
@@ -939,7 +941,7 @@ pub fn append_const(
     }
 }
 
-#[derive(Drop)]
+#[derive(Clone, Copy)]
 pub enum Aligned {
     Size(u32),
     Refused(Refusal, u32),

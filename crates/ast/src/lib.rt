@@ -1,4 +1,6 @@
 // The vocabulary that deck reader, orders, frames and routine share, and what they ask of an order, of a mask and of line 1.
+#![tactic(auto)]
+
 ghost use Rattle.std.specs.Prelude.{◌≡◌, ◌≤◌, ◌<◌};
 ghost use Rattle.ast.specs.Count.{cell_count};
 ghost use Rattle.ast.specs.Mask.{in_mask, is_preserved, save_cell, saves, free, open_cell};
@@ -6,7 +8,7 @@ ghost use Rattle.ast.specs.Counts.{prologue_holds, result_holds, epilogue_holds,
 ghost use Rattle.ast.specs.Uses.{uses as uses_of, registers_fit, index_holds, operand_open, saves_hold, padded};
 
 // Where a cell is: the block or frame at s1, the frame's cells at s5, the parameters at s4.
-#[derive(Drop)]
+#[derive(Clone, Copy)]
 pub enum Place {
     Mem,
     Stack,
@@ -14,7 +16,7 @@ pub enum Place {
 }
 
 // d, s
-#[derive(Drop)]
+#[derive(Clone, Copy)]
 pub enum Unary {
     Fmov,
     Recip,
@@ -24,14 +26,14 @@ pub enum Unary {
 }
 
 // d, s and a scratch register
-#[derive(Drop)]
+#[derive(Clone, Copy)]
 pub enum Scratched {
     Sign,
     Frac,
 }
 
 // d, s1, s2
-#[derive(Drop)]
+#[derive(Clone, Copy)]
 pub enum Binary {
     Minus,
     Times,
@@ -45,7 +47,7 @@ pub enum Binary {
 }
 
 // d, s1, s2, s3
-#[derive(Drop)]
+#[derive(Clone, Copy)]
 pub enum Fused {
     MulAdd,
     MulSub,
@@ -54,7 +56,7 @@ pub enum Fused {
 }
 
 // One order of document 01. Registers are numbers of float registers.
-#[derive(Drop)]
+#[derive(Clone, Copy)]
 pub enum Order {
     Unary(Unary, u32, u32),
     Scratched(Scratched, u32, u32, u32),
@@ -75,21 +77,21 @@ pub enum Order {
 }
 
 // A constant, a float value or a raw word: turned into bits when it is appended.
-#[derive(Drop)]
+#[derive(Clone, Copy)]
 pub enum Constant {
     Float(f64),
     Bits(u64),
 }
 
 // The two frames.
-#[derive(Drop)]
+#[derive(Clone, Copy)]
 pub enum Frame {
     Fast,
     Indirect,
 }
 
 // Line 1: `last` is the result cell of a fast frame, the count of parameters of an indirect one.
-#[derive(Drop)]
+#[derive(Clone, Copy)]
 pub struct Head {
     pub frame: Frame,
     pub cap: u32,
@@ -100,7 +102,7 @@ pub struct Head {
 }
 
 // An order's operand that is no register: a cell, a constant, a label.
-#[derive(Drop)]
+#[derive(Clone, Copy)]
 pub enum Operand {
     Nothing,
     Loaded(Place, u32),
@@ -111,7 +113,7 @@ pub enum Operand {
 }
 
 // What an order uses: its registers, 0 where it has fewer than four; those that it writes, 32 where there are fewer than two.
-#[derive(Drop)]
+#[derive(Clone, Copy)]
 pub struct View {
     pub a: u32,
     pub b: u32,

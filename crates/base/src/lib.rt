@@ -1,1 +1,2 @@
 // Definitions and laws only (specs/, proofs/): tests over lists, and laws of tests.
+#![tactic(auto)]

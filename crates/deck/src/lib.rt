@@ -1,4 +1,6 @@
 // Document 01, "The deck file" and "Numbers of refusal": what a line says, or why it is refused.
+#![tactic(auto)]
+
 ghost use Rattle.std.specs.Prelude.{◌≡◌};
 ghost use Rattle.refusal.specs.Answer.{accepted};
 ghost use Rattle.refusal.specs.declared.Refusal.TheVariants.{Register, Count};
@@ -12,7 +14,7 @@ use form::Form;
 use refusal::Refusal;
 use text::Number;
 
-#[derive(Drop)]
+#[derive(Clone, Copy)]
 pub enum Judged {
     Head(Head),
     Order(Order),

@@ -2,6 +2,8 @@
 // (document 02, point 2). A refusal goes to standard error too, in words.
 // Any argument gets a usage line on standard error, and nothing on standard output.
 // Where standard input can't be read, or standard output takes less than all, a message goes to standard error.
+#![tactic(auto)]
+
 use input::{FILE, Input};
 use libc::{STDERR_FILENO, STDOUT_FILENO};
 use print::Text;

@@ -2,6 +2,8 @@
 // the maintainer's view, or with the argument `attendant` the attendant's. A refusal goes to standard error too, in words.
 // Any other arguments get a usage line on standard error, and nothing on standard output.
 // Where standard input can't be read, or standard output takes less than all, a message goes to standard error.
+#![tactic(auto)]
+
 ghost use Rattle.std.specs.Prelude.{◌≡◌};
 ghost use Rattle.decklist.specs.Inner.Arguments.{asked_for};
 
@@ -20,7 +22,7 @@ const REASON: usize = 128;
 const WORD: usize = 16;
 
 // What the arguments ask for.
-#[derive(Drop)]
+#[derive(Clone, Copy)]
 enum Asked {
     For(View),
     Unknown,

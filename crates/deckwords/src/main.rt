@@ -1,6 +1,8 @@
 // Reads a deck file on standard input and prints its words with their byte offsets, or its refusal (document 01, "The deck file").
 // A refusal goes to standard error too, in words.
 // Where standard input can't be read, or standard output takes less than all, a message goes to standard error.
+#![tactic(auto)]
+
 use input::{FILE, Input};
 use libc::{STDERR_FILENO, STDOUT_FILENO};
 use print::Text;

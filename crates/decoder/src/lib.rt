@@ -1,5 +1,7 @@
 // A word's base instruction (document 02, point 5). A table tells the operation by the word's fixed fields, and the encoder is asked for
 // the word again: where it gives another one, or none, no instruction has the word.
+#![tactic(auto)]
+
 ghost use Rattle.std.specs.Prelude.{◌≡◌, cond, ◌+◌, ◌*◌, ◌-◌, ◌/◌, ◌%◌, ◌<◌, ◌≤◌, ltb, pos, negsuc};
 ghost use Rattle.isa.specs.Decode.{cut, decode};
 ghost use Rattle.encoder.specs.Instr.{instr_of};
@@ -9,7 +11,7 @@ ghost use Rattle.decoder.specs.Inner.Operation.{place_of, operation_of, candidat
 use encoder::{Encoded, Instr};
 
 // What a word is.
-#[derive(Drop)]
+#[derive(Clone, Copy)]
 pub enum Decoded {
     Is(Instr),
     Foreign,

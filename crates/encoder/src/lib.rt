@@ -1,5 +1,7 @@
 // macros.rs: the word of an instruction, or its refusal. `rvv!` becomes a function for each form, operands in its order;
 // dots in a name become underscores, and `fadd.d` with a rounding mode is `fadd_d_rm`. `addiw`, which `rvv!` lacks, is document 02's.
+#![tactic(auto)]
+
 ghost use Rattle.std.specs.Prelude.{◌≡◌, true, ◌≤◌, ◌<◌, T, pos, negsuc, get_or, [], ◌∷◌};
 ghost use Rattle.encoder.specs.Answer.{word_answer, encoded};
 ghost use Rattle.encoder.specs.Table.{row_of};
@@ -53,14 +55,14 @@ pub const S5: u32 = 21;
 pub const FA0: u32 = 10;
 
 // What an encoder function answers.
-#[derive(Drop)]
+#[derive(Clone, Copy)]
 pub enum Encoded {
     Word(u32),
     Refused(Refusal, u32),
 }
 
 // A base instruction, by the shape of its operands: the operation's number there, and the operands in the order of the Manual's fields.
-#[derive(Drop)]
+#[derive(Clone, Copy)]
 pub enum Instr {
     // rd, rs1, rs2
     R(usize, u32, u32, u32),
@@ -317,7 +319,7 @@ fn rounding(rm: u32) -> bool
 }
 
 // A signed number by its sign: n for NonNeg(n), -1 - n for Neg(n).
-#[derive(Drop)]
+#[derive(Clone, Copy)]
 pub enum Sign {
     NonNeg(u32),
     Neg(u32),
@@ -334,7 +336,7 @@ pub fn split(z: i32) -> Sign
 }
 
 // The bits of an immediate in its field, or that the field does not hold it.
-#[derive(Drop)]
+#[derive(Clone, Copy)]
 enum Field {
     Bits(u32),
     Outside,

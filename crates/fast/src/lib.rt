@@ -1,5 +1,7 @@
 // The fast path through one line of a deck, by numbers that stay in registers.
 // It takes an accepted order where the longest order would have room; all other lines go the general way.
+#![tactic(auto)]
+
 ghost use Rattle.std.specs.Prelude.{◌≡◌, true, ◌+◌, ◌*◌, ◌/◌, ◌%◌, ◌≤◌, ◌<◌, leb, length};
 ghost use Rattle.std.proofs.Math.Option.{map};
 ghost use Rattle.text.specs.Readers.{fields_from};

@@ -1,4 +1,6 @@
 // assembler.rs, `apply_jumps`: finishing.
+#![tactic(auto)]
+
 ghost use Rattle.std.specs.Prelude.{◌≡◌, Bool, true, false, cond, not, ℕ, ◌+◌, ◌-◌, ◌*◌, ◌≤◌, ◌<◌, eqb, length, get_or};
 ghost use Rattle.std.proofs.Math.IntN.{sub_ℕ};
 ghost use Rattle.isa.specs.Immediate.{twos, lo as lo_part};
@@ -20,7 +22,7 @@ use encoder::{Encoded, S2, T0, T2, ZERO};
 use refusal::Refusal;
 
 // `tag` is the caller's own number of the jump that 5 or 6 is about, else 0.
-#[derive(Drop)]
+#[derive(Clone, Copy)]
 pub struct FinishResult {
     pub asm: Asm,
     pub answer: Answer,

@@ -1,4 +1,6 @@
 // Document 01, "The deck file": a line's kind and fields. Ranges are judged above (`deck`).
+#![tactic(auto)]
+
 ghost use Rattle.std.specs.Prelude.{◌≡◌, cond};
 ghost use Rattle.text.specs.Readers.{split, fields_from, next_from};
 ghost use Rattle.form.specs.Text.{place_name, flag_name};
@@ -14,7 +16,7 @@ pub use name::{NameField, binary_at, fused_at, read_name, scratched_at, unary_at
 use text::{Integer, Number, Numeral, Word};
 
 // What a line's first word says.
-#[derive(Drop)]
+#[derive(Clone, Copy)]
 pub enum Kind {
     Head(Frame),
     Unary(Unary),
@@ -32,7 +34,7 @@ pub enum Kind {
 }
 
 // A line's kind and fields, in document 01's order.
-#[derive(Drop)]
+#[derive(Clone, Copy)]
 pub enum Form {
     Head(Frame, Number, Number, Number, Number, Number),
     Unary(Unary, Number, Number),
@@ -51,33 +53,33 @@ pub enum Form {
     Malformed,
 }
 
-#[derive(Drop)]
+#[derive(Clone, Copy)]
 pub enum Named {
     Is(Kind),
     Unknown,
 }
 
 // The last five number fields; where there are fewer, 0 stands in front.
-#[derive(Drop)]
+#[derive(Clone, Copy)]
 pub enum Numbers {
     Are(Number, Number, Number, Number, Number),
     Malformed,
 }
 
-#[derive(Drop)]
+#[derive(Clone, Copy)]
 pub enum Where {
     Is(Place),
     Malformed,
 }
 
 // What a place field says, and where the next field starts.
-#[derive(Drop)]
+#[derive(Clone, Copy)]
 struct PlaceField {
     place: Where,
     next: usize,
 }
 
-#[derive(Drop)]
+#[derive(Clone, Copy)]
 pub enum Flag {
     Is(bool),
     Malformed,

@@ -11,7 +11,7 @@ use crate::{Kind, Named};
 use ast::{Binary, Frame, Fused, Scratched, Unary};
 
 // A line's first word: its kind's number, and where it ends.
-#[derive(Drop)]
+#[derive(Clone, Copy)]
 pub struct NameField {
     pub code: u64,
     pub end: usize,

@@ -1,1 +1,2 @@
 // Definitions and theorems of the two frames; the functions stand in `frames`.
+#![tactic(auto)]

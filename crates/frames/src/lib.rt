@@ -1,4 +1,6 @@
 // mod.rs, frames: prologues, epilogues, saves and reloads. Each is placed whole, or refused and nothing changes.
+#![tactic(auto)]
+
 ghost use Rattle.std.specs.Prelude.{◌≡◌, true, false, cond, [], ◌∷◌, ◌++◌, map, ℕ, ◌+◌, ◌*◌, ◌≤◌, ◌<◌, ltb, pos, length};
 ghost use Rattle.ast.specs.Count.{cells};
 ghost use Rattle.isa.specs.Register.{sp, s1, s5, fa0};

@@ -1,4 +1,6 @@
 // Deck files and single orders for a caller in C or Rust: numbers and lent memory (include/handheld.h).
+#![tactic(auto)]
+
 ghost use Rattle.std.specs.Prelude.{◌≡◌, List, [], ℕ};
 ghost use Rattle.refusal.specs.Number.{number_of};
 ghost use Rattle.form.specs.Grammar.{said};
@@ -216,7 +218,7 @@ pub extern "C" fn deck_view(file: &[u8], view: u32, out: &mut [u8], told: &mut [
 // ---- single orders
 
 // What a line says: an order, a constant, a float beyond 2^53, or none of these.
-#[derive(Drop)]
+#[derive(Clone, Copy)]
 pub enum Said {
     Order(Order),
     Constant(Constant),

@@ -1,6 +1,8 @@
 // A file on standard input, for the programs.
 // C's `read` leaves open which bytes come, how many, and whether it fails.
 // So what is promised is that the count fits its buffer, and no failure where there is no room.
+#![tactic(auto)]
+
 ghost use Rattle.std.specs.Prelude.{length};
 ghost use Rattle.input.specs.Input.{Within};
 
@@ -12,7 +14,7 @@ pub const FILE: usize = 65537;
 const BLOCK: usize = 65536;
 
 // How many bytes were read, or that a read failed.
-#[derive(Drop)]
+#[derive(Clone, Copy)]
 pub enum Input {
     Read(usize),
     Failed,

@@ -1,1 +1,2 @@
 // Definitions and laws only (specs/): the instructions, their encodings and the way back.
+#![tactic(auto)]

@@ -1,4 +1,6 @@
 // Document 01, "The deck file": the line reader, which keeps the bytes of the file together with its position.
+#![tactic(auto)]
+
 ghost use Rattle.std.specs.Prelude.{◌≡◌};
 ghost use Rattle.text.specs.Lines.{Ends};
 ghost use Rattle.lines.specs.Reader.{behind};

@@ -1,4 +1,6 @@
 // The listing (document 02, points 5 and 10): code, and a deck file's routine, as text for the screen. It rests on what the routine promises.
+#![tactic(auto)]
+
 ghost use Rattle.std.specs.Prelude.{◌≡◌, ◌&&◌, ◌≤◌, ◌*◌, ◌/◌, ◌%◌, eqb, leb, length};
 ghost use Rattle.std.proofs.Math.Option.{get_or};
 ghost use Rattle.refusal.specs.Answer.{refused};
@@ -25,7 +27,7 @@ const FOREIGN: u8 = 14;
 const ROOM: usize = 65536;
 
 // Listed; or refused, by 2 for the constants' offset, or by 14 for the word at this place.
-#[derive(Drop)]
+#[derive(Clone, Copy)]
 pub enum CodeAnswer {
     Listed,
     Offset,
@@ -33,21 +35,21 @@ pub enum CodeAnswer {
 }
 
 // The answer, and how long the text is that was put into the buffer.
-#[derive(Drop)]
+#[derive(Clone, Copy)]
 pub struct CodeListing {
     pub answer: CodeAnswer,
     pub text: Text,
 }
 
 // Who looks at a deck file's listing.
-#[derive(Drop)]
+#[derive(Clone, Copy)]
 pub enum View {
     Maintainer,
     Attendant,
 }
 
 // The routine's answer to a file, and how long its listing is.
-#[derive(Drop)]
+#[derive(Clone, Copy)]
 pub struct DeckListing {
     pub answer: RoutineAnswer,
     pub text: Text,

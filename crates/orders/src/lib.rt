@@ -1,4 +1,6 @@
 // mod.rs, orders: the words of each order, all or nothing. Registers are physical.
+#![tactic(auto)]
+
 ghost use Rattle.std.specs.Prelude.{◌≡◌, cond, [], ◌++◌, map, ◌≤◌, leb, length};
 ghost use Rattle.assembler.specs.Item.{instr};
 ghost use Rattle.assembler.specs.State.{before, after};
@@ -21,7 +23,7 @@ pub use write::{
 };
 
 // What stands behind the instructions of an order: jumps. Or it has no instructions, and is a label or jumps alone.
-#[derive(Drop)]
+#[derive(Clone, Copy)]
 enum Rest {
     Jumps(Tail),
     Label(u32),

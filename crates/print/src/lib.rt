@@ -1,4 +1,6 @@
 // Numbers, words and refusals as text in a lent buffer.
+#![tactic(auto)]
+
 ghost use Rattle.std.specs.Prelude.{◌≡◌, ◌+◌, ◌≤◌, ◌<◌, leb, length};
 ghost use Rattle.std.proofs.lemmas.List.Edits.{sets};
 ghost use Rattle.text.specs.Digits.{digit_byte, digits, decimal};
@@ -12,14 +14,14 @@ pub use listing::{first_foreign, lines_text, view_text};
 pub use reason::{put_text, reason_line, refusal_text};
 
 // How long a text is that was put into a buffer; nothing is put where it does not fit.
-#[derive(Drop)]
+#[derive(Clone, Copy)]
 pub enum Text {
     Length(usize),
     TooLong,
 }
 
 // Where the first foreign word stands.
-#[derive(Drop)]
+#[derive(Clone, Copy)]
 pub enum First {
     At(usize),
     Nowhere,

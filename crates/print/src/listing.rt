@@ -77,7 +77,7 @@ const LENGTHS: [u8; 53] = [
 ];
 
 // What stands behind an instruction's name: n numbers, 2^32 more for one with a minus.
-#[derive(Drop)]
+#[derive(Clone, Copy)]
 struct Operands {
     n: usize,
     values: [u64; 5],

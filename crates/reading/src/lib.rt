@@ -1,1 +1,2 @@
 // What the orders mean: definitions only.
+#![tactic(auto)]

@@ -1,4 +1,6 @@
 // Document 01, "Added: the routine".
+#![tactic(auto)]
+
 ghost use Rattle.std.specs.Prelude.{◌≡◌, false, List, [], ◌++◌, ℕ, ◌≤◌, ◌<◌, length, take, drop, replicate};
 ghost use Rattle.text.specs.Lines.{lines_of};
 ghost use Rattle.assembler.specs.Bytes.{room};
@@ -26,21 +28,21 @@ const CONSTANTS: usize = 1008;
 type Places = [u16; CONSTANTS];
 
 // Accepted: the code's length, the constants' offset and count, the jump count, the frame. Refused: with its line.
-#[derive(Drop)]
+#[derive(Clone, Copy)]
 pub enum RoutineAnswer {
     Accepted(u32, u32, u32, u32, Frame),
     Refused(Refusal, u32),
 }
 
 // The answer, and the record that is left.
-#[derive(Drop)]
+#[derive(Clone, Copy)]
 pub struct RoutineResult {
     pub asm: Asm,
     pub answer: RoutineAnswer,
 }
 
 // What a line did; `waits` where it is a constant, which is placed at the end.
-#[derive(Drop)]
+#[derive(Clone, Copy)]
 struct Step {
     done: EmitResult,
     waits: bool,

@@ -1,4 +1,6 @@
 // A deck file's stale labels, each with the line that sets it, as text (document 02, point 2). It knows the routine by its promise.
+#![tactic(auto)]
+
 ghost use Rattle.std.specs.Prelude.{◌≡◌, ℕ, ◌+◌, ◌≤◌, ◌<◌, length, drop, get_or};
 ghost use Rattle.std.proofs.Math.Option;
 ghost use Rattle.std.proofs.lemmas.List.Edits.{sets};
@@ -21,7 +23,7 @@ use routine::RoutineAnswer;
 use unused::Unused;
 
 // The routine's answer to a file, and how long the text of its labels is.
-#[derive(Drop)]
+#[derive(Clone, Copy)]
 pub struct DeckLabels {
     pub answer: RoutineAnswer,
     pub text: Text,

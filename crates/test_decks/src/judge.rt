@@ -17,7 +17,7 @@ const SPOILED_LABEL: u64 = 0x123456789abcdef1;
 const SPOILED_JUMP: u32 = 0xfedcba98;
 
 // What a row comes to, and the bytes of the deck at hand.
-#[derive(Drop)]
+#[derive(Clone, Copy)]
 pub struct Came {
     pub outcome: Outcome,
     pub size: usize,
@@ -26,7 +26,7 @@ pub struct Came {
 // ---- answers as numbers
 
 // Refused: 0, number, line. Accepted: 1 fast or 2 indirect, length, the constants' offset and count, jumps.
-#[derive(Drop)]
+#[derive(Clone, Copy)]
 struct Numbers {
     kind: u32,
     a: u32,

@@ -1,5 +1,7 @@
 // Replays whole decks: the Rust's words, and document 01's refusals; and document 02's list of labels that nobody jumps to.
 // tools/decks/record.py makes the list on standard input, and says what its rows are. A row that cannot be read counts as a mismatch.
+#![tactic(auto)]
+
 mod judge;
 mod list;
 mod piece;

@@ -1,6 +1,8 @@
 // Replays published encodings against the encoder. tools/vectors/vectors.py makes the list on standard input: a row is form number,
 // form name, four operands, `word` or `refused`, and the word or the refusal's number; all numbers have their hexadecimal digits
 // in full, and an immediate is its two's complement in 32 bits. A row that cannot be read counts as a mismatch.
+#![tactic(auto)]
+
 mod form;
 
 ghost use Rattle.std.specs.Prelude.{◌≡◌};
@@ -13,7 +15,7 @@ use test_rows::{Hex, Outcome, Tally};
 const ROW: usize = 66;
 
 // What a row expects of the encoder.
-#[derive(Drop)]
+#[derive(Clone, Copy)]
 enum Expected {
     Word(u32),
     Refused(u32),

@@ -1,7 +1,7 @@
 // A case: calls on one assembler, from fresh memory on, and how far its code is compared.
 use assembler::{Answer, Asm, EmitResult};
 
-#[derive(Drop)]
+#[derive(Clone, Copy)]
 pub struct Case {
     pub asm: Asm,
     // the number of the last call's refusal, 0 for none, and its place

@@ -9,7 +9,7 @@ use unused::Unused;
 const STDOUT: i32 = 1;
 
 // Rows and mismatches so far, the row of the family, how many of its answers agreed (the rows accepted), and the case at hand.
-#[derive(Drop)]
+#[derive(Clone, Copy)]
 pub struct State {
     pub tally: Tally,
     pub family: Row,

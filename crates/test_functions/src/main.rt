@@ -1,5 +1,7 @@
 // Replays recorded answers: the Rust's, GNU as's where the Rust isn't asked, the documents' refusals and numbers of jumps.
 // tools/oracle/record.py makes the list on standard input, and says what its rows are. A row that cannot be read counts as a mismatch.
+#![tactic(auto)]
+
 mod call;
 mod case;
 mod judge;

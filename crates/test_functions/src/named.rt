@@ -5,7 +5,7 @@ use ast::{Binary, Frame, Fused, Head, Order, Place, Scratched, Unary};
 
 // ---- numbers: each shape has a block of its own
 
-#[derive(Drop)]
+#[derive(Clone, Copy)]
 pub enum Numbered {
     Is(Order),
     Nothing,

@@ -2,7 +2,7 @@
 use assembler::Asm;
 use test_rows::Hex;
 
-#[derive(Drop)]
+#[derive(Clone, Copy)]
 pub struct Row {
     pub kind: u32,
     pub a: u32,
@@ -11,7 +11,7 @@ pub struct Row {
     pub d: u32,
 }
 
-#[derive(Drop)]
+#[derive(Clone, Copy)]
 pub enum Read {
     Is(Row),
     Malformed,

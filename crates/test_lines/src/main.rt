@@ -1,5 +1,7 @@
 // Reads deck lines and compares what the reader answers. tools/decklines/decklines.py makes the list on standard input, and says what its
 // rows are. A row that cannot be read counts as a mismatch.
+#![tactic(auto)]
+
 mod row;
 
 use test_rows::Tally;

@@ -12,7 +12,7 @@ const FRONT: usize = 48;
 const ROOM: usize = 80;
 
 // An answer as a row's numbers.
-#[derive(Drop)]
+#[derive(Clone, Copy)]
 struct Answer {
     tag: u32,
     a: u32,

@@ -18,7 +18,7 @@ const MARK: u8 = 165;
 const TEXT: usize = 20;
 
 // What a row comes to, the bytes of the code or file at hand, and whether a code or a file was accepted.
-#[derive(Drop)]
+#[derive(Clone, Copy)]
 pub struct Came {
     pub outcome: Outcome,
     pub size: usize,
@@ -29,7 +29,7 @@ pub struct Came {
 // ---- answers as numbers
 
 // The number of refusal or 0, its place, and the text's length unless it is too long.
-#[derive(Drop)]
+#[derive(Clone, Copy)]
 struct Numbers {
     number: u32,
     place: usize,
@@ -126,7 +126,7 @@ fn word_answered(s: &[u8]) -> bool {
 // ---- codes and files
 
 // What a row asks for: a code's listing, or a deck file's in a view.
-#[derive(Drop)]
+#[derive(Clone, Copy)]
 enum Asked {
     Code,
     Deck,

@@ -1,6 +1,8 @@
 // Replays listings: words with GNU objdump's lines, document 02's refusals, codes with constants, and deck files as maintainer and
 // attendant see them. tools/listings/record.py makes the list on standard input, and says what its rows are. A row that cannot be read
 // counts as a mismatch.
+#![tactic(auto)]
+
 mod code;
 mod judge;
 mod row;
@@ -13,7 +15,7 @@ use test_rows::Tally;
 const ROW: usize = 80;
 
 // Rows so far, and codes and views of files that were accepted.
-#[derive(Drop)]
+#[derive(Clone, Copy)]
 struct Counts {
     tally: Tally,
     codes: u64,

@@ -1,5 +1,7 @@
 // Recorded lists: the numbers in a row's columns (hexadecimal digits in full, negative numbers in two's complement), the bytes that a row
 // is about, and the count of rows.
+#![tactic(auto)]
+
 ghost use Rattle.std.specs.Prelude.{◌≡◌, ◌+◌, ◌*◌, ◌^◌};
 ghost use Rattle.isa.specs.Immediate.{signed as Signed_of};
 ghost use Rattle.test_rows.specs.Bytes.{word_of, all_of};
@@ -24,7 +26,7 @@ fn digit(b: u8) -> u32
     if b <= 102 { b as u32 - 87 } else { 16 }
 }
 
-#[derive(Drop)]
+#[derive(Clone, Copy)]
 pub enum Hex {
     Is(u32),
     Malformed,
@@ -121,7 +123,7 @@ const SHOWN: u64 = 10;
 const STDOUT: i32 = 1;
 
 // What a row comes to.
-#[derive(Drop)]
+#[derive(Clone, Copy)]
 pub enum Outcome {
     Accepted,
     Refused,
@@ -130,7 +132,7 @@ pub enum Outcome {
 }
 
 // Rows so far.
-#[derive(Drop)]
+#[derive(Clone, Copy)]
 pub struct Tally {
     pub rows: u64,
     pub accepted: u64,

@@ -1,4 +1,6 @@
 // Document 01, "The deck file": numbers, fields and lines as bytes.
+#![tactic(auto)]
+
 ghost use Rattle.std.specs.Prelude.{◌≡◌, true, cond, ◌&&◌, ◌+◌, ◌*◌, ◌/◌, ◌^◌, ◌≤◌, ◌<◌, eqb, ltb, leb, length, get_or, take, drop};
 ghost use Rattle.std.specs.Int.Count.{count_trailing_zeros};
 ghost use Rattle.std.proofs.Math.Pow.{are_bytes};
@@ -11,40 +13,40 @@ ghost use Rattle.text.specs.Lines.{Ends};
 ghost use Rattle.text.specs.Bytes.{joined_eight, word_to};
 
 // A number of any size.
-#[derive(Drop)]
+#[derive(Clone, Copy)]
 pub enum Number {
     Value(u64),
     TooBig,
 }
 
-#[derive(Drop)]
+#[derive(Clone, Copy)]
 pub enum Numeral {
     Is(Number),
     Malformed,
 }
 
 // A minus, and the magnitude.
-#[derive(Drop)]
+#[derive(Clone, Copy)]
 pub enum Integer {
     Is(bool, Number),
     Malformed,
 }
 
-#[derive(Drop)]
+#[derive(Clone, Copy)]
 pub enum Word {
     Is(u64),
     Malformed,
 }
 
 // What a number field says, and how many bytes of the line it has: a comma or the line's end stopped the reader there.
-#[derive(Drop)]
+#[derive(Clone, Copy)]
 pub struct Stopped {
     pub numeral: Numeral,
     pub stop: usize,
 }
 
 // The same as plain numbers, which cost less to hand on: one of three kinds, and the value of the first.
-#[derive(Drop)]
+#[derive(Clone, Copy)]
 struct Scan {
     kind: u64,
     value: u64,
@@ -58,14 +60,14 @@ const TOO_BIG: u64 = 1;
 const MALFORMED: u64 = 2;
 
 // A number of the fast path, and a place: where its field ends, counted as each function says.
-#[derive(Drop)]
+#[derive(Clone, Copy)]
 pub struct ShortField {
     pub number: u64,
     pub stop: usize,
 }
 
 // What a number field says, and where the next field starts.
-#[derive(Drop)]
+#[derive(Clone, Copy)]
 pub struct Field {
     pub numeral: Numeral,
     pub next: usize,

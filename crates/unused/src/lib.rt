@@ -1,4 +1,6 @@
 // Labels nobody jumps to (document 02, point 2): the list of them, from label memory and the record.
+#![tactic(auto)]
+
 ghost use Rattle.std.specs.Prelude.{◌≡◌, length};
 ghost use Rattle.std.proofs.lemmas.List.Edits.{sets};
 ghost use Rattle.assembler.specs.Limit.{label_limit};
@@ -14,7 +16,7 @@ const JUMP: u64 = 4294967296;
 const MOST: u64 = 4096;
 
 // How many labels are listed, or the refusal.
-#[derive(Drop)]
+#[derive(Clone, Copy)]
 pub enum Unused {
     Labels(u32),
     Refused(Refusal, u32),

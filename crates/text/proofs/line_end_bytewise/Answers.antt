@@ -1,0 +1,14 @@
+use Prim.Native.Nat.{◌-◌}
+use Rattle.text.proofs.Lined.{ends_behind, ends_here, ends_later}
+use Rattle.text.proofs.line_end_bytewise.Goals as goal
+
+pub returns-then-file-i-eq10 : goal.returns-then-file-i-eq10
+returns-then-file-i-eq10 c =
+    c.loop-i.invariant _ (ends_here c.args.file.now c.loop-i.i c.loop-i-test.true c.if-file-i-eq10.true)
+
+pub loop-i-preserved : goal.loop-i-preserved
+loop-i-preserved c =
+    λ r e. c.loop-i.invariant r (ends_later c.args.file.now c.loop-i.i c.loop-i-test.true r c.if-file-i-eq10.false e)
+
+pub returns : goal.returns
+returns c = c.loop-i.invariant _ (ends_behind c.args.file.now c.loop-i.i c.loop-i-test.false)
