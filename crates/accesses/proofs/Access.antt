@@ -16,13 +16,13 @@ use Rattle.machine.specs.Step.{Among}
 use Rattle.machine.proofs.Exec.{execs}
 use Rattle.machine.proofs.Effects.{setx_twice}
 use Rattle.machine.proofs.Memory.{wrap_r, Apart, load4_store}
-use Rattle.machine.proofs.Straight.{aligned, at_first, path-run}
+use Rattle.machine.proofs.Straight.{aligned, at_first, path_run}
 use Rattle.accesses.specs.Code.{li_code, point_code, access_code}
 use Rattle.accesses.specs.Fault.{offset_limit, access_fault, last_pair}
 use Rattle.accesses.specs.Stands.{Stands, Goes, behind, cell_at, with_t0}
-use Rattle.accesses.proofs.Then.{leads, leads_at, through, behind-both}
+use Rattle.accesses.proofs.Then.{leads, leads_at, through, behind_both}
 use Rattle.base.proofs.Bools.{passed}
-use Rattle.accesses.proofs.LoadImmediate.{eight, li-runs}
+use Rattle.accesses.proofs.LoadImmediate.{eight, li_runs}
 
 -- ---- what is not refused
 
@@ -63,8 +63,8 @@ module _ (Q : Floats) (s : State) (b n : ℕ) (hn : n ≤ offset_limit) where
       let js : List Instr = R ADD 5 5 b ∷ [] in
       let x : ℕ → ℕ = setx s.x 5 (n % 2 ^ 64) in
       through Q is js s x s.f _
-      (li-runs 5 (pos n) (omega arith) (omega arith) Q s)
-      (leads Q js _ _ (omega arith) tt tt (rw (point_x s.x b n e) (behind-both Q is js s x s.f _ s.f s.mem)))
+      (li_runs 5 (pos n) (omega arith) (omega arith) Q s)
+      (leads Q js _ _ (omega arith) tt tt (rw (point_x s.x b n e) (behind_both Q is js s x s.f _ s.f s.mem)))
 
   -- An access through t0 does what a direct one does: X on registers, and f and m.
   pub access_runs : (near : ℕ) (is : ℕ → ℕ → List Instr) (X : (ℕ → ℕ) → ℕ → ℕ) (f m : ℕ → ℕ) → b < 32 → (ltb n near ≡ false → eqb b 5 ≡ false)
@@ -79,7 +79,7 @@ module _ (Q : Floats) (s : State) (b n : ℕ) (hn : n ≤ offset_limit) where
       by false e o =
           let x : ℕ → ℕ = setx s.x 5 (cell_at s b n) in
           through Q (point_code b n) (is 5 0) s x s.f _ (point_runs hb (h e))
-          (λ o. rw (← (behind-both Q (point_code b n) (is 5 0) s x s.f (X x) f m)) (far (ltb-false n near e) o))
+          (λ o. rw (← (behind_both Q (point_code b n) (is 5 0) s x s.f (X x) f m)) (far (ltb-false n near e) o))
           o
 
 -- ---- direct accesses, at the address a
@@ -122,4 +122,4 @@ module _ (Q : Floats) (s : State) (b n a a' : ℕ) (hb : b < 32) (hn : n < 2040)
       let p = addr Q s b n a hb (omega arith) e h8 in
       let q : execs Q is s ≡ behind is s s.x s.f (store8 (store8 s.mem a (s.f d)) a' (s.f (d + 1))) = rw (p, ahead, eight s.pc) in
       rw (← q)
-      (path-run Q (Among s.pc 2) is s (omega (arith, pair_even.0, pair_even.1)) (at_first s.pc 1 o.sound.pc, o.aligned, o.code.0, ((1, omega arith, refl), aligned s o.aligned, rw p (load4_store s.mem a (s.f d) (next s) h ∙ o.code.1.0), tt)))
+      (path_run Q (Among s.pc 2) is s (omega (arith, pair_even.0, pair_even.1)) (at_first s.pc 1 o.sound.pc, o.aligned, o.code.0, ((1, omega arith, refl), aligned s o.aligned, rw p (load4_store s.mem a (s.f d) (next s) h ∙ o.code.1.0), tt)))

@@ -52,9 +52,9 @@ module _ (d : ℕ) (z : ℤ) (hd : d < 32) where
 
   module _ (h : mag z < 2 ^ 31) where
     -- The register holds the number, sign-extended to 64 bits; nothing else changes.
-    pub li-runs : Leaves (li_code d z) (λ s. setx s.x d (twos 64 z)) (λ s. s.f) (λ s. s.mem)
+    pub li_runs : Leaves (li_code d z) (λ s. setx s.x d (twos 64 z)) (λ s. s.f) (λ s. s.mem)
     unfolding li_code effect apply
-    li-runs Q s = by (ltb (mag z) near) li_valid
+    li_runs Q s = by (ltb (mag z) near) li_valid
       where
         To : Bool → IOp → Type 0
         To b k = Stands (form b k) s → Goes Q (form b k) s (behind (form b k) s (setx s.x d (twos 64 z)) s.f s.mem)

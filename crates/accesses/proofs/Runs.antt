@@ -160,24 +160,24 @@ module _ (d b n : ℕ) (h : pair_fault d b n ≡ 0) where
     abbrev Away : Type 0
     Away = Misses (cell_at s b n) (save_complex_code d b n) s
 
-    last-near : n < near_pair → Away → Apart (cell_at s b n) 8 (next s) 4
-    last-near l a = last_word (cell_at s b n) s.pc 1 (omega arith) (rw (near_form near_pair _ b n l) at a)
+    last_near : n < near_pair → Away → Apart (cell_at s b n) 8 (next s) 4
+    last_near l a = last_word (cell_at s b n) s.pc 1 (omega arith) (rw (near_form near_pair _ b n l) at a)
 
-    last-far : near_pair ≤ n → Away → Apart (cell_at s b n) 8 (w64 (w64 (s.pc + 4 * length (point_code b n)) + 4)) 4
-    last-far l a =
+    last_far : near_pair ≤ n → Away → Apart (cell_at s b n) 8 (w64 (w64 (s.pc + 4 * length (point_code b n)) + 4)) 4
+    last_far l a =
         let k : ℕ = length (point_code b n) in
         let e : w64 (w64 (s.pc + 4 * k) + 4) ≡ w64 (s.pc + 4 * (k + 1)) = omega arith in
         let g : 4 * (k + 2) ≡ 4 * (k + 1) + 4 = omega arith in
         rw e (last_word (cell_at s b n) s.pc (k + 1) (omega (arith, point_length b n)) (rw (far_form near_pair _ b n l, length-append (point_code b n) _, g) at a))
 
     -- both cells hold their float registers, where the first misses the code
-    pub save-complex-runs : Accessible (two_cells b n s) → Away → Stands (save_complex_code d b n) s → Goes Q (save_complex_code d b n) s (behind (save_complex_code d b n) s (with_t0 near_pair b n s) s.f (store8 (store8 s.mem (cell_at s b n) (s.f d)) (cell_at s b (n + 8)) (s.f (d + 1))))
+    pub save_complex_runs : Accessible (two_cells b n s) → Away → Stands (save_complex_code d b n) s → Goes Q (save_complex_code d b n) s (behind (save_complex_code d b n) s (with_t0 near_pair b n s) s.f (store8 (store8 s.mem (cell_at s b n) (s.f d)) (cell_at s b (n + 8)) (s.f (d + 1))))
     unfolding setx upd
-    save-complex-runs c away =
+    save_complex_runs c away =
         let p = pair_fits in
         access_runs Q s b n pair_ok.within_limit near_pair _ (λ x. x) _ _ p.1 pair_ok.base_free
-        (λ l. save_pair_direct Q s b n _ _ p.1 l refl refl d p.0 c.eights.0 c.eights.1.0 (last-near l away))
-        (λ l. save_pair_direct Q _ 5 0 _ _ (omega arith) (omega arith) (at_zero (getx s b) n) (at_eight (getx s b) n) d p.0 c.eights.0 c.eights.1.0 (last-far l away))
+        (λ l. save_pair_direct Q s b n _ _ p.1 l refl refl d p.0 c.eights.0 c.eights.1.0 (last_near l away))
+        (λ l. save_pair_direct Q _ 5 0 _ _ (omega arith) (omega arith) (at_zero (getx s b) n) (at_eight (getx s b) n) d p.0 c.eights.0 c.eights.1.0 (last_far l away))
 
 -- ---- by what the access does
 

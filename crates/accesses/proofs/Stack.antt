@@ -19,10 +19,10 @@ use Rattle.machine.proofs.Placed.{Valids}
 use Rattle.accesses.specs.Code.{near, li_code, sub_stack_code, add_stack_code, allocate_stack_code}
 use Rattle.accesses.specs.Fault.{offset_limit, stack_fault}
 use Rattle.accesses.specs.Stands.{Stands, Goes, behind, Leaves, with_size}
-use Rattle.accesses.proofs.Then.{silent, leads, valids_join, through, behind-both}
+use Rattle.accesses.proofs.Then.{silent, leads, valids_join, through, behind_both}
 use Rattle.base.proofs.Bools.{passed}
 use Rattle.accesses.proofs.Numbers.{mag_neg}
-use Rattle.accesses.proofs.LoadImmediate.{li_valid, li-runs}
+use Rattle.accesses.proofs.LoadImmediate.{li_valid, li_runs}
 
 pub size_fits : (n : ℕ) → stack_fault n ≡ 0 → n ≤ offset_limit
 size_fits n e = leb→le n offset_limit (passed (leb n offset_limit) 0 1 e).0
@@ -51,8 +51,8 @@ module _ (Q : Floats) (s : State) (n : ℕ) (z : ℤ) (t : mag z < 2 ^ 31) (i j 
       by false e o =
           let x : ℕ → ℕ = setx s.x 5 (twos 64 z) in
           through Q (li_code 5 z) (j ∷ []) s x s.f _
-          (li-runs 5 z (omega arith) t Q s)
-          (leads Q (j ∷ []) _ _ (vj, tt) kj tt (rw hj (behind-both Q (li_code 5 z) (j ∷ []) s x s.f (setx x 2 v) s.f s.mem)))
+          (li_runs 5 z (omega arith) t Q s)
+          (leads Q (j ∷ []) _ _ (vj, tt) kj tt (rw hj (behind_both Q (li_code 5 z) (j ∷ []) s x s.f (setx x 2 v) s.f s.mem)))
           o
 
 -- ---- validity
@@ -114,4 +114,4 @@ module _ (n : ℕ) (h : stack_fault n ≡ 0) where
       through Q is (R ADD 21 2 0 ∷ []) s x s.f _
       (size_runs Q s n (pos n) (omega arith) (I ADDI 2 2 (neg_ℤ (pos n))) (R SUB 2 2 5) _ tt (less_valid n) (λ k. rw e) tt (omega arith) (rw g))
       (leads Q (R ADD 21 2 0 ∷ []) _ _ (omega arith) tt tt
-      (rw k (behind-both Q is (R ADD 21 2 0 ∷ []) s x s.f (setx x 21 (minus (s.x 2) n)) s.f s.mem)))
+      (rw k (behind_both Q is (R ADD 21 2 0 ∷ []) s x s.f (setx x 21 (minus (s.x 2) n)) s.f s.mem)))

@@ -61,16 +61,16 @@ module _ (Q : Floats) where
     half = behind is s x f s.mem
 
     -- what stands behind the first list
-    pub stands-first : Stands (is ++ js) s → Stands is s
-    stands-first o =
+    pub stands_first : Stands (is ++ js) s → Stands is s
+    stands_first o =
         record {
           sound = o.sound;
           aligned = o.aligned;
           code = code_left s.mem s.pc (words is) (words js) (rw (map-append encode is js) at o.code);
         }
 
-    pub stands-second : Stands (is ++ js) s → Goes Q is s half → Stands js half
-    stands-second o r =
+    pub stands_second : Stands (is ++ js) s → Goes Q is s half → Stands js half
+    stands_second o r =
         record {
           sound = run_sound Q r.runs o.sound;
           aligned = let a : s.pc % 4 ≡ 0 = o.aligned in omega arith;
@@ -81,13 +81,13 @@ module _ (Q : Floats) where
     -- A run through both lists.
     pub through : (t : State) → (Stands is s → Goes Q is s half) → (Stands js half → Goes Q js half t) → Stands (is ++ js) s → Goes Q (is ++ js) s t
     through t p q o =
-        let r : Goes Q is s half = p (stands-first o) in
+        let r : Goes Q is s half = p (stands_first o) in
         rw (length-append is js)
         (joined Q (wider Q (λ x w. (w.0, omega (arith, w.1), w.2)) r)
-        (wider Q (λ x w. (length is + w.0, omega (arith, w.1), w.2 ∙ plain s.pc (length is) w.0)) (q (stands-second o r))))
+        (wider Q (λ x w. (length is + w.0, omega (arith, w.1), w.2 ∙ plain s.pc (length is) w.0)) (q (stands_second o r))))
 
     -- pc behind both
-    pub behind-both : (x' f' m' : ℕ → ℕ) → behind js half x' f' m' ≡ behind (is ++ js) s x' f' m'
-    behind-both x' f' m' =
+    pub behind_both : (x' f' m' : ℕ → ℕ) → behind js half x' f' m' ≡ behind (is ++ js) s x' f' m'
+    behind_both x' f' m' =
         let e : w64 (half.pc + 4 * length js) ≡ w64 (s.pc + 4 * length (is ++ js)) = rw (length-append is js) (plain s.pc (length is) (length js)) in
         λ i. record { pc = e i; x = x'; f = f'; rm = s.rm; mem = m' }

@@ -59,19 +59,19 @@ module _ {n : ℕ} (ss : List (Slot n)) where
     fins [] vs r ws = ws
     fins (P ∷ Ps) vs r ws = (P.last vs.0, fins Ps vs.1 r ws)
 
-    abbrev pub rest-fins : (Ps : List Value) (vs : Tuple Ps) (r : Denots (types_at ss κs)) → Fins κs (before Ps ss) (all yes (before Ps ss)) (joined Ps vs r) → Fins κs ss (all yes ss) r
-    rest-fins [] vs r ws = ws
-    rest-fins (P ∷ Ps) vs r ws = rest-fins Ps vs.1 r ws.1
+    abbrev pub rest_fins : (Ps : List Value) (vs : Tuple Ps) (r : Denots (types_at ss κs)) → Fins κs (before Ps ss) (all yes (before Ps ss)) (joined Ps vs r) → Fins κs ss (all yes ss) r
+    rest_fins [] vs r ws = ws
+    rest_fins (P ∷ Ps) vs r ws = rest_fins Ps vs.1 r ws.1
 
     pub said_in : (Ps : List Value) (Φ : Tuple Ps → Denots (types_at ss κs) → Outs κs ss (all yes ss) → Type 0) (vs : Tuple Ps) (r : Denots (types_at ss κs)) (ws : Fins κs ss (all yes ss) r)
         → Φ vs r (outs κs ss (all yes ss) r ws) → saying Ps Φ (joined Ps vs r) (outs κs (before Ps ss) (all yes (before Ps ss)) (joined Ps vs r) (fins Ps vs r ws))
     said_in [] Φ vs r ws e = e
     said_in (P ∷ Ps) Φ vs r ws e = said_in Ps (λ us. Φ (vs.0, us)) vs.1 r ws e
 
-    pub said-out : (Ps : List Value) (Φ : Tuple Ps → Denots (types_at ss κs) → Outs κs ss (all yes ss) → Type 0) (vs : Tuple Ps) (r : Denots (types_at ss κs)) (ws : Fins κs (before Ps ss) (all yes (before Ps ss)) (joined Ps vs r))
-        → saying Ps Φ (joined Ps vs r) (outs κs (before Ps ss) (all yes (before Ps ss)) (joined Ps vs r) ws) → Φ vs r (outs κs ss (all yes ss) r (rest-fins Ps vs r ws))
-    said-out [] Φ vs r ws e = e
-    said-out (P ∷ Ps) Φ vs r ws e = said-out Ps (λ us. Φ (vs.0, us)) vs.1 r ws.1 e
+    pub said_out : (Ps : List Value) (Φ : Tuple Ps → Denots (types_at ss κs) → Outs κs ss (all yes ss) → Type 0) (vs : Tuple Ps) (r : Denots (types_at ss κs)) (ws : Fins κs (before Ps ss) (all yes (before Ps ss)) (joined Ps vs r))
+        → saying Ps Φ (joined Ps vs r) (outs κs (before Ps ss) (all yes (before Ps ss)) (joined Ps vs r) ws) → Φ vs r (outs κs ss (all yes ss) r (rest_fins Ps vs r ws))
+    said_out [] Φ vs r ws e = e
+    said_out (P ∷ Ps) Φ vs r ws e = said_out Ps (λ us. Φ (vs.0, us)) vs.1 r ws.1 e
 
     pub fits : (Ps : List Value) (hs : Stays ss (all yes ss)) (vs : Tuple Ps) (r : Denots (types_at ss κs)) (ws : Fins κs ss (all yes ss) r) → fits_of κs ss (all yes ss) hs r ws
         → fits_of κs (before Ps ss) (all yes (before Ps ss)) (stays Ps hs) (joined Ps vs r) (fins Ps vs r ws)
@@ -90,14 +90,14 @@ module _ {n : ℕ} (ss : List (Slot n)) where
       abbrev pub valued : (Ps : List Value) → Tuple Ps → Denots (types_at ss κs) → Valss (types_at (before Ps ss) κs)
       valued Ps vs r = valss (types_at (before Ps ss) κs) (spelled Ps) (joined Ps vs r)
 
-      pub are-values : (Ps : List Value) (vs : Tuple Ps) (r : Denots (types_at ss κs)) → Are (types_at (before Ps ss) κs) (Ises (types_at (before Ps ss) κs)) (joined Ps vs r) (valued Ps vs r) → AllAre Ps vs
-      are-values [] vs r g = tt
-      are-values (P ∷ Ps) vs r g = (g.0, are-values Ps vs.1 r g.1)
+      pub are_values : (Ps : List Value) (vs : Tuple Ps) (r : Denots (types_at ss κs)) → Are (types_at (before Ps ss) κs) (Ises (types_at (before Ps ss) κs)) (joined Ps vs r) (valued Ps vs r) → AllAre Ps vs
+      are_values [] vs r g = tt
+      are_values (P ∷ Ps) vs r g = (g.0, are_values Ps vs.1 r g.1)
 
-      pub are-rest : (Ps : List Value) (vs : Tuple Ps) (r : Denots (types_at ss κs)) → Are (types_at (before Ps ss) κs) (Ises (types_at (before Ps ss) κs)) (joined Ps vs r) (valued Ps vs r)
+      pub are_rest : (Ps : List Value) (vs : Tuple Ps) (r : Denots (types_at ss κs)) → Are (types_at (before Ps ss) κs) (Ises (types_at (before Ps ss) κs)) (joined Ps vs r) (valued Ps vs r)
           → Are (types_at ss κs) (Ises (types_at ss κs)) r (valss (types_at ss κs) sp r)
-      are-rest [] vs r g = g
-      are-rest (P ∷ Ps) vs r g = are-rest Ps vs.1 r g.1
+      are_rest [] vs r g = g
+      are_rest (P ∷ Ps) vs r g = are_rest Ps vs.1 r g.1
 
 module _ {M : Type 1} {𝓤 : Ura M} (𝓛 : Logic 𝓤) {n : ℕ} (ss : List (Slot n)) where
   pub go_values : (Ps : List Value) (hs : Stays ss (all yes ss)) → AllGo 𝓛 n ss (all yes ss) hs → AllGo 𝓛 n (before Ps ss) (all yes (before Ps ss)) (stays ss Ps hs)
@@ -109,21 +109,21 @@ module _ {M : Type 1} {𝓤 : Ura M} (𝓛 : Logic 𝓤) {n : ℕ} (ss : List (S
   with_nothing X Y Z y z = via 𝓤 (sep 𝓤 (emp 𝓤) X) (emp∗ 𝓤 X) (mono∗ 𝓤 y z)
 
   module _ (κs : Lfts n) where
-    pub lasts-rest : (Ps : List Value) (vs : Tuple Ps) (r : Denots (types_at ss κs)) (ws : Fins κs (before Ps ss) (all yes (before Ps ss)) (joined ss κs Ps vs r))
-        → ent 𝓤 (sem 𝓛 (lasts_of κs (before Ps ss) (all yes (before Ps ss)) (joined ss κs Ps vs r) ws)) (sem 𝓛 (lasts_of κs ss (all yes ss) r (rest-fins ss κs Ps vs r ws)))
-    lasts-rest [] vs r ws = id⊢ 𝓤 _
-    lasts-rest (P ∷ Ps) vs r ws = via 𝓤 _ (snd∗ 𝓤 (sem 𝓛 (left (P.row.exit yes) vs.0 ws.0)) (sem 𝓛 (lasts_of κs (before Ps ss) (all yes (before Ps ss)) (joined ss κs Ps vs.1 r) ws.1))) (lasts-rest Ps vs.1 r ws.1)
+    pub lasts_rest : (Ps : List Value) (vs : Tuple Ps) (r : Denots (types_at ss κs)) (ws : Fins κs (before Ps ss) (all yes (before Ps ss)) (joined ss κs Ps vs r))
+        → ent 𝓤 (sem 𝓛 (lasts_of κs (before Ps ss) (all yes (before Ps ss)) (joined ss κs Ps vs r) ws)) (sem 𝓛 (lasts_of κs ss (all yes ss) r (rest_fins ss κs Ps vs r ws)))
+    lasts_rest [] vs r ws = id⊢ 𝓤 _
+    lasts_rest (P ∷ Ps) vs r ws = via 𝓤 _ (snd∗ 𝓤 (sem 𝓛 (left (P.row.exit yes) vs.0 ws.0)) (sem 𝓛 (lasts_of κs (before Ps ss) (all yes (before Ps ss)) (joined ss κs Ps vs.1 r) ws.1))) (lasts_rest Ps vs.1 r ws.1)
 
     module _ (sp : Spells (types_at ss κs)) where
-      pub own-rest : (Ps : List Value) (vs : Tuple Ps) (r : Denots (types_at ss κs))
+      pub own_rest : (Ps : List Value) (vs : Tuple Ps) (r : Denots (types_at ss κs))
           → ent 𝓤 (sem 𝓛 (owns (types_at (before Ps ss) κs) (joined ss κs Ps vs r) (valued ss κs sp Ps vs r))) (sem 𝓛 (owns (types_at ss κs) r (valss (types_at ss κs) sp r)))
-      own-rest [] vs r = id⊢ 𝓤 _
-      own-rest (P ∷ Ps) vs r = via 𝓤 _ (snd∗ 𝓤 (sem 𝓛 (P.row.own_val vs.0 (P.val vs.0 ∷ []))) (sem 𝓛 (owns (types_at (before Ps ss) κs) (joined ss κs Ps vs.1 r) (valued ss κs sp Ps vs.1 r)))) (own-rest Ps vs.1 r)
+      own_rest [] vs r = id⊢ 𝓤 _
+      own_rest (P ∷ Ps) vs r = via 𝓤 _ (snd∗ 𝓤 (sem 𝓛 (P.row.own_val vs.0 (P.val vs.0 ∷ []))) (sem 𝓛 (owns (types_at (before Ps ss) κs) (joined ss κs Ps vs.1 r) (valued ss κs sp Ps vs.1 r)))) (own_rest Ps vs.1 r)
 
-      pub own-all : (Ps : List Value) (vs : Tuple Ps) → AllAre Ps vs → (r : Denots (types_at ss κs))
+      pub own_all : (Ps : List Value) (vs : Tuple Ps) → AllAre Ps vs → (r : Denots (types_at ss κs))
           → ent 𝓤 (sem 𝓛 (owns (types_at ss κs) r (valss (types_at ss κs) sp r))) (sem 𝓛 (owns (types_at (before Ps ss) κs) (joined ss κs Ps vs r) (valued ss κs sp Ps vs r)))
-      own-all [] vs g r = id⊢ 𝓤 _
-      own-all (P ∷ Ps) vs g r = with_nothing _ _ _ (P.makes 𝓛 vs.0 _ g.0) (own-all Ps vs.1 g.1 r)
+      own_all [] vs g r = id⊢ 𝓤 _
+      own_all (P ∷ Ps) vs g r = with_nothing _ _ _ (P.makes 𝓛 vs.0 _ g.0) (own_all Ps vs.1 g.1 r)
 
       pub has_all : (Ps : List Value) (hs : Stays ss (all yes ss)) (vs : Tuple Ps) → AllAre Ps vs → (r : Denots (types_at ss κs)) (ws : Fins κs ss (all yes ss) r)
           → ent 𝓤 (sem 𝓛 (has_of κs ss (all yes ss) hs r ws (valss (types_at ss κs) sp r)))
@@ -185,12 +185,12 @@ module _ {M : Type 1} {𝓤 : Ura M} {𝓛 : Logic 𝓤} {K : Type 0} where
   frees_values t (P ∷ Ps) bs s = split t $ split t $ free1 t $ frees_values t Ps bs.1 s
 
   module _ {n : ℕ} (ss : List (Slot n)) (κs : Lfts n) (sp : Spells (types_at ss κs)) where
-    pub passes-values : K → (Ps : List Value) (bs : Places Ps) (vs : Tuple Ps) → AllAre Ps vs → (r : Denots (types_at ss κs)) {Γ : List (Item 𝓤)} {E : Env 𝓤 H} {g : Goal 𝓤 H}
+    pub passes_values : K → (Ps : List Value) (bs : Places Ps) (vs : Tuple Ps) → AllAre Ps vs → (r : Denots (types_at ss κs)) {Γ : List (Item 𝓤)} {E : Env 𝓤 H} {g : Goal 𝓤 H}
         → Seq K 𝓛 (cells 𝓤 H Ps bs vs ∷ Γ) (passes E (flat (types_at ss κs) (valss (types_at ss κs) sp r)) g)
         → Seq K 𝓛 (rooms 𝓤 H Ps bs ∷ Γ) (passes (envs 𝓤 H Ps bs E) (flat (types_at (before Ps ss) κs) (valued ss κs sp Ps vs r)) g)
-    passes-values t [] bs vs is r s = s
-    passes-values t (P ∷ Ps) bs vs is r s = split t $ split t $ pass1 t (init t 0 refl (P.typed 𝓛 vs.0 is.0)) $ move t (2 ∷ []) $
-        passes-values t Ps bs.1 vs.1 is.1 r (move t (1 ∷ 2 ∷ 0 ∷ []) $ join t $ join t $ s)
+    passes_values t [] bs vs is r s = s
+    passes_values t (P ∷ Ps) bs vs is r s = split t $ split t $ pass1 t (init t 0 refl (P.typed 𝓛 vs.0 is.0)) $ move t (2 ∷ []) $
+        passes_values t Ps bs.1 vs.1 is.1 r (move t (1 ∷ 2 ∷ 0 ∷ []) $ join t $ join t $ s)
 
   -- reading goes by what the context is
   other_reads : K → {Γ Γ' : List (Item 𝓤)} {τ : Ty} {b o : ℕ} {v : Val} → ent 𝓤 (⋆ 𝓛 Γ) (⋆ 𝓛 Γ') → ent 𝓤 (⋆ 𝓛 Γ') (⋆ 𝓛 Γ) → Reads K 𝓛 Γ' τ b o v → Reads K 𝓛 Γ τ b o v

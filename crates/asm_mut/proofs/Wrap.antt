@@ -49,7 +49,7 @@ use Rattle.assembler.specs.contracts.Answer as TN
 use Rattle.assembler.proofs.Answer.TheLaws as TN'
 use Rattle.asm_mut.specs.Lent.{mut_outcome}
 use Rattle.asm_mut.proofs.Value.{Value}
-use Rattle.asm_mut.proofs.Values.{before, Tuple, AllAre, stays, joined, every, saying, fins, rest-fins, said_in, said-out, fits, spelled, told, valued, are-values, are-rest, go_values, lasts-rest, own-rest, own-all, has_all, typed_locals, shifted, copies, spot_behind, allocs_values, passes-values, forgets_values, frees_values, found, operands_at}
+use Rattle.asm_mut.proofs.Values.{before, Tuple, AllAre, stays, joined, every, saying, fins, rest_fins, said_in, said_out, fits, spelled, told, valued, are_values, are_rest, go_values, lasts_rest, own_rest, own_all, has_all, typed_locals, shifted, copies, spot_behind, allocs_values, passes_values, forgets_values, frees_values, found, operands_at}
 use Rattle.asm_mut.proofs.Shape.{labels_slot, jumps_slot, asmV, tokens, closed_at, record_opens, record_closes}
 
 -- ---- the code
@@ -130,14 +130,14 @@ module _ (Ps : List Value) (f : Tuple Ps → State → Outcome) where
   lent_says κs r h h' vs a e = mut_outcome r h' e.1.0.now e.1.1.0.now e.0.now ≡ f vs (state h a.1.0.now a.1.1.0.now a.0.now)
 
   module _ {M : Type 1} {𝓤 : Ura M} (𝓛 : Logic 𝓤) where
-    abbrev pub says-callee : Clauses 𝓤 (callee_ended Ps)
-    says-callee κs a = record { ghost = Unit {0}; requires = λ _. emp 𝓤; ensures = λ _ r end. fact 𝓤 (saying callee_slots κs Ps (callee_says κs r) a end) }
+    abbrev pub says_callee : Clauses 𝓤 (callee_ended Ps)
+    says_callee κs a = record { ghost = Unit {0}; requires = λ _. emp 𝓤; ensures = λ _ r end. fact 𝓤 (saying callee_slots κs Ps (callee_says κs r) a end) }
 
-    abbrev pub says-lent : Clauses 𝓤 (lent_ended Ps)
-    says-lent κs a = record { ghost = Unit {0}; requires = λ _. emp 𝓤; ensures = λ _ r end. fact 𝓤 (saying lent_slots κs Ps (lent_says κs r a.0.now end.0.now) a.1 end.1) }
+    abbrev pub says_lent : Clauses 𝓤 (lent_ended Ps)
+    says_lent κs a = record { ghost = Unit {0}; requires = λ _. emp 𝓤; ensures = λ _ r end. fact 𝓤 (saying lent_slots κs Ps (lent_says κs r a.0.now end.0.now) a.1 end.1) }
 
     abbrev pub Callee : Contract 𝓤
-    Callee = triple_of 𝓛 (of_callee Ps) (closing 𝓛 (callee_ended Ps) says-callee)
+    Callee = triple_of 𝓛 (of_callee Ps) (closing 𝓛 (callee_ended Ps) says_callee)
 
 -- ---- the walk
 
@@ -163,11 +163,11 @@ module _ (Ps : List Value) (f : Tuple Ps → State → Outcome) (k : Name) {M : 
   abbrev a : MutBor Asm × Denots (types_at (before Ps lent_slots) κs)
   a = (x, joined lent_slots κs Ps vs memory)
 
-  abbrev at_entry : (walk_of 𝓛 (lent_ended Ps) (stayed Ps) (says-lent Ps f 𝓛)).Ghost
+  abbrev at_entry : (walk_of 𝓛 (lent_ended Ps) (stayed Ps) (says_lent Ps f 𝓛)).Ghost
   at_entry = ((κs, qs, tt, a, (mut_vals x, valued lent_slots κs (lent_spells κs) Ps vs memory)), tt)
 
   abbrev Post : Val → SProp 𝓤
-  Post = (walk_of 𝓛 (lent_ended Ps) (stayed Ps) (says-lent Ps f 𝓛)).post at_entry
+  Post = (walk_of 𝓛 (lent_ended Ps) (stayed Ps) (says_lent Ps f 𝓛)).post at_entry
 
   -- what the values and the memory own, and the memory alone
   abbrev lent : Fml
@@ -189,11 +189,11 @@ module _ (Ps : List Value) (f : Tuple Ps → State → Outcome) (k : Name) {M : 
   goes : Is TA.the_row x.now (asmV x.now ∷ []) → ent 𝓤 (⋆ 𝓛 (tokens 𝓤 κs.1 qs.1 ∷ ‵ lent ∷ [])) ((Callee Ps f 𝓛).pre to_callee)
   goes g =
       qed 𝓛 (tokens 𝓤 κs.1 qs.1 ∷ ‵ lent ∷ []) ∵
-      move ! (1 ∷ []) $ use1 𝓛 (‵ memory_lent) (own-rest 𝓛 lent_slots κs (lent_spells κs) Ps vs memory) $
+      move ! (1 ∷ []) $ use1 𝓛 (‵ memory_lent) (own_rest 𝓛 lent_slots κs (lent_spells κs) Ps vs memory) $
       fsplit ! $ move ! (1 ∷ []) $ fsplit ! $ move ! (1 ∷ []) $ fsplit ! $ move ! (1 ∷ []) $ drop ! $
       -- [the jumps; the labels; the buffer; the tokens]
       nothing ! $ owned ! TA.the_row (Is TA.the_row) (LL.makes TA.the_type TA'.the_plain 𝓛) x.now _ g $ fjoin ! $ move ! (1 ∷ 0 ∷ []) $ fjoin ! $ move ! (1 ∷ 0 ∷ []) $ fjoin ! $ move ! (1 ∷ 0 ∷ []) $ fjoin ! $
-      use1 𝓛 (‵ (owns (types_at (before Ps callee_slots) κs.1) arg (valued callee_slots κs.1 (callee_spells κs.1) Ps vs passed))) (own-all 𝓛 callee_slots κs.1 (callee_spells κs.1) Ps vs vs-are passed) $
+      use1 𝓛 (‵ (owns (types_at (before Ps callee_slots) κs.1) arg (valued callee_slots κs.1 (callee_spells κs.1) Ps vs passed))) (own_all 𝓛 callee_slots κs.1 (callee_spells κs.1) Ps vs vs-are passed) $
       move ! (1 ∷ 0 ∷ []) $ join ! $ frame ! $ done !
 
   -- the last values of what was passed, and what the callee ensures of them
@@ -214,7 +214,7 @@ module _ (Ps : List Value) (f : Tuple Ps → State → Outcome) (k : Name) {M : 
   exits r m e l is =
       let last : Fins κs lent_slots (all yes lent_slots) memory = (m.0, (m.1.0, (m.1.1.0, tt))) in
       qed 𝓛 (at_exit r m) ∵
-      suffices ! _ (ends_at 𝓛 (lent_ended Ps) (stayed Ps) (says-lent Ps f 𝓛) at_entry (answerV r.answer) r.answer (r.asm, fins lent_slots κs Ps vs memory last) (tt, fits lent_slots κs Ps memory_stays vs memory last (l, (tt, (tt, tt))))) $
+      suffices ! _ (ends_at 𝓛 (lent_ended Ps) (stayed Ps) (says_lent Ps f 𝓛) at_entry (answerV r.answer) r.answer (r.asm, fins lent_slots κs Ps vs memory last) (tt, fits lent_slots κs Ps memory_stays vs memory last (l, (tt, (tt, tt))))) $
       says ! (said_in lent_slots κs Ps (lent_says Ps f κs r.answer x.now r.asm) vs memory last e) $
       move ! (2 ∷ 3 ∷ []) $ join ! $ frame ! $ feq_i ! (List Val) (mut_vals x) (mut_vals x) refl $ fjoin3 ! $
       nothing ! $ move ! (2 ∷ 0 ∷ []) $ fjoin ! $ move ! (2 ∷ 0 ∷ []) $ fjoin ! $ move ! (2 ∷ 0 ∷ []) $ fjoin ! $
@@ -229,7 +229,7 @@ module _ (Ps : List Value) (f : Tuple Ps → State → Outcome) (k : Name) {M : 
         alloc1 ! (λ l₀. alloc1 ! (λ l₁. allocs_values ! Ps (λ bs. alloc1 ! (λ l₂. alloc1 ! (λ l₃. alloc1 ! (λ l₄. alloc1 ! (λ l₅. alloc1 ! (λ l₆. alloc1 ! (λ l₇. alloc1 ! (λ l₈. alloc1 ! (λ l₉. alloc1 ! (λ l₁₀. alloc0 ! $ params1 ! $
         let E : Env 𝓤 H = (slice (named 1), l₂) ∷ (ty_ref (named 2) mut quads, l₃) ∷ (ty_ref (named 3) mut words, l₄) ∷ (TD'.mir, l₅) ∷ (ty_ref erased mut (ty_int w8), l₆) ∷ (slice erased, l₇) ∷ (ty_ref erased mut quads, l₈) ∷ (ty_ref erased mut words, l₉) ∷ (TA'.mir, l₁₀) ∷ [] in
         let at = spot_behind 𝓤 H Ps bs E in
-        pass1 ! (init ! 19 refl (tt, tt)) $ move ! (18 ∷ []) $ passes-values lent_slots κs (lent_spells κs) ! Ps bs vs vs-are memory (
+        pass1 ! (init ! 19 refl (tt, tt)) $ move ! (18 ∷ []) $ passes_values lent_slots κs (lent_spells κs) ! Ps bs vs vs-are memory (
         pass1 ! (init ! 17 refl (tt, (tt, (record { fits = room.0 }, tt)))) $ pass1 ! (init ! 15 refl (tt, tt)) $ pass1 ! (init ! 13 refl (tt, tt)) $ pass0 ! $
         -- the lent memory is put together for the call
         assigns ! (addr ! (found ! (at 0) (fld ! refl (hop ! (look_in ! 17 (sub ! 0 refl (whole !))) (stop !))))) (found ! (at 4) (stop !)) (init ! 9 refl (tt, tt)) $
@@ -244,10 +244,10 @@ module _ (Ps : List Value) (f : Tuple Ps → State → Outcome) (k : Name) {M : 
         move ! (5 ∷ 4 ∷ 6 ∷ []) $ use2 𝓛 (raw ((Callee Ps f 𝓛).pre to_callee)) (goes g) $
         calls_at ! fm (Callee Ps f 𝓛) known to_callee (operands_at callee_slots κs.1 (callee_spells κs.1) ! Ps bs vs passed E (λ j. suc (suc j)) (λ j. refl)
         (and_then ! (load ! (found ! (at 5) (stop !)) (look ! 12 refl)) (and_then ! (load ! (found ! (at 6) (stop !)) (look ! 10 refl)) (and_then ! (load ! (found ! (at 7) (stop !)) (look ! 8 refl)) (and_then ! (load ! (found ! (at 8) (stop !)) (look ! 6 refl)) (no_more !)))))) (λ w.
-        use1 𝓛 (later (some (λ (r : EmitResult). (tokens 𝓤 κs.1 qs.1 ⊛ ‵ ((TD.the_row).own_val r (w ∷ []))) ⊛ raw (ensured 𝓛 (callee_ended Ps) (says-callee Ps f 𝓛) κs.1 arg tt r)))) (id⊢ 𝓤 _) $ await ! tt $ pick ! (λ r.
+        use1 𝓛 (later (some (λ (r : EmitResult). (tokens 𝓤 κs.1 qs.1 ⊛ ‵ ((TD.the_row).own_val r (w ∷ []))) ⊛ raw (ensured 𝓛 (callee_ended Ps) (says_callee Ps f 𝓛) κs.1 arg tt r)))) (id⊢ 𝓤 _) $ await ! tt $ pick ! (λ r.
         split ! $ move ! (1 ∷ []) $ use1 𝓛 (some (λ (zs : Lasts). ‵ (lasts (callee_ended Ps) κs.1 arg zs) ⊛ raw (fact 𝓤 (Said r zs)))) (id⊢ 𝓤 _) $ pick ! (λ zs.
-        let m : Memory = rest-fins callee_slots κs.1 Ps vs passed zs in
-        split ! $ move ! (1 ∷ []) $ heard ! (Said r zs) (λ e. use1 𝓛 (‵ (lasts_of κs.1 callee_slots (all yes callee_slots) passed m)) (lasts-rest 𝓛 callee_slots κs.1 Ps vs passed zs) $
+        let m : Memory = rest_fins callee_slots κs.1 Ps vs passed zs in
+        split ! $ move ! (1 ∷ []) $ heard ! (Said r zs) (λ e. use1 𝓛 (‵ (lasts_of κs.1 callee_slots (all yes callee_slots) passed m)) (lasts_rest 𝓛 callee_slots κs.1 Ps vs passed zs) $
         fsplit ! $ fsplit ! $ move ! (1 ∷ []) $ feq_l ! (λ l. move ! (1 ∷ []) $ fsplit ! $ move ! (1 ∷ []) $ fsplit ! $
         move ! (4 ∷ []) $ split ! $ move ! (1 ∷ []) $ peeks ! TD.the_row (Is TD.the_row) (shows 𝓛 TD.the_row) r (w ∷ []) (λ is.
         -- [what came back; its tokens; the last jumps; …; the last labels; the last buffer; the values; the record's cell; the open borrow; obs; auth; the locals behind the values, the last first; _1; …; _0; …]
@@ -261,22 +261,22 @@ module _ (Ps : List Value) (f : Tuple Ps → State → Outcome) (k : Name) {M : 
         move ! (9 ∷ []) $ forgets_values ! Ps bs vs (
         move ! (30 ∷ 31 ∷ []) $ free1 ! $ move ! (28 ∷ 29 ∷ []) $ free1 ! $ frees_values ! Ps bs (
         move ! (25 ∷ 26 ∷ []) $ free1 ! $ move ! (23 ∷ 24 ∷ []) $ free1 ! $ move ! (21 ∷ 22 ∷ []) $ free1 ! $ move ! (19 ∷ 20 ∷ []) $ free1 ! $ move ! (17 ∷ 18 ∷ []) $ free1 ! $ move ! (15 ∷ 16 ∷ []) $ free1 ! $ move ! (13 ∷ 14 ∷ []) $ free1 ! $ move ! (11 ∷ 12 ∷ []) $ free1 ! $ move ! (9 ∷ 10 ∷ []) $ free1 ! $ free0 ! $
-        keep ! (0 ∷ 1 ∷ 2 ∷ 4 ∷ 5 ∷ 7 ∷ 8 ∷ []) $ by ! (exits r m (said-out callee_slots κs.1 Ps (callee_says Ps f κs.1 r) vs passed zs e) l fields.1.0)))))))))))))))))))))))
+        keep ! (0 ∷ 1 ∷ 2 ∷ 4 ∷ 5 ∷ 7 ∷ 8 ∷ []) $ by ! (exits r m (said_out callee_slots κs.1 Ps (callee_says Ps f κs.1 r) vs passed zs e) l fields.1.0)))))))))))))))))))))))
 
 module _ (Ps : List Value) (f : Tuple Ps → State → Outcome) (k : Name) {M : Type 1} {𝓤 : Ura M} (𝓛 : Logic 𝓤) where
   open 𝓛 use {H}
 
-  walks : (C : Calls 𝓤 H) (Λ : Loops 𝓤 H) → FmC 𝓤 H 𝓛.laws C → Triple 𝓤 (C k) (Callee Ps f 𝓛) → Walks 𝓛 (lent_ended Ps) (stayed Ps) (WpFn 𝓤 H C Λ (function Ps k)) (says-lent Ps f 𝓛)
-  walks C Λ fm known = walked 𝓛 (lent_ended Ps) (stayed Ps) (says-lent Ps f 𝓛) (WpFn 𝓤 H C Λ (function Ps k))
+  walks : (C : Calls 𝓤 H) (Λ : Loops 𝓤 H) → FmC 𝓤 H 𝓛.laws C → Triple 𝓤 (C k) (Callee Ps f 𝓛) → Walks 𝓛 (lent_ended Ps) (stayed Ps) (WpFn 𝓤 H C Λ (function Ps k)) (says_lent Ps f 𝓛)
+  walks C Λ fm known = walked 𝓛 (lent_ended Ps) (stayed Ps) (says_lent Ps f 𝓛) (WpFn 𝓤 H C Λ (function Ps k))
       (λ κs. (mut_vals, spelled lent_slots κs (lent_spells κs) Ps)) (λ κs. (mut_Tells (named 0) κs.0 TA.the_row, told lent_slots κs (lent_spells κs) (lent_tells κs) Ps))
       (λ κs qs bounds a g are. via 𝓤 _ (fst∗ 𝓤 _ (emp 𝓤)) (every lent_slots κs Ps
       (λ b. Are (types_at (before Ps lent_slots) κs) (Ises (types_at (before Ps lent_slots) κs)) b (valss (types_at (before Ps lent_slots) κs) (spelled lent_slots κs (lent_spells κs) Ps) b)
       → ent 𝓤 (on_entry 𝓛 (of_lent Ps) κs qs (a.0, b) (mut_vals a.0, valss (types_at (before Ps lent_slots) κs) (spelled lent_slots κs (lent_spells κs) Ps) b))
       (WpFn 𝓤 H C Λ (function Ps k) (flat (types_at (of_lent Ps).params κs) (mut_vals a.0, valss (types_at (before Ps lent_slots) κs) (spelled lent_slots κs (lent_spells κs) Ps) b))
-      ((walk_of 𝓛 (lent_ended Ps) (stayed Ps) (says-lent Ps f 𝓛)).post ((κs, qs, tt, (a.0, b), (mut_vals a.0, valss (types_at (before Ps lent_slots) κs) (spelled lent_slots κs (lent_spells κs) Ps) b)), tt))))
-      (λ vs r is. walk Ps f k 𝓛 κs qs a.0 vs (are-values lent_slots κs (lent_spells κs) Ps vs r is) r.0 r.1.0 r.1.1.0 C Λ fm known (are-rest lent_slots κs (lent_spells κs) Ps vs r is).0.0.1) a.1 are.1))
+      ((walk_of 𝓛 (lent_ended Ps) (stayed Ps) (says_lent Ps f 𝓛)).post ((κs, qs, tt, (a.0, b), (mut_vals a.0, valss (types_at (before Ps lent_slots) κs) (spelled lent_slots κs (lent_spells κs) Ps) b)), tt))))
+      (λ vs r is. walk Ps f k 𝓛 κs qs a.0 vs (are_values lent_slots κs (lent_spells κs) Ps vs r is) r.0 r.1.0 r.1.1.0 C Λ fm known (are_rest lent_slots κs (lent_spells κs) Ps vs r is).0.0.1) a.1 are.1))
 
-  pub lent_meets : (𝓣 : Tables 𝓤 H) → Triple 𝓤 (𝓣.C k) (Callee Ps f 𝓛) → Meets 𝓛 (of_lent Ps) (WpFn 𝓤 H 𝓣.C 𝓣.Λ (function Ps k)) (closing 𝓛 (lent_ended Ps) (says-lent Ps f 𝓛))
+  pub lent_meets : (𝓣 : Tables 𝓤 H) → Triple 𝓤 (𝓣.C k) (Callee Ps f 𝓛) → Meets 𝓛 (of_lent Ps) (WpFn 𝓤 H 𝓣.C 𝓣.Λ (function Ps k)) (closing 𝓛 (lent_ended Ps) (says_lent Ps f 𝓛))
   lent_meets 𝓣 known =
-      walk_Meets 𝓛 (lent_ended Ps) (stayed Ps) (Goes-ref 𝓛 4 0 tt (plain (λ _. TA.the_row)), go_values 𝓛 lent_slots Ps memory_stays (Goes-gave_slice 𝓛 4 1 tt (plain (λ _. u8)), (Goes-gave_ref 𝓛 4 2 tt labels_slot, (Goes-gave_ref 𝓛 4 3 tt jumps_slot, tt)))) (says-lent Ps f 𝓛)
+      walk_Meets 𝓛 (lent_ended Ps) (stayed Ps) (Goes-ref 𝓛 4 0 tt (plain (λ _. TA.the_row)), go_values 𝓛 lent_slots Ps memory_stays (Goes-gave_slice 𝓛 4 1 tt (plain (λ _. u8)), (Goes-gave_ref 𝓛 4 2 tt labels_slot, (Goes-gave_ref 𝓛 4 3 tt jumps_slot, tt)))) (says_lent Ps f 𝓛)
       (WpFn 𝓤 H 𝓣.C 𝓣.Λ (function Ps k)) (WpFn-mono 𝓤 H 𝓛.laws 𝓣 (function Ps k)) (walks 𝓣.C 𝓣.Λ (fm_of 𝓤 H 𝓛.laws 𝓣) known)

@@ -46,35 +46,35 @@ module _ (fault : ℕ) (closed sound taken fits : Bool) where
   v_closed e = simp e
 
   module _ (e : closed ≡ false) where
-    pub v-register : fault ≡ 1 → 1 ≡ ranked fault closed sound taken fits
+    pub v_register : fault ≡ 1 → 1 ≡ ranked fault closed sound taken fits
     unfolding ranked
-    v-register f = simp (e, eq-eqb fault 1 f)
+    v_register f = simp (e, eq-eqb fault 1 f)
 
     module _ (f : fault ≡ 1 → ⊥) where
-      pub v-label : fault ≡ 3 → 3 ≡ ranked fault closed sound taken fits
+      pub v_label : fault ≡ 3 → 3 ≡ ranked fault closed sound taken fits
       unfolding ranked
-      v-label g = simp (e, ne_eqb fault 1 f, eq-eqb fault 3 g)
+      v_label g = simp (e, ne_eqb fault 1 f, eq-eqb fault 3 g)
 
       module _ (g : fault ≡ 3 → ⊥) where
-        pub v-record : sound ≡ false → 2 ≡ ranked fault closed sound taken fits
+        pub v_record : sound ≡ false → 2 ≡ ranked fault closed sound taken fits
         unfolding ranked
-        v-record s = simp (e, ne_eqb fault 1 f, ne_eqb fault 3 g, s)
+        v_record s = simp (e, ne_eqb fault 1 f, ne_eqb fault 3 g, s)
 
         module _ (s : sound ≡ true) where
-          pub v-fault : (fault ≡ 0 → ⊥) → fault ≡ ranked fault closed sound taken fits
+          pub v_fault : (fault ≡ 0 → ⊥) → fault ≡ ranked fault closed sound taken fits
           unfolding ranked
-          v-fault z = simp (e, ne_eqb fault 1 f, ne_eqb fault 3 g, s, ne_eqb fault 0 z)
+          v_fault z = simp (e, ne_eqb fault 1 f, ne_eqb fault 3 g, s, ne_eqb fault 0 z)
 
           module _ (z : fault ≡ 0) where
-            pub v-twice : taken ≡ true → 4 ≡ ranked fault closed sound taken fits
+            pub v_twice : taken ≡ true → 4 ≡ ranked fault closed sound taken fits
             unfolding ranked
-            v-twice t = simp (e, ne_eqb fault 1 f, ne_eqb fault 3 g, s, eq-eqb fault 0 z, t)
+            v_twice t = simp (e, ne_eqb fault 1 f, ne_eqb fault 3 g, s, eq-eqb fault 0 z, t)
 
             module _ (t : taken ≡ false) where
-              pub v-full : fits ≡ false → 7 ≡ ranked fault closed sound taken fits
+              pub v_full : fits ≡ false → 7 ≡ ranked fault closed sound taken fits
               unfolding ranked
-              v-full h = simp (e, ne_eqb fault 1 f, ne_eqb fault 3 g, s, eq-eqb fault 0 z, t, h)
+              v_full h = simp (e, ne_eqb fault 1 f, ne_eqb fault 3 g, s, eq-eqb fault 0 z, t, h)
 
-              pub v-good : fits ≡ true → 0 ≡ ranked fault closed sound taken fits
+              pub v_good : fits ≡ true → 0 ≡ ranked fault closed sound taken fits
               unfolding ranked
-              v-good h = simp (e, ne_eqb fault 1 f, ne_eqb fault 3 g, s, eq-eqb fault 0 z, t, h)
+              v_good h = simp (e, ne_eqb fault 1 f, ne_eqb fault 3 g, s, eq-eqb fault 0 z, t, h)

@@ -20,7 +20,7 @@ use Rattle.assembler.specs.Plan.{label_fault, tail_items, plan_words, plan_items
 use Rattle.assembler.specs.declared.EmitResult.{EmitResult}
 use Rattle.assembler.specs.declared.Plan.{Plan}
 use Rattle.assembler.specs.declared.Tail.{Tail}
-use Rattle.assembler.proofs.Checks.{fits_last, v-good}
+use Rattle.assembler.proofs.Checks.{fits_last, v_good}
 use Rattle.assembler.proofs.Items.{with_words, placed_append, placed_raw, words_append, targets_append, labels_append, words_raw, targets_raw, labels_raw, words_tail, labels_tail}
 
 pub settled_no : (k : ℕ) (s t : State) → (k ≡ 0 → ⊥) → settled k s t ≡ record { answer = refused k 0; state = s }
@@ -80,7 +80,7 @@ pub put_raw : (tag : ℕ) (ws : List ℕ) (s : State) → s.asm.closed ≡ false
 unfolding twice
 put_raw tag ws s e g j h =
     let f : fits (length s.buf) s.asm (length ws) 0 ≡ true = sym (fits_last (length s.buf) s.asm (length ws) 0 (room (length s.buf)) refl h) ∙ le-leb (s.asm.jumps + 0) 4096 (omega arith) in
-    let n : put_number 0 (map raw ws) s ≡ 0 = rw (words_raw, targets_raw, labels_raw) (sym (v-good 0 _ _ false _ e (λ z. omega arith) (λ z. omega arith) g refl refl f)) in
+    let n : put_number 0 (map raw ws) s ≡ 0 = rw (words_raw, targets_raw, labels_raw) (sym (v_good 0 _ _ false _ e (λ z. omega arith) (λ z. omega arith) g refl refl f)) in
     sym (put_done tag 0 (map raw ws) s (with_words ws s) n (sym (placed_raw tag ws s)))
 
 plan_number : (f : ℕ) (p : Plan) (t : Tail) (s : State) → length p.w ≡ 12

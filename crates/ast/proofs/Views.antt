@@ -94,14 +94,14 @@ module _ (o : Order) (v : View) (e : v ≡ padded (uses o)) where
   by_d ha hb hc = and_true (ltb v.d 32) ∙ rw (lt-ltb v.a 32 ha, lt-ltb v.b 32 hb, lt-ltb v.c 32 hc) at whole_fit
 
   module _ (mask : ℕ) where
-    whole-free : both_free mask v && operand_open mask v.operand ≡ saves_hold mask o
-    whole-free = ap (λ (w : View). both_free mask w && operand_open mask w.operand) e ∙ ap (λ (t : Bool). t && operand_open mask (uses o).operand) (frees_all mask o)
+    whole_free : both_free mask v && operand_open mask v.operand ≡ saves_hold mask o
+    whole_free = ap (λ (w : View). both_free mask w && operand_open mask w.operand) e ∙ ap (λ (t : Bool). t && operand_open mask (uses o).operand) (frees_all mask o)
 
     pub no_first : free mask v.written ≡ false → false ≡ saves_hold mask o
-    no_first h = rw h at whole-free
+    no_first h = rw h at whole_free
 
     pub no_second : free mask v.written ≡ true → free mask v.also ≡ false → false ≡ saves_hold mask o
-    no_second g h = rw (g, h) at whole-free
+    no_second g h = rw (g, h) at whole_free
 
-    pub by-operand : free mask v.written ≡ true → free mask v.also ≡ true → operand_open mask v.operand ≡ saves_hold mask o
-    by-operand g h = rw (g, h) at whole-free
+    pub by_operand : free mask v.written ≡ true → free mask v.also ≡ true → operand_open mask v.operand ≡ saves_hold mask o
+    by_operand g h = rw (g, h) at whole_free

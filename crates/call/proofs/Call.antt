@@ -50,7 +50,7 @@ use Rattle.call.proofs.Follow.{lasting, Rel, Comes, follows}
 use Rattle.call.proofs.Saved.{Held, held}
 use Rattle.call.proofs.Lies.{Lies}
 use Rattle.call.proofs.Entered.{lying, opened, ready, start_rel, ground, mem_base_is}
-use Rattle.call.proofs.Left.{far-bytes, leaving}
+use Rattle.call.proofs.Left.{far_bytes, leaving}
 
 -- ---- lists of registers
 
@@ -167,7 +167,7 @@ module _ (Q : Floats) (p : Program) (g : Good p) (s : State) (o : Sound s) (c : 
   -- its bytes are the call's until the end
   obs_before : (x : ℕ) → x < 2 ^ 64 → ObservedAt H s x → u.mem x ≡ s.mem x
   obs_before x b e =
-      far-bytes Q p g s o c t r u h x b (λ q i. off_observed q x b i e) (l.obs_off e.0 e.1 e.2 x b e.3).1
+      far_bytes Q p g s o c t r u h x b (λ q i. off_observed q x b i e) (l.obs_off e.0 e.1 e.2 x b e.3).1
 
   obs_after : (x : ℕ) → x < 2 ^ 64 → ObservedAt H s x → v.mem x ≡ end_obs H s r x
   obs_after x b e = ap (λ (m : ℕ → ℕ). m x) w.mem ∙ by (table_used H s) e.0
@@ -225,7 +225,7 @@ module _ (Q : Floats) (p : Program) (g : Good p) (s : State) (o : Sound s) (c : 
       by (yes i) d e = cell_byte Mem x i (k Mem)
       by (no i) (yes j) e = cell_byte Stack x j (k Stack)
       by (no i) (no j) (yes m) = cell_byte Param x m (k Param)
-      by (no i) (no j) (no m) = far-bytes Q p g s o c t r u h x b none_of f
+      by (no i) (no j) (no m) = far_bytes Q p g s o c t r u h x b none_of f
         where
           none_of : (q : Place) → Inside (base H s q) (cell_count H q) x → ⊥
           none_of Mem = i
@@ -287,7 +287,7 @@ module _ (Q : Floats) (p : Program) (g : Good p) (s : State) (o : Sound s) (c : 
         runs = all.runs;
         sound = run_sound Q w.runs.runs h.sound;
         inside = all.inside;
-        first = λ k u m q e. t.ra-outside (subst (InCode p s.pc) e (all.inside k u m q));
+        first = λ k u m q e. t.ra_outside (subst (InCode p s.pc) e (all.inside k u m q));
         few = omega (arith, ran.few);
         pc = w.pc;
         x = all_of Same callers (registers H.frame w.restored w.others r0.others);

@@ -231,17 +231,17 @@ block_terms : Terms product.head 204 block
 unfolding upd
 block_terms =
     record {
-      code-aligned = refl;
-      block-aligned = λ h. refl;
+      code_aligned = refl;
+      block_aligned = λ h. refl;
       table_aligned = λ h. absurd h;
-      cells-aligned = λ h. absurd h;
-      params-aligned = λ h. refl;
-      ra-aligned = refl;
-      ra-outside = λ w. omega (arith, w.1);
-      sp-aligned = refl;
+      cells_aligned = λ h. absurd h;
+      params_aligned = λ h. refl;
+      ra_aligned = refl;
+      ra_outside = λ w. omega (arith, w.1);
+      sp_aligned = refl;
       separate = omega arith;
-      state-cells = λ h. absurd h;
-      obs-cells = λ h. absurd h;
+      state_cells = λ h. absurd h;
+      obs_cells = λ h. absurd h;
     }
 
 data_small : Bytes two × Bytes three × Bytes pointers
@@ -326,31 +326,31 @@ table_terms : Terms product.head 204 table
 unfolding upd load8 with_bytes
 table_terms =
     record {
-      code-aligned = refl;
-      block-aligned = λ h. absurd h;
+      code_aligned = refl;
+      block_aligned = λ h. absurd h;
       table_aligned = λ h. refl;
-      cells-aligned = λ h. both-cells;
-      params-aligned = λ h. refl;
-      ra-aligned = refl;
-      ra-outside = λ w. omega (arith, w.1);
-      sp-aligned = refl;
+      cells_aligned = λ h. both_cells;
+      params_aligned = λ h. refl;
+      ra_aligned = refl;
+      ra_outside = λ w. omega (arith, w.1);
+      sp_aligned = refl;
       separate = omega arith;
-      state-cells = λ h. only-state;
-      obs-cells = λ h. only-obs;
+      state_cells = λ h. only_state;
+      obs_cells = λ h. only_obs;
     }
   where
-    both-cells : (i : ℕ) → i < 2 → table_cell product.head table i % 8 ≡ 0
-    both-cells zero h = refl
-    both-cells (suc zero) h = refl
-    both-cells (suc (suc i)) h = absurd (omega arith)
+    both_cells : (i : ℕ) → i < 2 → table_cell product.head table i % 8 ≡ 0
+    both_cells zero h = refl
+    both_cells (suc zero) h = refl
+    both_cells (suc (suc i)) h = absurd (omega arith)
 
-    only-state : (i : ℕ) → i < 1 → Clear (table_cell product.head table i) (frame product.head table ∷ [])
-    only-state zero h = omega arith
-    only-state (suc i) h = absurd (omega arith)
+    only_state : (i : ℕ) → i < 1 → Clear (table_cell product.head table i) (frame product.head table ∷ [])
+    only_state zero h = omega arith
+    only_state (suc i) h = absurd (omega arith)
 
-    only-obs : (i : ℕ) → i < 1 → Clear (table_cell product.head table (1 + i)) (regions product.head 204 table Indirect)
-    only-obs zero h = omega arith
-    only-obs (suc i) h = absurd (omega arith)
+    only_obs : (i : ℕ) → i < 1 → Clear (table_cell product.head table (1 + i)) (regions product.head 204 table Indirect)
+    only_obs zero h = omega arith
+    only_obs (suc i) h = absurd (omega arith)
 
 pub table_called : Called product table
 table_called =

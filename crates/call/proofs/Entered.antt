@@ -37,7 +37,7 @@ use Rattle.call.specs.Layout.{span, body, items, place, entry, exit, code_items,
 use Rattle.call.proofs.Offset.{line_offset}
 use Rattle.call.proofs.Good.{Good}
 use Rattle.call.proofs.Items.{span_append, resolved_length}
-use Rattle.call.proofs.Whole.{entry-part, entry_stands}
+use Rattle.call.proofs.Whole.{entry_part, entry_stands}
 use Rattle.call.proofs.Cells.{at_cell}
 use Rattle.call.proofs.Follow.{Rel, Ground}
 use Rattle.call.proofs.Lies.{Lies, lies}
@@ -86,21 +86,21 @@ module _ (Q : Floats) (p : Program) (g : Good p) (s : State) (o : Sound s) (c : 
         counts = and_l (prologue_holds H) _ g.counts;
         room_for_saves = saves_room H g.cap;
         sound = o;
-        start = omega (arith, t.code-aligned);
+        start = omega (arith, t.code_aligned);
         fits = lying.top;
         sp = lying.sp;
-        code = entry-part p s.mem s.pc o.pc c;
+        code = entry_part p s.mem s.pc o.pc c;
         labels = entry_stands p;
         code_fits = omega (arith, lying.code_top, entry_span);
         code_apart = λ x b d f. let v = inside s.pc (code_length p) x lying.code_top b (omega (arith, entry_span)) in lying.code_frame x v f;
         table_fits = lying.table_top;
         table_apart = λ h x b d f. lying.table_frame h x (inside (s.x 11) (16 * cells H) x (lying.table_top h) b d) f;
-        states_apart = λ h i k x b d f. (t.state-cells h i k).0 (dist (table_cell H s i) x) d (rw (dist_back (table_cell H s i) x b) f);
+        states_apart = λ h i k x b d f. (t.state_cells h i k).0 (dist (table_cell H s i) x) d (rw (dist_back (table_cell H s i) x b) f);
         block_fits = lying.block_top;
         block_apart = λ h x b d f. lying.block_frame h x (inside (s.x 10) (8 * cells H) x (lying.block_top h) b d) f;
         frame_aligned = lying.frame_aligned;
         table_aligned = t.table_aligned;
-        states_aligned = λ h i k. t.cells-aligned h i (omega arith);
+        states_aligned = λ h i k. t.cells_aligned h i (omega arith);
       }
 
   pub opened : (u : State) × PrologueDone Q H (place p) s (bottom H s) u
@@ -160,7 +160,7 @@ module _ (Q : Floats) (p : Program) (g : Good p) (s : State) (o : Sound s) (c : 
       record {
         good = g;
         rooms = lying.rooms;
-        start-aligned = t.code-aligned;
+        start_aligned = t.code_aligned;
         start_small = o.pc;
         code_fits = lying.code_top;
         off_code = lying.off_code;

@@ -36,10 +36,10 @@ use Rattle.call.specs.Layout.{span, place, items, code_length, routine_words}
 use Rattle.call.proofs.Offset.{line_offset}
 use Rattle.call.proofs.Good.{GoodOrder, Good}
 use Rattle.call.proofs.Items.{resolved_length}
-use Rattle.call.proofs.Whole.{line-part, constant-part, offset_next, offset_four, offset_exit, offset_small, user_place, constants-place, placed, InCode, part_in}
+use Rattle.call.proofs.Whole.{line_part, constant_part, offset_next, offset_four, offset_exit, offset_small, user_place, constants_place, placed, InCode, part_in}
 use Rattle.call.proofs.Padding.{offset_eight}
 use Rattle.call.proofs.Cells.{Inside, Rooms, Fine, stored, stored_cells, stored_rest}
-use Rattle.call.proofs.Means.{accessible, same_meaning, fine-cells, exit-label}
+use Rattle.call.proofs.Means.{accessible, same_meaning, fine_cells, exit_label}
 
 -- registers that lines leave alone, and that the end of a call rests on: sp, gp, tp, s0..s11
 abbrev pub lasting : ℕ → Bool
@@ -86,7 +86,7 @@ module _ (Q : Floats) (p : Program) (A : Place → ℕ) (start : ℕ) (x0 m0 : �
   pub record Ground : Type 0 where
     pub good : Good p
     pub rooms : Rooms A n
-    pub start-aligned : start % 8 ≡ 0
+    pub start_aligned : start % 8 ≡ 0
     pub start_small : start < 2 ^ 64
     pub code_fits : start + code_length p ≤ 2 ^ 64
     pub off_code : (q : Place) (x : ℕ) → Inside (A q) (n q) x → start ≤ x → x < start + code_length p → ⊥
@@ -96,25 +96,25 @@ module _ (Q : Floats) (p : Program) (A : Place → ℕ) (start : ℕ) (x0 m0 : �
 
   module _ (g : Ground) where
     -- the code still stands
-    pub code-now : (r : Reading) (s : State) → Rel r s → CodeAt s.mem start (routine_words p)
-    code-now r s h =
+    pub code_now : (r : Reading) (s : State) → Rel r s → CodeAt s.mem start (routine_words p)
+    code_now r s h =
         let e = resolved_length (place p) 0 (items p) in
         code_kept m0 s.mem start (routine_words p) (omega (arith, g.code_fits))
         (λ x l d. let v = inside start (code_length p) x g.code_fits l (omega arith) in h.rest x l (λ q k. g.off_code q x k v.0 v.1))
         g.code
 
-    base-now : (r : Reading) (s : State) → Rel r s → (q : Place) → 0 < n q → getx s (O.base q) ≡ A q
-    base-now r s h q k = base_reads s q ∙ h.regs (O.base q) (base_lasting q) ∙ g.bases q k
+    base_now : (r : Reading) (s : State) → Rel r s → (q : Place) → 0 < n q → getx s (O.base q) ≡ A q
+    base_now r s h q k = base_reads s q ∙ h.regs (O.base q) (base_lasting q) ∙ g.bases q k
 
-    written-now : (r : Reading) (s : State) → Rel r s → (ws : List Written) (m : ℕ → ℕ) → Fine n ws → written s ws m ≡ stored A ws m
-    written-now r s h [] m k = refl
-    written-now r s h (w ∷ ws) m k = rw (base-now r s h w.place (omega (arith, k.0))) (written-now r s h ws _ k.2)
+    written_now : (r : Reading) (s : State) → Rel r s → (ws : List Written) (m : ℕ → ℕ) → Fine n ws → written s ws m ≡ stored A ws m
+    written_now r s h [] m k = refl
+    written_now r s h (w ∷ ws) m k = rw (base_now r s h w.place (omega (arith, k.0))) (written_now r s h ws _ k.2)
 
     -- One line.
     module _ (r : Reading) (s : State) (h : Rel r s) where
-      constant-does : (c : _) → get_elem? p.lines r.line ≡ some (constant c) → Comes (passed Q p r) s 0
+      constant_does : (c : _) → get_elem? p.lines r.line ≡ some (constant c) → Comes (passed Q p r) s 0
       unfolding line_code span
-      constant-does c e =
+      constant_does c e =
           record {
             count = 0;
             end = s;
@@ -144,19 +144,19 @@ module _ (Q : Floats) (p : Program) (A : Place → ℕ) (start : ℕ) (x0 m0 : �
         stands =
             record {
               sound = h.sound;
-              start-aligned = omega (arith, g.start-aligned);
-              here-aligned = offset_four p r.line;
-              here-small = offset_small p g.good r.line;
+              start_aligned = omega (arith, g.start_aligned);
+              here_aligned = offset_four p r.line;
+              here_small = offset_small p g.good r.line;
               pc = h.pc;
-              code = rw h.pc (line-part p s.mem start g.start_small (code-now r s h) r.line (order o) e);
+              code = rw h.pc (line_part p s.mem start g.start_small (code_now r s h) r.line (order o) e);
             }
 
         -- its accesses are at multiples of 8
         reaches : Accessible (accessed (place p) start s (uses o).operand)
         reaches =
             accessible (place p) start s p.head p.lines o fits.index fits.named fits.fault_free
-            (λ q i l. rw (base-now r s h q (omega arith)) (omega (arith, g.bases_aligned q (omega arith))))
-            (λ k l b. rw (constants-place p g.good k l b) (omega (arith, g.start-aligned, offset_eight p (omega arith))))
+            (λ q i l. rw (base_now r s h q (omega arith)) (omega (arith, g.bases_aligned q (omega arith))))
+            (λ k l b. rw (constants_place p g.good k l b) (omega (arith, g.start_aligned, offset_eight p (omega arith))))
 
         done : OrderDoes (place p) start Q here o s
         done = order_does Q (place p) (placed p g.good) start here o fits.fault_free s stands reaches
@@ -166,8 +166,8 @@ module _ (Q : Floats) (p : Program) (A : Place → ℕ) (start : ℕ) (x0 m0 : �
         meant =
             rw (h.f, h.rm)
             (same_meaning Q r.f r.rm p.head p.lines o fits.index fits.named fits.fault_free (cell_value s) r.cells (const_value (place p) start s) (const Q p)
-            (λ q i l. rw (base-now r s h q (omega arith)) (h.cells q i l))
-            (λ k l b. rw (constants-place p g.good k l b) (constant-part p s.mem start g.start_small (code-now r s h) k b)))
+            (λ q i l. rw (base_now r s h q (omega arith)) (h.cells q i l))
+            (λ k l b. rw (constants_place p g.good k l b) (constant_part p s.mem start g.start_small (code_now r s h) k b)))
 
         exits : (k : ℕ) (x : Exit) → (means Q p o r).exit ≡ x → goes p.lines r.line x ≡ some k → exit_address (place p) start s (length (resolved (place p) here (code o))) x ≡ w64 (start + line_offset p k)
         unfolding line_code
@@ -177,11 +177,11 @@ module _ (Q : Floats) (p : Program) (A : Place → ℕ) (start : ℕ) (x0 m0 : �
           where
             plain : (a b c d : ℕ) → 4 * c ≡ d → w64 (w64 (a + b) + 4 * c) ≡ w64 (a + (b + d))
             plain a b c d e = omega arith
-        exits k (to l) q z = rw (user_place p l k (exit-label Q r.f r.rm r.cells (const Q p) o l fits.fault_free q) z)
+        exits k (to l) q z = rw (user_place p l k (exit_label Q r.f r.rm r.cells (const Q p) o l fits.fault_free q) z)
 
-        order-comes : (k : ℕ) → goes p.lines r.line (means Q p o r).exit ≡ some k → Comes (with_meaning Q p k (means Q p o r) r) s (11 * weight (order o))
+        order_comes : (k : ℕ) → goes p.lines r.line (means Q p o r).exit ≡ some k → Comes (with_meaning Q p k (means Q p o r) r) s (11 * weight (order o))
         unfolding line_code
-        order-comes k z =
+        order_comes k z =
             record {
               count = done.count;
               end = end;
@@ -215,21 +215,21 @@ module _ (Q : Floats) (p : Program) (A : Place → ℕ) (start : ℕ) (x0 m0 : �
             ws = (means Q p o r).cells
 
             fine : Fine n ws
-            fine = fine-cells Q r.f r.rm r.cells (const Q p) p.head o fits.index (λ y. rw (← h.f) (h.sound.f y))
+            fine = fine_cells Q r.f r.rm r.cells (const Q p) p.head o fits.index (λ y. rw (← h.f) (h.sound.f y))
 
             memory : end.mem ≡ stored A ws s.mem
-            memory = done.ends.does.mem ∙ ap (λ (m : Meaning). written s m.cells s.mem) meant ∙ written-now r s h ws s.mem fine
+            memory = done.ends.does.mem ∙ ap (λ (m : Meaning). written s m.cells s.mem) meant ∙ written_now r s h ws s.mem fine
 
     -- by the step of the reading
-    pub line-comes : {r t : Reading} {l : Line} (s : State) → Rel r s → get_elem? p.lines r.line ≡ some l → Step Q p r l t → Comes t s (11 * weight l)
-    line-comes s h e (does {r = r} {o = o} {n = k} z) = order-comes r s h o e k z
-    line-comes s h e (passes {r = r} {c = c}) = constant-does r s h c e
+    pub line_comes : {r t : Reading} {l : Line} (s : State) → Rel r s → get_elem? p.lines r.line ≡ some l → Step Q p r l t → Comes t s (11 * weight l)
+    line_comes s h e (does {r = r} {o = o} {n = k} z) = order_comes r s h o e k z
+    line_comes s h e (passes {r = r} {c = c}) = constant_does r s h c e
 
     -- THE simulation: where the reading comes, the machine comes.
     pub follows : {r t : Reading} {k : ℕ} (s : State) → Rel r s → Reads Q p r k t → Comes t s (11 * k)
     follows s h none_read = record { count = 0; end = s; runs = no_step Q; few = omega arith; rel = h }
     follows s h (line_read e w q) =
-        let u = line-comes s h e w in
+        let u = line_comes s h e w in
         let v = follows u.end u.rel q in
         record {
           count = u.count + v.count;

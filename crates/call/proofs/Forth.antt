@@ -14,7 +14,7 @@ use Rattle.reading.specs.Line.{Line, order, constant, weight}
 use Rattle.reading.specs.Program.{Program, label_line}
 use Rattle.reading.specs.Plain.{Reading, goes, const, means, with_meaning, passed, Step, does, passes, Reads, none_read, line_read, Ended, Forward}
 use Rattle.call.proofs.Good.{Good}
-use Rattle.call.proofs.Means.{exit-branch}
+use Rattle.call.proofs.Means.{exit_branch}
 use Rattle.call.proofs.Placing.{labelled}
 
 found_line : (ls : List Line) (i : ℕ) → i < length ls → (l : Line) × (get_elem? ls i ≡ some l)
@@ -38,7 +38,7 @@ module _ (Q : Floats) (p : Program) (g : Good p) where
     target : (o : Order) → get_elem? p.lines r.line ≡ some (order o) → (x : Exit) → (means Q p o r).exit ≡ x → (n : ℕ) × (goes p.lines r.line x ≡ some n) × (Forward p → r.line < n) × (n ≤ length p.lines)
     target o e on q = (suc r.line, refl, λ f. omega arith, omega arith)
     target o e (to l) q =
-        let b = exit-branch Q r.f r.rm r.cells (const Q p) o l q in
+        let b = exit_branch Q r.f r.rm r.cells (const Q p) o l q in
         let k : get_elem? p.lines r.line ≡ some (order (BranchIf b.0 l b.1)) = e ∙ ap (λ (x : Order). some (order x)) b.2 in
         let t = set_somewhere (label_line l 0 p.lines) (g.orders r.line (BranchIf b.0 l b.1) k).named in
         let v = labelled l 0 0 p.lines t.0 t.1 in

@@ -88,17 +88,17 @@ module _ (b ss fs sv nm ns : ℕ) (hm : 8 * nm ≤ fs) (hs : 8 * ns ≤ ss) (top
     mem_at : w64 (b + ss) ≡ b + ss
     mem_at = omega arith
 
-    mem-fits : w64 (b + ss) + 8 * nm ≤ 2 ^ 64
-    mem-fits = rw mem_at (omega arith)
+    mem_fits : w64 (b + ss) + 8 * nm ≤ 2 ^ 64
+    mem_fits = rw mem_at (omega arith)
 
-    mem-frame : (x : ℕ) → Inside (w64 (b + ss)) nm x → (b ≤ x) × (x < b + (ss + fs + sv))
-    mem-frame x u = let v = rw mem_at at u in (omega (arith, v.0), omega (arith, v.1))
+    mem_frame : (x : ℕ) → Inside (w64 (b + ss)) nm x → (b ≤ x) × (x < b + (ss + fs + sv))
+    mem_frame x u = let v = rw mem_at at u in (omega (arith, v.0), omega (arith, v.1))
 
-    mem-stack : (x : ℕ) → Inside (w64 (b + ss)) nm x → Inside b ns x → ⊥
-    mem-stack x u v = let w = rw mem_at at u in omega (arith, w.0, v.1)
+    mem_stack : (x : ℕ) → Inside (w64 (b + ss)) nm x → Inside b ns x → ⊥
+    mem_stack x u v = let w = rw mem_at at u in omega (arith, w.0, v.1)
 
-    mem-places : (x : ℕ) → Inside (w64 (b + ss)) nm x → b + (ss + fs) ≤ x → ⊥
-    mem-places x u v = let w = rw mem_at at u in omega (arith, w.1)
+    mem_places : (x : ℕ) → Inside (w64 (b + ss)) nm x → b + (ss + fs) ≤ x → ⊥
+    mem_places x u v = let w = rw mem_at at u in omega (arith, w.1)
 
 rooms_of : (A n : Place → ℕ) → ((q : Place) → 0 < n q → A q + 8 * n q ≤ 2 ^ 64) → ((x : ℕ) → Inside (A Mem) (n Mem) x → Inside (A Stack) (n Stack) x → ⊥) → ((x : ℕ) → Inside (A Mem) (n Mem) x → Inside (A Param) (n Param) x → ⊥) → ((x : ℕ) → Inside (A Stack) (n Stack) x → Inside (A Param) (n Param) x → ⊥) → Rooms A n
 rooms_of A n f ms mp sp = record { fits = f; apart = by }
@@ -151,7 +151,7 @@ module _ (cap states obs last mask : ℕ) (len : ℕ) (s : State) (o : Sound s) 
     top1 = t.separate.2.0 (omega (arith, m1.1))
 
     even1 : b1 % 16 ≡ 0
-    even1 = bottom_even (s.x 2) (ss + fs + 32) t.sp-aligned (sum fs ss m1.3 s1.3) (omega (arith, m1.2, s1.2))
+    even1 = bottom_even (s.x 2) (ss + fs + 32) t.sp_aligned (sum fs ss m1.3 s1.3) (omega (arith, m1.2, s1.2))
       where
         sum : (a b : ℕ) → a % 16 ≡ 0 → b % 16 ≡ 0 → (b + a + 32) % 16 ≡ 0
         sum a b h k = omega arith
@@ -162,22 +162,22 @@ module _ (cap states obs last mask : ℕ) (len : ℕ) (s : State) (o : Sound s) 
     bases1 Param h = absurd (omega arith)
 
     in1 : (q : Place) (x : ℕ) → Inside (base (head Fast) s q) (cell_count (head Fast) q) x → Within (frame (head Fast) s) x
-    in1 Mem x u = mem-frame b1 ss fs 32 (states + obs) cap m1.0 s1.0 top1 m1.1 x u
+    in1 Mem x u = mem_frame b1 ss fs 32 (states + obs) cap m1.0 s1.0 top1 m1.1 x u
     in1 Stack x u = stack_frame b1 ss fs 32 (states + obs) cap m1.0 s1.0 top1 x u
     in1 Param x u = absurd (none_inside (s.x 13) x u)
 
     places1 : (q : Place) (x : ℕ) → Inside (base (head Fast) s q) (cell_count (head Fast) q) x → b1 + (ss + fs) ≤ x → ⊥
-    places1 Mem x u = mem-places b1 ss fs 32 (states + obs) cap m1.0 s1.0 top1 m1.1 x u
+    places1 Mem x u = mem_places b1 ss fs 32 (states + obs) cap m1.0 s1.0 top1 m1.1 x u
     places1 Stack x u = stack_places b1 ss fs 32 (states + obs) cap m1.0 s1.0 top1 x u
     places1 Param x u = absurd (none_inside (s.x 13) x u)
 
     fits1 : (q : Place) → 0 < cell_count (head Fast) q → base (head Fast) s q + 8 * cell_count (head Fast) q ≤ 2 ^ 64
-    fits1 Mem h = mem-fits b1 ss fs 32 (states + obs) cap m1.0 s1.0 top1 m1.1
+    fits1 Mem h = mem_fits b1 ss fs 32 (states + obs) cap m1.0 s1.0 top1 m1.1
     fits1 Stack h = stack_fits b1 ss fs 32 (states + obs) cap m1.0 s1.0 top1
     fits1 Param h = absurd (omega arith)
 
-    fast-lies : Lies (head Fast) len s
-    fast-lies =
+    fast_lies : Lies (head Fast) len s
+    fast_lies =
         record {
           top = top1;
           sp = sp_back (s.x 2) (ss + fs + 32) (o.x 2) (omega (arith, m1.2, s1.2));
@@ -188,7 +188,7 @@ module _ (cap states obs last mask : ℕ) (len : ℕ) (s : State) (o : Sound s) 
           mem_base = λ h. mem_at b1 ss fs 32 (states + obs) cap m1.0 s1.0 top1 m1.1;
           rooms =
               rooms_of (base (head Fast) s) (cell_count (head Fast)) fits1
-              (mem-stack b1 ss fs 32 (states + obs) cap m1.0 s1.0 top1 m1.1)
+              (mem_stack b1 ss fs 32 (states + obs) cap m1.0 s1.0 top1 m1.1)
               (λ x u v. none_inside (s.x 13) x v)
               (λ x u v. none_inside (s.x 13) x v);
           off_code = λ q x u a b. t.separate.1.0 x (a, b) (in1 q x u);
@@ -235,7 +235,7 @@ module _ (cap states obs last mask : ℕ) (len : ℕ) (s : State) (o : Sound s) 
       base2 Param = refl
 
       even2 : b2 % 16 ≡ 0
-      even2 = bottom_even (s.x 2) (ss + fs + 64) t.sp-aligned (sum fs ss m2.3 s2.3) (omega (arith, m2.2, s2.2))
+      even2 = bottom_even (s.x 2) (ss + fs + 64) t.sp_aligned (sum fs ss m2.3 s2.3) (omega (arith, m2.2, s2.2))
         where
           sum : (a b : ℕ) → a % 16 ≡ 0 → b % 16 ≡ 0 → (b + a + 64) % 16 ≡ 0
           sum a b h k = omega arith
@@ -243,23 +243,23 @@ module _ (cap states obs last mask : ℕ) (len : ℕ) (s : State) (o : Sound s) 
       bases2 : (q : Place) → 0 < cell_count (head Indirect) q → A2 q % 8 ≡ 0
       bases2 Mem h = above_even b2 ss even2 s2.3
       bases2 Stack h = half_even b2 even2
-      bases2 Param h = t.params-aligned h
+      bases2 Param h = t.params_aligned h
 
       mem2 : (x : ℕ) → Inside (A2 Mem) (states + obs) x → (b2 ≤ x) × (x < b2 + (ss + fs + 64))
-      mem2 = mem-frame b2 ss fs 64 (states + obs) cap m2.0 s2.0 top2 m2.1
+      mem2 = mem_frame b2 ss fs 64 (states + obs) cap m2.0 s2.0 top2 m2.1
 
       stack2 : (x : ℕ) → Inside (A2 Stack) cap x → (b2 ≤ x) × (x < b2 + (ss + fs + 64))
       stack2 = stack_frame b2 ss fs 64 (states + obs) cap m2.0 s2.0 top2
 
       fits2 : (q : Place) → 0 < cell_count (head Indirect) q → A2 q + 8 * cell_count (head Indirect) q ≤ 2 ^ 64
-      fits2 Mem h = mem-fits b2 ss fs 64 (states + obs) cap m2.0 s2.0 top2 m2.1
+      fits2 Mem h = mem_fits b2 ss fs 64 (states + obs) cap m2.0 s2.0 top2 m2.1
       fits2 Stack h = stack_fits b2 ss fs 64 (states + obs) cap m2.0 s2.0 top2
       fits2 Param h = sep2.2.2.0 (omega arith)
 
       rooms2 : Rooms A2 (cell_count (head Indirect))
       rooms2 =
           rooms_of A2 (cell_count (head Indirect)) fits2
-          (mem-stack b2 ss fs 64 (states + obs) cap m2.0 s2.0 top2 m2.1)
+          (mem_stack b2 ss fs 64 (states + obs) cap m2.0 s2.0 top2 m2.1)
           (λ x u v. sep2.2.1.0 x (mem2 x u) v)
           (λ x u v. sep2.2.1.0 x (stack2 x u) v)
 
@@ -269,7 +269,7 @@ module _ (cap states obs last mask : ℕ) (len : ℕ) (s : State) (o : Sound s) 
       code2 Param x u a b = sep2.1.1.0 x (a, b) u
 
       places2 : (q : Place) (x : ℕ) → Inside (A2 q) (cell_count (head Indirect) q) x → b2 + (ss + fs) ≤ x → x < b2 + (ss + fs + 64) → ⊥
-      places2 Mem x u a b = mem-places b2 ss fs 64 (states + obs) cap m2.0 s2.0 top2 m2.1 x u a
+      places2 Mem x u a b = mem_places b2 ss fs 64 (states + obs) cap m2.0 s2.0 top2 m2.1 x u a
       places2 Stack x u a b = stack_places b2 ss fs 64 (states + obs) cap m2.0 s2.0 top2 x u a
       places2 Param x u a b = sep2.2.1.0 x (omega arith, b) u
 
@@ -282,12 +282,12 @@ module _ (cap states obs last mask : ℕ) (len : ℕ) (s : State) (o : Sound s) 
       obs2 h i k x b d =
           let a : ℕ = table_cell (head Indirect) s (states + i) in
           let y : w64 (a + dist a x) ≡ x = dist_back a x b in
-          let v = t.obs-cells h i k in
+          let v = t.obs_cells h i k in
           let w = rw e at v.1.1.1.0 in
           (rw y at (v.0 (dist a x) d), rw y at (v.1.0 (dist a x) d), rw y at (w (dist a x) d), rw y at (v.1.1.0 (dist a x) d))
 
-      table-lies : Lies (head Indirect) len s
-      table-lies =
+      table_lies : Lies (head Indirect) len s
+      table_lies =
           record {
             top = rw e top2;
             sp = rw e (sp_back (s.x 2) (ss + fs + 64) (o.x 2) (omega (arith, m2.2, s2.2)));
@@ -332,12 +332,12 @@ module _ (cap states obs last mask : ℕ) (len : ℕ) (s : State) (o : Sound s) 
       base3 Param = refl
 
       even3 : b3 % 16 ≡ 0
-      even3 = bottom_even (s.x 2) (ss + 0 + 64) t.sp-aligned (omega (arith, s2.3)) (omega (arith, s2.2))
+      even3 = bottom_even (s.x 2) (ss + 0 + 64) t.sp_aligned (omega (arith, s2.3)) (omega (arith, s2.2))
 
       bases3 : (q : Place) → 0 < cell_count (head Indirect) q → A3 q % 8 ≡ 0
-      bases3 Mem h = t.block-aligned (rw e tt)
+      bases3 Mem h = t.block_aligned (rw e tt)
       bases3 Stack h = half_even b3 even3
-      bases3 Param h = t.params-aligned h
+      bases3 Param h = t.params_aligned h
 
       stack3 : (x : ℕ) → Inside (A3 Stack) cap x → (b3 ≤ x) × (x < b3 + (ss + 0 + 64))
       stack3 = stack_frame b3 ss 0 64 0 cap (omega arith) s2.0 top3
@@ -364,8 +364,8 @@ module _ (cap states obs last mask : ℕ) (len : ℕ) (s : State) (o : Sound s) 
       places3 Stack x u a b = stack_places b3 ss 0 64 0 cap (omega arith) s2.0 top3 x u a
       places3 Param x u a b = sep3.2.1.0 x (omega arith, b) u
 
-      block-lies : Lies (head Indirect) len s
-      block-lies =
+      block_lies : Lies (head Indirect) len s
+      block_lies =
           record {
             top = rw e top3;
             sp = rw e (sp_back (s.x 2) (ss + 0 + 64) (o.x 2) (omega (arith, s2.2)));
@@ -400,9 +400,9 @@ lies H len s o = by H.frame refl
     Known G = T (epilogue_holds G) → Terms G len s → Lies G len s
 
     indirect : (b : Bool) → eqb (s.x 11) 0 ≡ b → Known (with_frame Indirect H)
-    indirect true e g t = block-lies H.cap H.states H.obs H.last H.mask len s o g e t
-    indirect false e g t = table-lies H.cap H.states H.obs H.last H.mask len s o g e t
+    indirect true e g t = block_lies H.cap H.states H.obs H.last H.mask len s o g e t
+    indirect false e g t = table_lies H.cap H.states H.obs H.last H.mask len s o g e t
 
     by : (F : Frame) → H.frame ≡ F → Known H
-    by Fast e = subst Known (λ i. with_frame (sym e i) H) (fast-lies H.cap H.states H.obs H.last H.mask len s o)
+    by Fast e = subst Known (λ i. with_frame (sym e i) H) (fast_lies H.cap H.states H.obs H.last H.mask len s o)
     by Indirect e = subst Known (λ i. with_frame (sym e i) H) (indirect (eqb (s.x 11) 0) refl)

@@ -64,39 +64,39 @@ module _ (Q : Floats) (f : ℕ → ℕ) (rm : ℕ) where
 
   module _ (c : Place → ℕ → ℕ) (k : ℕ → ℕ) where
     -- the cells it writes are cells
-    pub fine-cells : (H : Head) (o : Order) → T (index_holds H o) → ((r : ℕ) → f r < 2 ^ 64) → Fine (cell_count H) (meaning Q f rm c k o).cells
+    pub fine_cells : (H : Head) (o : Order) → T (index_holds H o) → ((r : ℕ) → f r < 2 ^ 64) → Fine (cell_count H) (meaning Q f rm c k o).cells
     unfolding meaning
-    fine-cells H (Unary u a b) h s = tt
-    fine-cells H (Scratched u a b t) h s = tt
-    fine-cells H (Binary u a b t) h s = tt
-    fine-cells H (Fused u a b t v) h s = tt
-    fine-cells H (Ifelse a b t i) h s = tt
-    fine-cells H (LoadConst a i) h s = tt
-    fine-cells H (Load a r i) h s = tt
-    fine-cells H (Save a r i) h s = (ltb→lt i (cell_count H r) h, s a, tt)
-    fine-cells H (BranchIf a l t) h s = tt
-    fine-cells H (SetLabel l) h s = tt
+    fine_cells H (Unary u a b) h s = tt
+    fine_cells H (Scratched u a b t) h s = tt
+    fine_cells H (Binary u a b t) h s = tt
+    fine_cells H (Fused u a b t v) h s = tt
+    fine_cells H (Ifelse a b t i) h s = tt
+    fine_cells H (LoadConst a i) h s = tt
+    fine_cells H (Load a r i) h s = tt
+    fine_cells H (Save a r i) h s = (ltb→lt i (cell_count H r) h, s a, tt)
+    fine_cells H (BranchIf a l t) h s = tt
+    fine_cells H (SetLabel l) h s = tt
 
     -- only a branch goes to a label
-    pub exit-branch : (o : Order) (l : ℕ) → (meaning Q f rm c k o).exit ≡ to l → (a : ℕ) × (t : Bool) × (o ≡ BranchIf a l t)
+    pub exit_branch : (o : Order) (l : ℕ) → (meaning Q f rm c k o).exit ≡ to l → (a : ℕ) × (t : Bool) × (o ≡ BranchIf a l t)
     unfolding meaning
-    exit-branch (Unary u a b) l e = let z : ◌≡◌ {A = ℕ} 0 1 = cc in absurd (omega arith)
-    exit-branch (Scratched u a b t) l e = let z : ◌≡◌ {A = ℕ} 0 1 = cc in absurd (omega arith)
-    exit-branch (Binary u a b t) l e = let z : ◌≡◌ {A = ℕ} 0 1 = cc in absurd (omega arith)
-    exit-branch (Fused u a b t v) l e = let z : ◌≡◌ {A = ℕ} 0 1 = cc in absurd (omega arith)
-    exit-branch (Ifelse a b t i) l e = let z : ◌≡◌ {A = ℕ} 0 1 = cc in absurd (omega arith)
-    exit-branch (LoadConst a i) l e = let z : ◌≡◌ {A = ℕ} 0 1 = cc in absurd (omega arith)
-    exit-branch (Load a r i) l e = let z : ◌≡◌ {A = ℕ} 0 1 = cc in absurd (omega arith)
-    exit-branch (Save a r i) l e = let z : ◌≡◌ {A = ℕ} 0 1 = cc in absurd (omega arith)
-    exit-branch (BranchIf a m t) l e = by (jumps t (f a)) e
+    exit_branch (Unary u a b) l e = let z : ◌≡◌ {A = ℕ} 0 1 = cc in absurd (omega arith)
+    exit_branch (Scratched u a b t) l e = let z : ◌≡◌ {A = ℕ} 0 1 = cc in absurd (omega arith)
+    exit_branch (Binary u a b t) l e = let z : ◌≡◌ {A = ℕ} 0 1 = cc in absurd (omega arith)
+    exit_branch (Fused u a b t v) l e = let z : ◌≡◌ {A = ℕ} 0 1 = cc in absurd (omega arith)
+    exit_branch (Ifelse a b t i) l e = let z : ◌≡◌ {A = ℕ} 0 1 = cc in absurd (omega arith)
+    exit_branch (LoadConst a i) l e = let z : ◌≡◌ {A = ℕ} 0 1 = cc in absurd (omega arith)
+    exit_branch (Load a r i) l e = let z : ◌≡◌ {A = ℕ} 0 1 = cc in absurd (omega arith)
+    exit_branch (Save a r i) l e = let z : ◌≡◌ {A = ℕ} 0 1 = cc in absurd (omega arith)
+    exit_branch (BranchIf a m t) l e = by (jumps t (f a)) e
       where
         by : (b : Bool) → cond b (to m) on ≡ to l → (a' : ℕ) × (t' : Bool) × (BranchIf a m t ≡ BranchIf a' l t')
         by true e = let z : m ≡ l = cc in (a, t, ap (λ (j : ℕ). BranchIf a j t) z)
         by false e = let z : ◌≡◌ {A = ℕ} 0 1 = cc in absurd (omega arith)
-    exit-branch (SetLabel m) l e = let z : ◌≡◌ {A = ℕ} 0 1 = cc in absurd (omega arith)
+    exit_branch (SetLabel m) l e = let z : ◌≡◌ {A = ℕ} 0 1 = cc in absurd (omega arith)
 
     -- a user's
-    pub exit-label : (o : Order) (l : ℕ) → fault o ≡ 0 → (meaning Q f rm c k o).exit ≡ to l → l ≤ 1023
-    exit-label o l h e =
-        let b = exit-branch o l e in
+    pub exit_label : (o : Order) (l : ℕ) → fault o ≡ 0 → (meaning Q f rm c k o).exit ≡ to l → l ≤ 1023
+    exit_label o l h e =
+        let b = exit_branch o l e in
         branch_label b.0 l b.1 (rw b.2 at h)

@@ -60,36 +60,36 @@ module _ (mask : ℕ) where
         upd_other (upd f e v) d w y (not_free y d g (and_l (free mask d) true (and_r (free mask e) _ h)))
         ∙ upd_other f e v y (not_free y e g (and_l (free mask e) _ h))
 
-    unary-keeps : (k : U.Unary) (d s : ℕ) → T (all (free mask) (unary_writes k d s)) → unary Q rm k f d s y ≡ f y
+    unary_keeps : (k : U.Unary) (d s : ℕ) → T (all (free mask) (unary_writes k d s)) → unary Q rm k f d s y ≡ f y
     unfolding unary
-    unary-keeps Fmov d s h = by (eqb d s) refl h
+    unary_keeps Fmov d s h = by (eqb d s) refl h
       where
         by : (b : Bool) → eqb d s ≡ b → T (all (free mask) (cond b [] (d ∷ []))) → upd f d (f s) y ≡ f y
         by true e h = rw (← (eqb-true d s e)) (upd_self f d y)
         by false e h = one d (f s) h
-    unary-keeps Recip d s h = two d 10 _ _ h
-    unary-keeps Round d s h = one d _ h
-    unary-keeps Floor d s h = one d _ h
-    unary-keeps Not d s h = one d _ h
+    unary_keeps Recip d s h = two d 10 _ _ h
+    unary_keeps Round d s h = one d _ h
+    unary_keeps Floor d s h = one d _ h
+    unary_keeps Not d s h = one d _ h
 
-    scratched-keeps : (k : S.Scratched) (d s t : ℕ) → T (all (free mask) (t ∷ d ∷ [])) → scratched Q rm k f d s t y ≡ f y
+    scratched_keeps : (k : S.Scratched) (d s t : ℕ) → T (all (free mask) (t ∷ d ∷ [])) → scratched Q rm k f d s t y ≡ f y
     unfolding scratched
-    scratched-keeps Sign d s t h = two d t _ _ h
-    scratched-keeps Frac d s t h = two d t _ _ h
+    scratched_keeps Sign d s t h = two d t _ _ h
+    scratched_keeps Frac d s t h = two d t _ _ h
 
     -- an order leaves it
-    register-kept : (c : Place → ℕ → ℕ) (k : ℕ → ℕ) (o : Order) → T (all (free mask) (uses o).writes) → (meaning Q f rm c k o).f y ≡ f y
+    register_kept : (c : Place → ℕ → ℕ) (k : ℕ → ℕ) (o : Order) → T (all (free mask) (uses o).writes) → (meaning Q f rm c k o).f y ≡ f y
     unfolding meaning
-    register-kept c k (Unary u d s) h = unary-keeps u d s h
-    register-kept c k (Scratched u d s t) h = scratched-keeps u d s t h
-    register-kept c k (Binary u d a b) h = one d _ h
-    register-kept c k (Fused u d a b e) h = one d _ h
-    register-kept c k (Ifelse d a b i) h = one d _ h
-    register-kept c k (LoadConst d i) h = one d _ h
-    register-kept c k (Load d p i) h = one d _ h
-    register-kept c k (Save s p i) h = refl
-    register-kept c k (BranchIf a l e) h = refl
-    register-kept c k (SetLabel l) h = refl
+    register_kept c k (Unary u d s) h = unary_keeps u d s h
+    register_kept c k (Scratched u d s t) h = scratched_keeps u d s t h
+    register_kept c k (Binary u d a b) h = one d _ h
+    register_kept c k (Fused u d a b e) h = one d _ h
+    register_kept c k (Ifelse d a b i) h = one d _ h
+    register_kept c k (LoadConst d i) h = one d _ h
+    register_kept c k (Load d p i) h = one d _ h
+    register_kept c k (Save s p i) h = refl
+    register_kept c k (BranchIf a l e) h = refl
+    register_kept c k (SetLabel l) h = refl
 
   -- ---- the cell of a saved register
 
@@ -140,7 +140,7 @@ module _ (Q : Floats) (p : Program) (g : Good p) where
       record {
         rm = refl;
         obs = refl;
-        registers = λ y v. register-kept mask Q r.f r.rm y v r.cells _ o (and_l (all (free mask) (uses o).writes) _ h);
+        registers = λ y v. register_kept mask Q r.f r.rm y v r.cells _ o (and_l (all (free mask) (uses o).writes) _ h);
         cells = λ y m. cell_kept mask Q r.f r.rm y m r.cells _ o (and_r (all (free mask) (uses o).writes) _ h);
       }
   step_held e passes = record { rm = refl; obs = refl; registers = λ y v. refl; cells = λ y m. refl }

@@ -82,35 +82,35 @@ module _ (p : Program) where
   -- ---- the parts
 
   module _ (m : ℕ → ℕ) (a : ℕ) (b : a < 2 ^ 64) (c : CodeAt m a (routine_words p)) where
-    code-part : CodeAt m a (resolved (place p) 0 (code_items p))
+    code_part : CodeAt m a (resolved (place p) 0 (code_items p))
     unfolding items
-    code-part = code_first m (place p) a 0 (code_items p) (data_items p) c
+    code_part = code_first m (place p) a 0 (code_items p) (data_items p) c
 
-    pub entry-part : CodeAt m a (resolved (place p) 0 (entry p))
-    entry-part = code_first m (place p) a 0 (entry p) (body p.lines ++ exit p) code-part
+    pub entry_part : CodeAt m a (resolved (place p) 0 (entry p))
+    entry_part = code_first m (place p) a 0 (entry p) (body p.lines ++ exit p) code_part
 
     rest_part : CodeAt m (w64 (a + span (entry p))) (resolved (place p) (span (entry p)) (body p.lines ++ exit p))
-    rest_part = rw (zero-add (span (entry p))) at (code_second m (place p) a 0 (entry p) (body p.lines ++ exit p) b code-part)
+    rest_part = rw (zero-add (span (entry p))) at (code_second m (place p) a 0 (entry p) (body p.lines ++ exit p) b code_part)
 
-    pub line-part : (n : ℕ) (l : Line) → get_elem? p.lines n ≡ some l → CodeAt m (w64 (a + line_offset p n)) (resolved (place p) (line_offset p n) (line_code l))
+    pub line_part : (n : ℕ) (l : Line) → get_elem? p.lines n ≡ some l → CodeAt m (w64 (a + line_offset p n)) (resolved (place p) (line_offset p n) (line_code l))
     unfolding line_offset
-    line-part n l e =
+    line_part n l e =
         let x : ℕ = span (entry p) in
         let y : ℕ = span (body (take n p.lines)) in
         rw (← (add_assoc a x y), ← (wrap_l (a + x) y))
         (line_words m (place p) (w64 (a + x)) x n l p.lines e (omega arith) (code_first m (place p) (w64 (a + x)) x (body p.lines) (exit p) rest_part))
 
-    pub exit-part : (n : ℕ) → length p.lines ≤ n → CodeAt m (w64 (a + line_offset p n)) (resolved (place p) (line_offset p n) (exit p))
+    pub exit_part : (n : ℕ) → length p.lines ≤ n → CodeAt m (w64 (a + line_offset p n)) (resolved (place p) (line_offset p n) (exit p))
     unfolding line_offset
-    exit-part n h =
+    exit_part n h =
         let x : ℕ = span (entry p) in
         let y : ℕ = span (body p.lines) in
         rw (take_all n p.lines h, ← (add_assoc a x y), ← (wrap_l (a + x) y))
         (code_second m (place p) (w64 (a + x)) x (body p.lines) (exit p) (omega arith) rest_part)
 
-    pub constant-part : (k : ℕ) → k < length (constants p.lines) → load8 m (w64 (a + (constants_offset p + 8 * k))) ≡ get_or (constants p.lines) k 0
+    pub constant_part : (k : ℕ) → k < length (constants p.lines) → load8 m (w64 (a + (constants_offset p + 8 * k))) ≡ get_or (constants p.lines) k 0
     unfolding items
-    constant-part k h =
+    constant_part k h =
         let x : ℕ = span (code_items p) in
         let y : ℕ = span (pad p) in
         let d = code_second m (place p) a 0 (code_items p) (data_items p) b c in
@@ -177,9 +177,9 @@ module _ (p : Program) where
 
   module _ (g : Good p) where
     -- constant k's label is at the constant
-    pub constants-place : (k : ℕ) → k ≤ 1007 → k < length (constants p.lines) → place p (constant_label k) ≡ constants_offset p + 8 * k
+    pub constants_place : (k : ℕ) → k ≤ 1007 → k < length (constants p.lines) → place p (constant_label k) ≡ constants_offset p + 8 * k
     unfolding place items
-    constants-place k h l =
+    constants_place k h l =
         let u : Unset (constant_label k) (code_items p) =
         unset_append (constant_label k) (entry p) (body p.lines ++ exit p) (entry_unset (constant_label k) (λ v. omega (arith, v.0)))
         (unset_append (constant_label k) (body p.lines) (exit p) (body_unset (constant_label k) p.lines (λ n j e q. omega (arith, label_low j (g.orders n (SetLabel j) e).fault_free))) (exit_unset (constant_label k) (λ v. omega (arith, v.0))))
@@ -191,9 +191,9 @@ module _ (p : Program) where
         rw (past (constant_label k) 0 (code_items p) (data_items p) u, past (constant_label k) (0 + x) (pad p) (constants_from 0 (constants p.lines)) w, rw z at v) (omega arith)
 
     -- the frames' labels are where the items set them
-    pub exit-stands : (n : ℕ) → length p.lines ≤ n → Stands (place p) (line_offset p n) (exit p)
+    pub exit_stands : (n : ℕ) → length p.lines ≤ n → Stands (place p) (line_offset p n) (exit p)
     unfolding place items line_offset
-    exit-stands n h =
+    exit_stands n h =
         stands_of (place p) (span (entry p) + span (body (take n p.lines))) (exit p) (data_items p) Late (exit_fresh p.head)
         (λ l v.
         rw (append_assoc (entry p) (body p.lines ++ exit p) (data_items p), append_assoc (body p.lines) (exit p) (data_items p))

@@ -37,7 +37,7 @@ use Rattle.call.proofs.Good.{Good}
 use Rattle.call.proofs.Items.{resolved_append, resolved_length, Fresh}
 use Rattle.call.proofs.Labels.{Early, Late, entry_fresh, exit_fresh}
 use Rattle.call.proofs.Padding.{padding_is, front_items, front_span, words_parted}
-use Rattle.call.proofs.Whole.{entry_stands, exit-stands}
+use Rattle.call.proofs.Whole.{entry_stands, exit_stands}
 
 -- each word is a valid instruction's
 abbrev pub Encoded : List ℕ → Type 0
@@ -122,7 +122,7 @@ module _ (p : Program) (g : Good p) where
       let is : List Item = reloads p.head.mask in
       all_valid_join (place p) h is (epilogue p.head) (reloads_valid (place p) h p.head.mask)
       (epilogue_valid (place p) (h + span is) p.head g.counts
-      (rw (resolved_length (place p) h is) at (stands_right (place p) h is (epilogue p.head) (exit-stands p g (length p.lines) (omega arith)))))
+      (rw (resolved_length (place p) h is) at (stands_right (place p) h is (epilogue p.head) (exit_stands p g (length p.lines) (omega arith)))))
 
   code_encoded : Encoded (resolved (place p) 0 (code_items p))
   unfolding line_offset

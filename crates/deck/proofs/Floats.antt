@@ -52,9 +52,9 @@ module _ (v : ℕ) (h : v ≤ 9007199254740992) where
     unfolding form_judged
     plain_is g = rw (e, g, lt-ltb v 9007199254740993 (omega arith), plain)
 
-    pub negated-is : m ≡ true → accepted (constant (Constant.Float (of_int binary64 (to_z w64 (of_z w64 (pos 0 -ℤ to_z w64 v)))))) ≡ form_judged (Form.Float m n)
+    pub negated_is : m ≡ true → accepted (constant (Constant.Float (of_int binary64 (to_z w64 (of_z w64 (pos 0 -ℤ to_z w64 v)))))) ≡ form_judged (Form.Float m n)
     unfolding form_judged
-    negated-is g = rw (e, g, lt-ltb v 9007199254740993 (omega arith), back)
+    negated_is g = rw (e, g, lt-ltb v 9007199254740993 (omega arith), back)
 
 pub too_big : (m : Bool) (n : Number) → n ≡ TooBig → refused 2 0 ≡ form_judged (Form.Float m n)
 unfolding form_judged

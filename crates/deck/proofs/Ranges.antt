@@ -74,15 +74,15 @@ module _ (f : Frame) (c s o l m : Number) where
     unfolding form_judged
     parted = rw (em, grouped (below 4097 c) (below 4097 s) (below 4097 o) (below 4097 l) (counts_hold (head_of f c s o l m)))
 
-    pub no-count : are_below 4097 c s o l ≡ false → refused 9 0 ≡ form_judged (Form.Head f c s o l m)
-    no-count e = rw (parted, e)
+    pub no_count : are_below 4097 c s o l ≡ false → refused 9 0 ≡ form_judged (Form.Head f c s o l m)
+    no_count e = rw (parted, e)
 
     module _ (ec : are_below 4097 c s o l ≡ true) (h : Head) (eh : h ≡ cut_head f c s o l m) where
       whole : h ≡ head_of f c s o l m
       whole = let e = lows 4097 (omega arith) c s o l ec in eh ∙ rw (e.0, e.1, e.2, e.3, low_is 4294967296 m (omega arith) em)
 
-      pub head-good : counts_hold h ≡ true → accepted (head h) ≡ form_judged (Form.Head f c s o l m)
-      head-good g = rw (parted, ec, ← whole, g)
+      pub head_good : counts_hold h ≡ true → accepted (head h) ≡ form_judged (Form.Head f c s o l m)
+      head_good g = rw (parted, ec, ← whole, g)
 
-      pub head-bad : counts_hold h ≡ false → refused 9 0 ≡ form_judged (Form.Head f c s o l m)
-      head-bad g = rw (parted, ec, ← whole, g)
+      pub head_bad : counts_hold h ≡ false → refused 9 0 ≡ form_judged (Form.Head f c s o l m)
+      head_bad g = rw (parted, ec, ← whole, g)

@@ -70,11 +70,11 @@ module _ {i : Instr} {f : Field} {n : ℕ} (j : Judged i f n) where
 
   -- w is its word where the field has its bits
   module _ (m : ℕ) (e : f ≡ Bits m) (w : ℕ) (h : m ≡ n → w ≡ encode i) where
-    pub small-field : w < 4294967296
-    small-field = let k = rw e at j.means in small i k.0 w (h k.1)
+    pub small_field : w < 4294967296
+    small_field = let k = rw e at j.means in small i k.0 w (h k.1)
 
-    pub good-field : accepted w ≡ encoded i
-    good-field = let k = rw e at j.means in good i k.0 w (h k.1) j.passed
+    pub good_field : accepted w ≡ encoded i
+    good_field = let k = rw e at j.means in good i k.0 w (h k.1) j.passed
 
 pub fourth : (a b c d : ℕ) → (ltb a 32 && (ltb b 32 && (ltb c 32 && (ltb d 32 && true)))) ≡ true → d < 32
 fourth a b c d e =

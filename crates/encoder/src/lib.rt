@@ -166,111 +166,111 @@ const U_ROWS: usize = 50;
 
 const J_ROWS: usize = 52;
 
-const ADD: usize = 0;
+const ADD_ROW: usize = 0;
 
-const SUB: usize = 1;
+const SUB_ROW: usize = 1;
 
-const SLL: usize = 2;
+const SLL_ROW: usize = 2;
 
-const XOR: usize = 3;
+const XOR_ROW: usize = 3;
 
-const SRL: usize = 4;
+const SRL_ROW: usize = 4;
 
-const SRA: usize = 5;
+const SRA_ROW: usize = 5;
 
-const OR: usize = 6;
+const OR_ROW: usize = 6;
 
-const AND: usize = 7;
+const AND_ROW: usize = 7;
 
-const FSGNJ_D: usize = 8;
+const FSGNJ_D_ROW: usize = 8;
 
-const FSGNJN_D: usize = 9;
+const FSGNJN_D_ROW: usize = 9;
 
-const FSGNJX_D: usize = 10;
+const FSGNJX_D_ROW: usize = 10;
 
-const FMIN_D: usize = 11;
+const FMIN_D_ROW: usize = 11;
 
-const FMAX_D: usize = 12;
+const FMAX_D_ROW: usize = 12;
 
-const FLE_D: usize = 13;
+const FLE_D_ROW: usize = 13;
 
-const FLT_D: usize = 14;
+const FLT_D_ROW: usize = 14;
 
-const FEQ_D: usize = 15;
+const FEQ_D_ROW: usize = 15;
 
-const FADD_D: usize = 0;
+const FADD_D_ROW: usize = 0;
 
-const FSUB_D: usize = 1;
+const FSUB_D_ROW: usize = 1;
 
-const FMUL_D: usize = 2;
+const FMUL_D_ROW: usize = 2;
 
-const FDIV_D: usize = 3;
+const FDIV_D_ROW: usize = 3;
 
-const FSQRT_D: usize = 0;
+const FSQRT_D_ROW: usize = 0;
 
-const FCVT_W_D: usize = 1;
+const FCVT_W_D_ROW: usize = 1;
 
-const FCVT_L_D: usize = 2;
+const FCVT_L_D_ROW: usize = 2;
 
-const FCVT_D_W: usize = 3;
+const FCVT_D_W_ROW: usize = 3;
 
-const FCVT_D_L: usize = 4;
+const FCVT_D_L_ROW: usize = 4;
 
-const FMV_X_D: usize = 0;
+const FMV_X_D_ROW: usize = 0;
 
-const FMV_D_X: usize = 1;
+const FMV_D_X_ROW: usize = 1;
 
-const FMADD_D: usize = 0;
+const FMADD_D_ROW: usize = 0;
 
-const FMSUB_D: usize = 1;
+const FMSUB_D_ROW: usize = 1;
 
-const FNMSUB_D: usize = 2;
+const FNMSUB_D_ROW: usize = 2;
 
-const FNMADD_D: usize = 3;
+const FNMADD_D_ROW: usize = 3;
 
-const ADDI: usize = 0;
+const ADDI_ROW: usize = 0;
 
-const XORI: usize = 1;
+const XORI_ROW: usize = 1;
 
-const ORI: usize = 2;
+const ORI_ROW: usize = 2;
 
-const ANDI: usize = 3;
+const ANDI_ROW: usize = 3;
 
-const JALR: usize = 4;
+const JALR_ROW: usize = 4;
 
-const LD: usize = 5;
+const LD_ROW: usize = 5;
 
-const FLD: usize = 6;
+const FLD_ROW: usize = 6;
 
-const ADDIW: usize = 7;
+const ADDIW_ROW: usize = 7;
 
-const SLLI: usize = 0;
+const SLLI_ROW: usize = 0;
 
-const SRLI: usize = 1;
+const SRLI_ROW: usize = 1;
 
-const SRAI: usize = 2;
+const SRAI_ROW: usize = 2;
 
-const SD: usize = 0;
+const SD_ROW: usize = 0;
 
-const FSD: usize = 1;
+const FSD_ROW: usize = 1;
 
-const BEQ: usize = 0;
+const BEQ_ROW: usize = 0;
 
-const BNE: usize = 1;
+const BNE_ROW: usize = 1;
 
-const BLT: usize = 2;
+const BLT_ROW: usize = 2;
 
-const BGE: usize = 3;
+const BGE_ROW: usize = 3;
 
-const BLTU: usize = 4;
+const BLTU_ROW: usize = 4;
 
-const BGEU: usize = 5;
+const BGEU_ROW: usize = 5;
 
-const LUI: usize = 0;
+const LUI_ROW: usize = 0;
 
-const AUIPC: usize = 1;
+const AUIPC_ROW: usize = 1;
 
-const JAL: usize = 0;
+const JAL_ROW: usize = 0;
 
 // The rounding field that means the current mode, and round to nearest even.
 const DYN: u32 = 7;
@@ -569,237 +569,237 @@ fn jtype(op: usize, rd: u32, imm: i32) -> Encoded
 pub fn add(rd: u32, rs1: u32, rs2: u32) -> Encoded
     ensures { word_answer result ≡ encoded (R ADD rd rs1 rs2) }
 {
-    rtype(ADD, rd, rs1, rs2)
+    rtype(ADD_ROW, rd, rs1, rs2)
 }
 
 pub fn mv(rd: u32, rs1: u32) -> Encoded
     ensures { word_answer result ≡ encoded (R ADD rd rs1 0) }
 {
-    rtype(ADD, rd, rs1, 0)
+    rtype(ADD_ROW, rd, rs1, 0)
 }
 
 pub fn sub(rd: u32, rs1: u32, rs2: u32) -> Encoded
     ensures { word_answer result ≡ encoded (R SUB rd rs1 rs2) }
 {
-    rtype(SUB, rd, rs1, rs2)
+    rtype(SUB_ROW, rd, rs1, rs2)
 }
 
 pub fn neg(rd: u32, rs2: u32) -> Encoded
     ensures { word_answer result ≡ encoded (R SUB rd 0 rs2) }
 {
-    rtype(SUB, rd, 0, rs2)
+    rtype(SUB_ROW, rd, 0, rs2)
 }
 
 pub fn and(rd: u32, rs1: u32, rs2: u32) -> Encoded
     ensures { word_answer result ≡ encoded (R AND rd rs1 rs2) }
 {
-    rtype(AND, rd, rs1, rs2)
+    rtype(AND_ROW, rd, rs1, rs2)
 }
 
 pub fn or(rd: u32, rs1: u32, rs2: u32) -> Encoded
     ensures { word_answer result ≡ encoded (R OR rd rs1 rs2) }
 {
-    rtype(OR, rd, rs1, rs2)
+    rtype(OR_ROW, rd, rs1, rs2)
 }
 
 pub fn xor(rd: u32, rs1: u32, rs2: u32) -> Encoded
     ensures { word_answer result ≡ encoded (R XOR rd rs1 rs2) }
 {
-    rtype(XOR, rd, rs1, rs2)
+    rtype(XOR_ROW, rd, rs1, rs2)
 }
 
 pub fn sll(rd: u32, rs1: u32, rs2: u32) -> Encoded
     ensures { word_answer result ≡ encoded (R SLL rd rs1 rs2) }
 {
-    rtype(SLL, rd, rs1, rs2)
+    rtype(SLL_ROW, rd, rs1, rs2)
 }
 
 pub fn srl(rd: u32, rs1: u32, rs2: u32) -> Encoded
     ensures { word_answer result ≡ encoded (R SRL rd rs1 rs2) }
 {
-    rtype(SRL, rd, rs1, rs2)
+    rtype(SRL_ROW, rd, rs1, rs2)
 }
 
 pub fn sra(rd: u32, rs1: u32, rs2: u32) -> Encoded
     ensures { word_answer result ≡ encoded (R SRA rd rs1 rs2) }
 {
-    rtype(SRA, rd, rs1, rs2)
+    rtype(SRA_ROW, rd, rs1, rs2)
 }
 
 pub fn addi(rd: u32, rs1: u32, imm: i32) -> Encoded
     ensures { word_answer result ≡ encoded (I ADDI rd rs1 imm) }
 {
-    itype(ADDI, rd, rs1, imm)
+    itype(ADDI_ROW, rd, rs1, imm)
 }
 
 pub fn addiw(rd: u32, rs1: u32, imm: i32) -> Encoded
     ensures { word_answer result ≡ encoded (I ADDIW rd rs1 imm) }
 {
-    itype(ADDIW, rd, rs1, imm)
+    itype(ADDIW_ROW, rd, rs1, imm)
 }
 
 pub fn nop() -> Encoded
     ensures { word_answer result ≡ encoded (I ADDI 0 0 (pos 0)) }
 {
-    itype(ADDI, 0, 0, 0)
+    itype(ADDI_ROW, 0, 0, 0)
 }
 
 pub fn andi(rd: u32, rs1: u32, imm: i32) -> Encoded
     ensures { word_answer result ≡ encoded (I ANDI rd rs1 imm) }
 {
-    itype(ANDI, rd, rs1, imm)
+    itype(ANDI_ROW, rd, rs1, imm)
 }
 
 pub fn ori(rd: u32, rs1: u32, imm: i32) -> Encoded
     ensures { word_answer result ≡ encoded (I ORI rd rs1 imm) }
 {
-    itype(ORI, rd, rs1, imm)
+    itype(ORI_ROW, rd, rs1, imm)
 }
 
 pub fn xori(rd: u32, rs1: u32, imm: i32) -> Encoded
     ensures { word_answer result ≡ encoded (I XORI rd rs1 imm) }
 {
-    itype(XORI, rd, rs1, imm)
+    itype(XORI_ROW, rd, rs1, imm)
 }
 
 pub fn not(rd: u32, rs1: u32) -> Encoded
     ensures { word_answer result ≡ encoded (I XORI rd rs1 (negsuc 0)) }
 {
-    itype(XORI, rd, rs1, -1)
+    itype(XORI_ROW, rd, rs1, -1)
 }
 
 pub fn slli(rd: u32, rs1: u32, shamt: i32) -> Encoded
     ensures { word_answer result ≡ encoded (Shift SLLI rd rs1 shamt) }
 {
-    shift(SLLI, rd, rs1, shamt)
+    shift(SLLI_ROW, rd, rs1, shamt)
 }
 
 pub fn srli(rd: u32, rs1: u32, shamt: i32) -> Encoded
     ensures { word_answer result ≡ encoded (Shift SRLI rd rs1 shamt) }
 {
-    shift(SRLI, rd, rs1, shamt)
+    shift(SRLI_ROW, rd, rs1, shamt)
 }
 
 pub fn srai(rd: u32, rs1: u32, shamt: i32) -> Encoded
     ensures { word_answer result ≡ encoded (Shift SRAI rd rs1 shamt) }
 {
-    shift(SRAI, rd, rs1, shamt)
+    shift(SRAI_ROW, rd, rs1, shamt)
 }
 
 pub fn ld(rd: u32, rs1: u32, imm: i32) -> Encoded
     ensures { word_answer result ≡ encoded (I LD rd rs1 imm) }
 {
-    itype(LD, rd, rs1, imm)
+    itype(LD_ROW, rd, rs1, imm)
 }
 
 // What is stored comes first, then the base.
 pub fn sd(rs2: u32, rs1: u32, imm: i32) -> Encoded
     ensures { word_answer result ≡ encoded (S SD rs1 rs2 imm) }
 {
-    stype(SD, rs1, rs2, imm)
+    stype(SD_ROW, rs1, rs2, imm)
 }
 
 pub fn beq(rs1: u32, rs2: u32, imm: i32) -> Encoded
     ensures { word_answer result ≡ encoded (B BEQ rs1 rs2 imm) }
 {
-    btype(BEQ, rs1, rs2, imm)
+    btype(BEQ_ROW, rs1, rs2, imm)
 }
 
 pub fn bne(rs1: u32, rs2: u32, imm: i32) -> Encoded
     ensures { word_answer result ≡ encoded (B BNE rs1 rs2 imm) }
 {
-    btype(BNE, rs1, rs2, imm)
+    btype(BNE_ROW, rs1, rs2, imm)
 }
 
 pub fn blt(rs1: u32, rs2: u32, imm: i32) -> Encoded
     ensures { word_answer result ≡ encoded (B BLT rs1 rs2 imm) }
 {
-    btype(BLT, rs1, rs2, imm)
+    btype(BLT_ROW, rs1, rs2, imm)
 }
 
 pub fn ble(rs1: u32, rs2: u32, imm: i32) -> Encoded
     ensures { word_answer result ≡ encoded (B BGE rs2 rs1 imm) }
 {
-    btype(BGE, rs2, rs1, imm)
+    btype(BGE_ROW, rs2, rs1, imm)
 }
 
 pub fn bgt(rs1: u32, rs2: u32, imm: i32) -> Encoded
     ensures { word_answer result ≡ encoded (B BLT rs2 rs1 imm) }
 {
-    btype(BLT, rs2, rs1, imm)
+    btype(BLT_ROW, rs2, rs1, imm)
 }
 
 pub fn bge(rs1: u32, rs2: u32, imm: i32) -> Encoded
     ensures { word_answer result ≡ encoded (B BGE rs1 rs2 imm) }
 {
-    btype(BGE, rs1, rs2, imm)
+    btype(BGE_ROW, rs1, rs2, imm)
 }
 
 pub fn bltu(rs1: u32, rs2: u32, imm: i32) -> Encoded
     ensures { word_answer result ≡ encoded (B BLTU rs1 rs2 imm) }
 {
-    btype(BLTU, rs1, rs2, imm)
+    btype(BLTU_ROW, rs1, rs2, imm)
 }
 
 pub fn bgeu(rs1: u32, rs2: u32, imm: i32) -> Encoded
     ensures { word_answer result ≡ encoded (B BGEU rs1 rs2 imm) }
 {
-    btype(BGEU, rs1, rs2, imm)
+    btype(BGEU_ROW, rs1, rs2, imm)
 }
 
 pub fn jal(rd: u32, imm: i32) -> Encoded
     ensures { word_answer result ≡ encoded (J JAL rd imm) }
 {
-    jtype(JAL, rd, imm)
+    jtype(JAL_ROW, rd, imm)
 }
 
 pub fn j(imm: i32) -> Encoded
     ensures { word_answer result ≡ encoded (J JAL 0 imm) }
 {
-    jtype(JAL, 0, imm)
+    jtype(JAL_ROW, 0, imm)
 }
 
 pub fn jalr(rd: u32, rs1: u32, imm: i32) -> Encoded
     ensures { word_answer result ≡ encoded (I JALR rd rs1 imm) }
 {
-    itype(JALR, rd, rs1, imm)
+    itype(JALR_ROW, rd, rs1, imm)
 }
 
 pub fn jr(rs1: u32) -> Encoded
     ensures { word_answer result ≡ encoded (I JALR 0 rs1 (pos 0)) }
 {
-    itype(JALR, 0, rs1, 0)
+    itype(JALR_ROW, 0, rs1, 0)
 }
 
 pub fn ret() -> Encoded
     ensures { word_answer result ≡ encoded (I JALR 0 1 (pos 0)) }
 {
-    itype(JALR, 0, 1, 0)
+    itype(JALR_ROW, 0, 1, 0)
 }
 
 pub fn lui(rd: u32, imm: i32) -> Encoded
     ensures { word_answer result ≡ encoded (U LUI rd imm) }
 {
-    utype(LUI, rd, imm)
+    utype(LUI_ROW, rd, imm)
 }
 
 pub fn auipc(rd: u32, imm: i32) -> Encoded
     ensures { word_answer result ≡ encoded (U AUIPC rd imm) }
 {
-    utype(AUIPC, rd, imm)
+    utype(AUIPC_ROW, rd, imm)
 }
 
 pub fn fadd_d(rd: u32, rs1: u32, rs2: u32) -> Encoded
     ensures { word_answer result ≡ encoded (F FADD_D rd rs1 rs2 7) }
 {
-    ftype(FADD_D, rd, rs1, rs2, DYN)
+    ftype(FADD_D_ROW, rd, rs1, rs2, DYN)
 }
 
 pub fn fadd_d_rm(rd: u32, rs1: u32, rs2: u32, rm: u32) -> Encoded
     ensures { word_answer result ≡ encoded (F FADD_D rd rs1 rs2 rm) }
 {
     if rounding(rm) {
-        return ftype(FADD_D, rd, rs1, rs2, rm);
+        return ftype(FADD_D_ROW, rd, rs1, rs2, rm);
     }
     if registers(rd, rs1, rs2, 0) {
         Encoded::Refused(Refusal::Value, 0)
@@ -811,135 +811,135 @@ pub fn fadd_d_rm(rd: u32, rs1: u32, rs2: u32, rm: u32) -> Encoded
 pub fn fsub_d(rd: u32, rs1: u32, rs2: u32) -> Encoded
     ensures { word_answer result ≡ encoded (F FSUB_D rd rs1 rs2 7) }
 {
-    ftype(FSUB_D, rd, rs1, rs2, DYN)
+    ftype(FSUB_D_ROW, rd, rs1, rs2, DYN)
 }
 
 pub fn fmul_d(rd: u32, rs1: u32, rs2: u32) -> Encoded
     ensures { word_answer result ≡ encoded (F FMUL_D rd rs1 rs2 7) }
 {
-    ftype(FMUL_D, rd, rs1, rs2, DYN)
+    ftype(FMUL_D_ROW, rd, rs1, rs2, DYN)
 }
 
 pub fn fdiv_d(rd: u32, rs1: u32, rs2: u32) -> Encoded
     ensures { word_answer result ≡ encoded (F FDIV_D rd rs1 rs2 7) }
 {
-    ftype(FDIV_D, rd, rs1, rs2, DYN)
+    ftype(FDIV_D_ROW, rd, rs1, rs2, DYN)
 }
 
 pub fn fsqrt_d(rd: u32, rs1: u32) -> Encoded
     ensures { word_answer result ≡ encoded (C FSQRT_D rd rs1 7) }
 {
-    ctype(FSQRT_D, rd, rs1, DYN)
+    ctype(FSQRT_D_ROW, rd, rs1, DYN)
 }
 
 pub fn fsgnj_d(rd: u32, rs1: u32, rs2: u32) -> Encoded
     ensures { word_answer result ≡ encoded (R FSGNJ_D rd rs1 rs2) }
 {
-    rtype(FSGNJ_D, rd, rs1, rs2)
+    rtype(FSGNJ_D_ROW, rd, rs1, rs2)
 }
 
 pub fn fsgnjn_d(rd: u32, rs1: u32, rs2: u32) -> Encoded
     ensures { word_answer result ≡ encoded (R FSGNJN_D rd rs1 rs2) }
 {
-    rtype(FSGNJN_D, rd, rs1, rs2)
+    rtype(FSGNJN_D_ROW, rd, rs1, rs2)
 }
 
 pub fn fsgnjx_d(rd: u32, rs1: u32, rs2: u32) -> Encoded
     ensures { word_answer result ≡ encoded (R FSGNJX_D rd rs1 rs2) }
 {
-    rtype(FSGNJX_D, rd, rs1, rs2)
+    rtype(FSGNJX_D_ROW, rd, rs1, rs2)
 }
 
 pub fn fmin_d(rd: u32, rs1: u32, rs2: u32) -> Encoded
     ensures { word_answer result ≡ encoded (R FMIN_D rd rs1 rs2) }
 {
-    rtype(FMIN_D, rd, rs1, rs2)
+    rtype(FMIN_D_ROW, rd, rs1, rs2)
 }
 
 pub fn fmax_d(rd: u32, rs1: u32, rs2: u32) -> Encoded
     ensures { word_answer result ≡ encoded (R FMAX_D rd rs1 rs2) }
 {
-    rtype(FMAX_D, rd, rs1, rs2)
+    rtype(FMAX_D_ROW, rd, rs1, rs2)
 }
 
 pub fn feq_d(rd: u32, rs1: u32, rs2: u32) -> Encoded
     ensures { word_answer result ≡ encoded (R FEQ_D rd rs1 rs2) }
 {
-    rtype(FEQ_D, rd, rs1, rs2)
+    rtype(FEQ_D_ROW, rd, rs1, rs2)
 }
 
 pub fn flt_d(rd: u32, rs1: u32, rs2: u32) -> Encoded
     ensures { word_answer result ≡ encoded (R FLT_D rd rs1 rs2) }
 {
-    rtype(FLT_D, rd, rs1, rs2)
+    rtype(FLT_D_ROW, rd, rs1, rs2)
 }
 
 pub fn fle_d(rd: u32, rs1: u32, rs2: u32) -> Encoded
     ensures { word_answer result ≡ encoded (R FLE_D rd rs1 rs2) }
 {
-    rtype(FLE_D, rd, rs1, rs2)
+    rtype(FLE_D_ROW, rd, rs1, rs2)
 }
 
 pub fn fgt_d(rd: u32, rs1: u32, rs2: u32) -> Encoded
     ensures { word_answer result ≡ encoded (R FLT_D rd rs2 rs1) }
 {
-    rtype(FLT_D, rd, rs2, rs1)
+    rtype(FLT_D_ROW, rd, rs2, rs1)
 }
 
 pub fn fge_d(rd: u32, rs1: u32, rs2: u32) -> Encoded
     ensures { word_answer result ≡ encoded (R FLE_D rd rs2 rs1) }
 {
-    rtype(FLE_D, rd, rs2, rs1)
+    rtype(FLE_D_ROW, rd, rs2, rs1)
 }
 
 pub fn fld(rd: u32, rs1: u32, imm: i32) -> Encoded
     ensures { word_answer result ≡ encoded (I FLD rd rs1 imm) }
 {
-    itype(FLD, rd, rs1, imm)
+    itype(FLD_ROW, rd, rs1, imm)
 }
 
 // What is stored comes first, then the base.
 pub fn fsd(rs2: u32, rs1: u32, imm: i32) -> Encoded
     ensures { word_answer result ≡ encoded (S FSD rs1 rs2 imm) }
 {
-    stype(FSD, rs1, rs2, imm)
+    stype(FSD_ROW, rs1, rs2, imm)
 }
 
 pub fn fabs_d(rd: u32, rs1: u32) -> Encoded
     ensures { word_answer result ≡ encoded (R FSGNJX_D rd rs1 rs1) }
 {
-    rtype(FSGNJX_D, rd, rs1, rs1)
+    rtype(FSGNJX_D_ROW, rd, rs1, rs1)
 }
 
 pub fn fmv_d(rd: u32, rs1: u32) -> Encoded
     ensures { word_answer result ≡ encoded (R FSGNJ_D rd rs1 rs1) }
 {
-    rtype(FSGNJ_D, rd, rs1, rs1)
+    rtype(FSGNJ_D_ROW, rd, rs1, rs1)
 }
 
 pub fn fneg_d(rd: u32, rs1: u32) -> Encoded
     ensures { word_answer result ≡ encoded (R FSGNJN_D rd rs1 rs1) }
 {
-    rtype(FSGNJN_D, rd, rs1, rs1)
+    rtype(FSGNJN_D_ROW, rd, rs1, rs1)
 }
 
 pub fn fcvt_w_d(rd: u32, rs1: u32) -> Encoded
     ensures { word_answer result ≡ encoded (C FCVT_W_D rd rs1 7) }
 {
-    ctype(FCVT_W_D, rd, rs1, DYN)
+    ctype(FCVT_W_D_ROW, rd, rs1, DYN)
 }
 
 pub fn fcvt_d_w(rd: u32, rs1: u32) -> Encoded
     ensures { word_answer result ≡ encoded (C FCVT_D_W rd rs1 0) }
 {
-    ctype(FCVT_D_W, rd, rs1, RNE)
+    ctype(FCVT_D_W_ROW, rd, rs1, RNE)
 }
 
 pub fn fcvt_l_d(rd: u32, rs1: u32, rm: u32) -> Encoded
     ensures { word_answer result ≡ encoded (C FCVT_L_D rd rs1 rm) }
 {
     if rounding(rm) {
-        return ctype(FCVT_L_D, rd, rs1, rm);
+        return ctype(FCVT_L_D_ROW, rd, rs1, rm);
     }
     if registers(rd, rs1, 0, 0) {
         Encoded::Refused(Refusal::Value, 0)
@@ -951,41 +951,41 @@ pub fn fcvt_l_d(rd: u32, rs1: u32, rm: u32) -> Encoded
 pub fn fcvt_d_l(rd: u32, rs1: u32) -> Encoded
     ensures { word_answer result ≡ encoded (C FCVT_D_L rd rs1 7) }
 {
-    ctype(FCVT_D_L, rd, rs1, DYN)
+    ctype(FCVT_D_L_ROW, rd, rs1, DYN)
 }
 
 pub fn fmv_x_d(rd: u32, rs1: u32) -> Encoded
     ensures { word_answer result ≡ encoded (M FMV_X_D rd rs1) }
 {
-    mtype(FMV_X_D, rd, rs1)
+    mtype(FMV_X_D_ROW, rd, rs1)
 }
 
 pub fn fmv_d_x(rd: u32, rs1: u32) -> Encoded
     ensures { word_answer result ≡ encoded (M FMV_D_X rd rs1) }
 {
-    mtype(FMV_D_X, rd, rs1)
+    mtype(FMV_D_X_ROW, rd, rs1)
 }
 
 pub fn fmadd_d(rd: u32, rs1: u32, rs2: u32, rs3: u32) -> Encoded
     ensures { word_answer result ≡ encoded (R4 FMADD_D rd rs1 rs2 rs3 7) }
 {
-    r4type(FMADD_D, rd, rs1, rs2, rs3)
+    r4type(FMADD_D_ROW, rd, rs1, rs2, rs3)
 }
 
 pub fn fmsub_d(rd: u32, rs1: u32, rs2: u32, rs3: u32) -> Encoded
     ensures { word_answer result ≡ encoded (R4 FMSUB_D rd rs1 rs2 rs3 7) }
 {
-    r4type(FMSUB_D, rd, rs1, rs2, rs3)
+    r4type(FMSUB_D_ROW, rd, rs1, rs2, rs3)
 }
 
 pub fn fnmadd_d(rd: u32, rs1: u32, rs2: u32, rs3: u32) -> Encoded
     ensures { word_answer result ≡ encoded (R4 FNMADD_D rd rs1 rs2 rs3 7) }
 {
-    r4type(FNMADD_D, rd, rs1, rs2, rs3)
+    r4type(FNMADD_D_ROW, rd, rs1, rs2, rs3)
 }
 
 pub fn fnmsub_d(rd: u32, rs1: u32, rs2: u32, rs3: u32) -> Encoded
     ensures { word_answer result ≡ encoded (R4 FNMSUB_D rd rs1 rs2 rs3 7) }
 {
-    r4type(FNMSUB_D, rd, rs1, rs2, rs3)
+    r4type(FNMSUB_D_ROW, rd, rs1, rs2, rs3)
 }

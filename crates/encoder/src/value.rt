@@ -34,7 +34,7 @@ fn f_rounding(op: usize, rm: u32) -> bool
     requires { op < 4 }
     ensures { result ≡ holds (rounding_field (f_rounding (get_or f_ops op FADD_D)) rm) }
 {
-    if op == crate::FADD_D {
+    if op == crate::FADD_D_ROW {
         return crate::rounding(rm);
     }
     rm == crate::DYN
@@ -45,10 +45,10 @@ fn c_rounding(op: usize, rm: u32) -> bool
     requires { op < 5 }
     ensures { result ≡ holds (rounding_field (c_rounding (get_or c_ops op FSQRT_D)) rm) }
 {
-    if op == crate::FCVT_L_D {
+    if op == crate::FCVT_L_D_ROW {
         return crate::rounding(rm);
     }
-    if op == crate::FCVT_D_W {
+    if op == crate::FCVT_D_W_ROW {
         return rm == crate::RNE;
     }
     rm == crate::DYN
@@ -99,7 +99,7 @@ pub fn encode(i: Instr) -> Encoded
         Instr::S(op, rs1, rs2, imm) => crate::stype(within(op, 2), rs1, rs2, imm),
         Instr::B(op, rs1, rs2, offset) => crate::btype(within(op, 6), rs1, rs2, offset),
         Instr::U(op, rd, imm) => crate::utype(within(op, 2), rd, imm),
-        Instr::J(rd, offset) => crate::jtype(crate::JAL, rd, offset),
+        Instr::J(rd, offset) => crate::jtype(crate::JAL_ROW, rd, offset),
     }
 }
 

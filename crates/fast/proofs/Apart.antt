@@ -288,15 +288,15 @@ module _ (P : Order → Type 0) (q : ℕ)
       (ifelse : (d a b i : ℕ) → d < 32 → a < 32 → b < 32 → i < 4096 → P (Ifelse d a b i))
       (load : (d : ℕ) (p : Place) (i : ℕ) → d < 32 → i < 4096 → P (Load d p i))
       (save : (s : ℕ) (p : Place) (i : ℕ) → s < 32 → i < 4096 → P (Save s p i)) where
-    by-plain : (k : ℕ) → q % 16 ≡ 4 + k → k < 3 → P (unpacked q)
-    by-plain zero e h = subst P (sym (is_ifelse q e)) (ifelse _ _ _ _ (omega arith) (omega arith) (omega arith) (omega arith))
-    by-plain (suc zero) e h = subst P (sym (is_load q e)) (load _ _ _ (omega arith) (omega arith))
-    by-plain (suc (suc zero)) e h = subst P (sym (is_save q e)) (save _ _ _ (omega arith) (omega arith))
-    by-plain (suc (suc (suc k))) e h = absurd (omega arith)
+    by_plain : (k : ℕ) → q % 16 ≡ 4 + k → k < 3 → P (unpacked q)
+    by_plain zero e h = subst P (sym (is_ifelse q e)) (ifelse _ _ _ _ (omega arith) (omega arith) (omega arith) (omega arith))
+    by_plain (suc zero) e h = subst P (sym (is_load q e)) (load _ _ _ (omega arith) (omega arith))
+    by_plain (suc (suc zero)) e h = subst P (sym (is_save q e)) (save _ _ _ (omega arith) (omega arith))
+    by_plain (suc (suc (suc k))) e h = absurd (omega arith)
 
-    pub plain-order : q % 16 < 7 → P (unpacked q)
-    plain-order h = go (ltb (q % 16) 4) refl
+    pub plain_order : q % 16 < 7 → P (unpacked q)
+    plain_order h = go (ltb (q % 16) 4) refl
       where
         go : (t : Bool) → ltb (q % 16) 4 ≡ t → P (unpacked q)
         go true e = registers_order (ltb-true (q % 16) 4 e)
-        go false e = let g = ltb-false (q % 16) 4 e in by-plain (q % 16 - 4) (omega arith) (omega arith)
+        go false e = let g = ltb-false (q % 16) 4 e in by_plain (q % 16 - 4) (omega arith) (omega arith)

@@ -113,11 +113,11 @@ module _ (s : List ℕ) (a b : ℕ) where
     unfolding operands fields_from
     last_is = rw (le-ltb (length s) a h) (last_split (drop a s) b x (rw (part s a h) at e) g)
 
-    pub last-yes : x < b → x ≡ number (operands 0 b (fields_from s a))
-    last-yes l = rw (last_is, lt-ltb x b l)
+    pub last_yes : x < b → x ≡ number (operands 0 b (fields_from s a))
+    last_yes l = rw (last_is, lt-ltb x b l)
 
-    pub last-no : b ≤ x → no_order ≡ number (operands 0 b (fields_from s a))
-    last-no l = rw (last_is, le-ltb x b l)
+    pub last_no : b ≤ x → no_order ≡ number (operands 0 b (fields_from s a))
+    last_no l = rw (last_is, le-ltb x b l)
 
 pub last_below : (s : List ℕ) (a b z : ℕ) → operands 0 b (fields_from s a) ≡ some z → z < b
 unfolding operands
@@ -311,14 +311,14 @@ module _ (s : List ℕ) (a n b : ℕ) where
     unfolding operands
     no_register m g l em h = stops (go left l)
       where
-        empty-last : (k : ℕ) (f : List ℕ) → operands (suc k) b (f ∷ [] ∷ []) ≡ none
-        empty-last zero f = rw (bounded_no b (short_of []) (omega (arith, no_bytes [] refl))) (onto_none (short_of f))
-        empty-last (suc k) f = rw (le-ltb (short_of []) 32 (omega (arith, no_bytes [] refl))) (onto_none (short_of f))
+        empty_last : (k : ℕ) (f : List ℕ) → operands (suc k) b (f ∷ [] ∷ []) ≡ none
+        empty_last zero f = rw (bounded_no b (short_of []) (omega (arith, no_bytes [] refl))) (onto_none (short_of f))
+        empty_last (suc k) f = rw (le-ltb (short_of []) 32 (omega (arith, no_bytes [] refl))) (onto_none (short_of f))
 
         go : (k : ℕ) → 0 < k → operands k b (fields_from s at) ≡ none
         go zero l = absurd (omega arith)
         go (suc k) l =
-            not_near (operands (suc k) b) refl (λ f. rw (none_left k b) (onto_none (short_of f))) (λ f fs i. rw (le-ltb (short_of f) 32 i)) (empty-last k)
+            not_near (operands (suc k) b) refl (λ f. rw (none_left k b) (onto_none (short_of f))) (λ f fs i. rw (le-ltb (short_of f) 32 i)) (empty_last k)
             s at (rw (ap (λ (x : ShortField). x.number) em) at h)
 
     module _ (y : ℕ) (l : left ≤ 0) (ey : y ≡ number (operands 0 b (fields_from s at))) where
@@ -328,8 +328,8 @@ module _ (s : List ℕ) (a n b : ℕ) where
       pub ends : y < no_order → operands n b (fields_from s a) ≡ some (sum + scale * y)
       ends h = at_last (some y) (is_some (operands 0 b (fields_from s at)) y ey h)
 
-      pub ends-badly : b ≤ 10000 → no_order ≤ y → operands n b (fields_from s a) ≡ none
-      ends-badly g h = at_last none (is_none (operands 0 b (fields_from s at)) y (λ z e. omega (arith, last_below s at b z e)) ey h)
+      pub ends_badly : b ≤ 10000 → no_order ≤ y → operands n b (fields_from s a) ≡ none
+      ends_badly g h = at_last none (is_none (operands 0 b (fields_from s at)) y (λ z e. omega (arith, last_below s at b z e)) ey h)
 
 -- ---- numbers that may be missing
 
@@ -376,17 +376,17 @@ module _ (c : ℕ) (fs : List (List ℕ)) (r : ℕ) where
   is_numbers n e = rw n e
 
   module _ (n : numeric (c % 16) ≡ false) where
-    pub is-cell : c % 16 < 7 → r ≡ number (cell c fs) → r ≡ number (fields_packed c fs)
+    pub is_cell : c % 16 < 7 → r ≡ number (cell c fs) → r ≡ number (fields_packed c fs)
     unfolding fields_packed
-    is-cell h e = rw (n, lt-ltb (c % 16) 7 h) e
+    is_cell h e = rw (n, lt-ltb (c % 16) 7 h) e
 
     pub is_branch : 7 ≤ c % 16 → c % 16 ≡ 8 → r ≡ number (branch c fs) → r ≡ number (fields_packed c fs)
     unfolding fields_packed
     is_branch g h e = rw (n, le-ltb (c % 16) 7 g, eq-eqb (c % 16) 8 h) e
 
-    pub is-other : 7 ≤ c % 16 → (c % 16 ≡ 8 → ⊥) → no_order ≡ number (fields_packed c fs)
+    pub is_other : 7 ≤ c % 16 → (c % 16 ≡ 8 → ⊥) → no_order ≡ number (fields_packed c fs)
     unfolding fields_packed
-    is-other g h = rw (n, le-ltb (c % 16) 7 g, ne_eqb (c % 16) 8 h)
+    is_other g h = rw (n, le-ltb (c % 16) 7 g, ne_eqb (c % 16) 8 h)
 
 -- ---- a cell, a branch: two fields that end at commas, and the last
 
@@ -419,16 +419,16 @@ module _ (s : List ℕ) (a c : ℕ) (n : ShortField) (en : n ≡ near s a) where
     large : 32 ≤ near_number s a
     large = rw (ap (λ (x : ShortField). x.number) en) at h
 
-    pub cell-early : no_order ≡ number (cell c (fields_from s a))
-    cell-early = sym (ap number (not_near (cell c) refl (λ g. refl) far (λ f. rw (onto_none (short_of f)) (none_there c (first place_name [] all_places))) s a large))
+    pub cell_early : no_order ≡ number (cell c (fields_from s a))
+    cell_early = sym (ap number (not_near (cell c) refl (λ g. refl) far (λ f. rw (onto_none (short_of f)) (none_there c (first place_name [] all_places))) s a large))
       where
         far : (f : List ℕ) (fs : List (List ℕ)) → 32 ≤ short_of f → cell c (f ∷ fs) ≡ none
         far f [] i = refl
         far f (g ∷ fs) i = rw (le-ltb (short_of f) 32 i) (none_there c (first place_name g all_places))
 
-    pub branch-early : no_order ≡ number (branch c (fields_from s a))
+    pub branch_early : no_order ≡ number (branch c (fields_from s a))
     unfolding read_values
-    branch-early = sym (ap number (not_near (branch c) refl (λ g. refl) far (λ f. refl) s a large))
+    branch_early = sym (ap number (not_near (branch c) refl (λ g. refl) far (λ f. refl) s a large))
       where
         far : (f : List ℕ) (fs : List (List ℕ)) → 32 ≤ short_of f → branch c (f ∷ fs) ≡ none
         far f [] i = refl
@@ -449,8 +449,8 @@ module _ (s : List ℕ) (a c : ℕ) (n : ShortField) (en : n ≡ near s a) where
       abbrev two : List ℕ
       two = take (f - b) (drop b s)
 
-      pub cell-short : length s ≤ f → no_order ≡ number (cell c (fields_from s a))
-      cell-short l =
+      pub cell_short : length s ≤ f → no_order ≡ number (cell c (fields_from s a))
+      cell_short l =
           let z : cell c (one ∷ fields_from s b) ≡ none = too_few s b f hf hb (λ gs. cell c (one ∷ gs)) none l refl (λ g. rw (onto_none (short_of one)) (none_there c (first place_name g all_places))) in
           rw (before, z)
 
@@ -458,8 +458,8 @@ module _ (s : List ℕ) (a c : ℕ) (n : ShortField) (en : n ≡ near s a) where
         fields : fields_from s a ≡ one ∷ two ∷ fields_from s (f + 1)
         fields = before ∙ rw (comma s b f hf hb hm)
 
-        pub cell-no-place : placed (first place_name two all_places) ≡ Where.Malformed → no_order ≡ number (cell c (fields_from s a))
-        cell-no-place e = rw (fields, no_place (first place_name two all_places) e)
+        pub cell_no_place : placed (first place_name two all_places) ≡ Where.Malformed → no_order ≡ number (cell c (fields_from s a))
+        cell_no_place e = rw (fields, no_place (first place_name two all_places) e)
 
         pub cell_is : (y t r k : ℕ) (p : Place) → t ≡ number (onto n.number (numbered y)) → placed (first place_name two all_places) ≡ Where.Is p → y ≡ number (operands 0 4096 (fields_from s (f + 1))) → k ≡ place_number p → r ≡ number (behind (c + 16 * k) (numbered t)) → r ≡ number (cell c (fields_from s a))
         unfolding operands
@@ -475,14 +475,14 @@ module _ (s : List ℕ) (a c : ℕ) (n : ShortField) (en : n ≡ near s a) where
       label_is : m.number ≡ short_of (field (drop b s))
       label_is = ap (λ (x : ShortField). x.number) em ∙ rw (part s b there)
 
-      stop-of : m.stop ≡ upto (drop b s)
-      stop-of = ap (λ (x : ShortField). x.stop) em ∙ rw (part s b there)
+      stop_of : m.stop ≡ upto (drop b s)
+      stop_of = ap (λ (x : ShortField). x.stop) em ∙ rw (part s b there)
 
-      pub stop-fits : b + m.stop ≤ length s
-      stop-fits = omega (arith, stop-of, upto_within (drop b s), length-drop b s, there)
+      pub stop_fits : b + m.stop ≤ length s
+      stop_fits = omega (arith, stop_of, upto_within (drop b s), length-drop b s, there)
 
       both : fields_from s a ≡ one ∷ field (drop b s) ∷ fields_from s (b + m.stop + 1)
-      both = before ∙ rw (field_at s b there, stop-of)
+      both = before ∙ rw (field_at s b there, stop_of)
 
       pub branch_no_label : 1024 ≤ m.number → no_order ≡ number (branch c (fields_from s a))
       branch_no_label l = rw (both, ← label_is, le-ltb m.number 1024 l, onto_none (short_of one), none_flagged c (only flag (fields_from s (b + m.stop + 1))))

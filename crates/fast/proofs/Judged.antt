@@ -49,8 +49,8 @@ with_true false = refl
 module _ (mask : ℕ) where
   -- what a unary order writes
   module _ (n d s : ℕ) where
-    pub unary-other : (n ≡ 0 → ⊥) → {t : Bool} → t ≡ free mask d → t ≡ all (free mask) (unary_writes (unary_at n) d s)
-    unary-other h e = e ∙ rw (ne_eqb n 0 h) (go (eqb n 1) (eqb n 2) (eqb n 3))
+    pub unary_other : (n ≡ 0 → ⊥) → {t : Bool} → t ≡ free mask d → t ≡ all (free mask) (unary_writes (unary_at n) d s)
+    unary_other h e = e ∙ rw (ne_eqb n 0 h) (go (eqb n 1) (eqb n 2) (eqb n 3))
       where
         go : (x y z : Bool) → free mask d ≡ all (free mask) (unary_writes (cond x Recip (cond y Round (cond z Floor Not))) d s)
         go true y z = sym (with_true (free mask d))
@@ -58,34 +58,34 @@ module _ (mask : ℕ) where
         go false false true = sym (with_true (free mask d))
         go false false false = sym (with_true (free mask d))
 
-    pub fmov-same : n ≡ 0 → d ≡ s → true ≡ all (free mask) (unary_writes (unary_at n) d s)
-    fmov-same e f = rw (e, eq-eqb d s f)
+    pub fmov_same : n ≡ 0 → d ≡ s → true ≡ all (free mask) (unary_writes (unary_at n) d s)
+    fmov_same e f = rw (e, eq-eqb d s f)
 
-    pub fmov-other : n ≡ 0 → (d ≡ s → ⊥) → {t : Bool} → t ≡ free mask d → t ≡ all (free mask) (unary_writes (unary_at n) d s)
-    fmov-other e f g = g ∙ rw (e, ne_eqb d s f) (sym (with_true (free mask d)))
+    pub fmov_other : n ≡ 0 → (d ≡ s → ⊥) → {t : Bool} → t ≡ free mask d → t ≡ all (free mask) (unary_writes (unary_at n) d s)
+    fmov_other e f g = g ∙ rw (e, ne_eqb d s f) (sym (with_true (free mask d)))
 
   module _ (q : ℕ) where
-    pub keeps-const : {t : Bool} → q % 16 ≡ 7 → t ≡ free mask (q / 256 % 32) → t ≡ saves_hold mask (unpacked q)
-    keeps-const h e = e ∙ rw (is_load_const q h, with_true (free mask (q / 256 % 32)), with_true (free mask (q / 256 % 32)))
+    pub keeps_const : {t : Bool} → q % 16 ≡ 7 → t ≡ free mask (q / 256 % 32) → t ≡ saves_hold mask (unpacked q)
+    keeps_const h e = e ∙ rw (is_load_const q h, with_true (free mask (q / 256 % 32)), with_true (free mask (q / 256 % 32)))
 
-    pub keeps-jumps : 8 ≤ q % 16 → true ≡ saves_hold mask (unpacked q)
-    keeps-jumps h = go (eqb (q % 16) 8) refl
+    pub keeps_jumps : 8 ≤ q % 16 → true ≡ saves_hold mask (unpacked q)
+    keeps_jumps h = go (eqb (q % 16) 8) refl
       where
         go : (t : Bool) → eqb (q % 16) 8 ≡ t → true ≡ saves_hold mask (unpacked q)
         go true e = rw (is_branch q (eqb-true (q % 16) 8 e))
         go false e = let f = eqb-false (q % 16) 8 e in rw (is_label q (omega (arith, f)))
 
-    pub keeps-unary : {t : Bool} → q % 16 ≡ 0 → t ≡ all (free mask) (unary_writes (unary_at (q / 16 % 16)) (q / 256 % 32) (q / 256 / 32 % 32)) → t ≡ saves_hold mask (unpacked q)
-    keeps-unary h e = e ∙ rw (is_unary q h) (sym (with_true _))
+    pub keeps_unary : {t : Bool} → q % 16 ≡ 0 → t ≡ all (free mask) (unary_writes (unary_at (q / 16 % 16)) (q / 256 % 32) (q / 256 / 32 % 32)) → t ≡ saves_hold mask (unpacked q)
+    keeps_unary h e = e ∙ rw (is_unary q h) (sym (with_true _))
 
-    pub keeps-scratched : {t : Bool} → q % 16 ≡ 1 → free mask (q / 256 / 32 / 32 % 32) ≡ true → t ≡ free mask (q / 256 % 32) → t ≡ saves_hold mask (unpacked q)
-    keeps-scratched h f e = e ∙ rw (is_scratched q h, f, with_true (free mask (q / 256 % 32)), with_true (free mask (q / 256 % 32)))
+    pub keeps_scratched : {t : Bool} → q % 16 ≡ 1 → free mask (q / 256 / 32 / 32 % 32) ≡ true → t ≡ free mask (q / 256 % 32) → t ≡ saves_hold mask (unpacked q)
+    keeps_scratched h f e = e ∙ rw (is_scratched q h, f, with_true (free mask (q / 256 % 32)), with_true (free mask (q / 256 % 32)))
 
-    pub loses-scratched : q % 16 ≡ 1 → free mask (q / 256 / 32 / 32 % 32) ≡ false → false ≡ saves_hold mask (unpacked q)
-    loses-scratched h f = rw (is_scratched q h, f)
+    pub loses_scratched : q % 16 ≡ 1 → free mask (q / 256 / 32 / 32 % 32) ≡ false → false ≡ saves_hold mask (unpacked q)
+    loses_scratched h f = rw (is_scratched q h, f)
 
-    pub keeps-one : {t : Bool} → (q % 16 ≡ 0 → ⊥) → (q % 16 ≡ 1 → ⊥) → q % 16 < 6 → t ≡ free mask (q / 256 % 32) → t ≡ saves_hold mask (unpacked q)
-    keeps-one {t} f g h e = go (q % 16 - 2) (omega (arith, f, g))
+    pub keeps_one : {t : Bool} → (q % 16 ≡ 0 → ⊥) → (q % 16 ≡ 1 → ⊥) → q % 16 < 6 → t ≡ free mask (q / 256 % 32) → t ≡ saves_hold mask (unpacked q)
+    keeps_one {t} f g h e = go (q % 16 - 2) (omega (arith, f, g))
       where
         go : (k : ℕ) → q % 16 ≡ 2 + k → t ≡ saves_hold mask (unpacked q)
         go zero a = e ∙ rw (is_binary q a, with_true (free mask (q / 256 % 32)), with_true (free mask (q / 256 % 32)))
@@ -94,5 +94,5 @@ module _ (mask : ℕ) where
         go (suc (suc (suc zero))) a = e ∙ rw (is_load q a, with_true (free mask (q / 256 % 32)), with_true (free mask (q / 256 % 32)))
         go (suc (suc (suc (suc k)))) a = absurd (omega arith)
 
-    pub keeps-save : {t : Bool} → q % 16 ≡ 6 → t ≡ open_cell mask (place_at (q / 16 % 16)) (q / 256 / 32 % 4096) → t ≡ saves_hold mask (unpacked q)
-    keeps-save h e = e ∙ rw (is_save q h)
+    pub keeps_save : {t : Bool} → q % 16 ≡ 6 → t ≡ open_cell mask (place_at (q / 16 % 16)) (q / 256 / 32 % 4096) → t ≡ saves_hold mask (unpacked q)
+    keeps_save h e = e ∙ rw (is_save q h)

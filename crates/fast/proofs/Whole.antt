@@ -182,8 +182,8 @@ module _ (l : List ℕ) where
       part : m ≡ length (take m l)
       part = sym (length-take-le m l (omega arith))
 
-      pub no-comma : m ≤ e → no_order ≡ number_of (map pack (order_said l))
-      no-comma g =
+      pub no_comma : m ≤ e → no_order ≡ number_of (map pack (order_said l))
+      no_comma g =
           let b : fields_packed (coded (kind_of (take e (take m l)))) (fields_from (take m l) (e + 1)) ≡ none = rw (no_field (take m l) (e + 1) (omega (arith, part))) (nothing_behind (coded (kind_of (take e (take m l))))) in
           rw (by_form l, ← newline l m hm c, ← body_said (take m l) e he, b)
 

@@ -21,7 +21,7 @@ use Rattle.assembler.specs.declared.Asm.{Asm}
 use Rattle.assembler.specs.State.{State, state, sound}
 use Rattle.assembler.specs.Put.{targets, numbers_sound, placed, ranked, put_number, settled, put}
 use Rattle.assembler.proofs.Items.{with_words}
-use Rattle.assembler.proofs.Checks.{v_closed, v-record}
+use Rattle.assembler.proofs.Checks.{v_closed, v_record}
 use Rattle.assembler.proofs.Plans.{put_same}
 use Rattle.assembler.proofs.Steps.{put_raw, settled_no}
 use Rattle.accesses.specs.Fault.{offset_limit}
@@ -35,7 +35,7 @@ use Rattle.orders.proofs.Wrote.{words_valid}
 use Rattle.fast.specs.Inner.Fast.{taken, placed_in, not_mine, left}
 use Rattle.fast.specs.Inner.Packed.{unpacked}
 use Rattle.fast.specs.Inner.Plain.{ready}
-use Rattle.fast.proofs.Apart.{plain-order}
+use Rattle.fast.proofs.Apart.{plain_order}
 
 -- ---- such an order
 
@@ -46,7 +46,7 @@ Straight o = (code o ≡ map instr (instrs o)) × (fault o ≡ 0)
 pub plain_fits : (q : ℕ) → q % 16 < 7 → Straight (unpacked q)
 unfolding code fault
 plain_fits q h =
-    plain-order Straight q
+    plain_order Straight q
     (λ k d s hd hs. (refl, rw (lt-ltb d 32 hd, lt-ltb s 32 hs)))
     (λ k d s t hd hs ht. (refl, rw (lt-ltb d 32 hd, lt-ltb s 32 hs, lt-ltb t 32 ht)))
     (λ k d a b hd ha hb. (refl, rw (lt-ltb d 32 hd, lt-ltb a 32 ha, lt-ltb b 32 hb)))
@@ -109,7 +109,7 @@ module _ (H : Head) (tag : ℕ) (o : Order) (s : State) where
       go false e =
           let g : eqb (s.asm.len % 4) 0 && leb s.asm.jumps 4096 ≡ false = rw e at h in
           let f : sound (length s.buf) s.asm ≡ false = off (leb s.asm.len (room (length s.buf))) (eqb (s.asm.len % 4) 0 && leb s.asm.jumps 4096) g in
-          settled_none (put_number 0 (code o) s) s (placed tag (code o) s) 1 (v-record 0 _ _ _ _ e (λ k. omega arith) (λ k. omega arith) (off (numbers_sound s.labels (targets (code o))) _ f))
+          settled_none (put_number 0 (code o) s) s (placed tag (code o) s) 1 (v_record 0 _ _ _ _ e (λ k. omega arith) (λ k. omega arith) (off (numbers_sound s.labels (targets (code o))) _ f))
 
 -- ---- written
 
@@ -152,8 +152,8 @@ module _ (H : Head) (o : Order) (a : Asm) (b : List ℕ) (p : Straight o) (f : s
   cell_refused e tag ls js = sym (no_cell H tag o (state a ls js b) e)
 
   module _ (e : index_holds H o ≡ true) where
-    pub record-refused : ready a ≡ false → None
-    record-refused h tag ls js = let s = state a ls js b in sym (judged H tag o s e f r ∙ unready H tag o s h p.1)
+    pub record_refused : ready a ≡ false → None
+    record_refused h tag ls js = let s = state a ls js b in sym (judged H tag o s e f r ∙ unready H tag o s h p.1)
 
     module _ (h : ready a ≡ true) (d : List ℕ) (end : ℕ) (ed : d ≡ cond (roomy a.len b) (written b a.len (map word (instrs o))) b) (ee : end ≡ cond (roomy a.len b) (a.len + 4 * length (instrs o)) no_room) where
       end_is : end ≡ a.len + 4 * length (instrs o)

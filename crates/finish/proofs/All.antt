@@ -27,7 +27,7 @@ use Rattle.assembler.proofs.Writes.{length_written, written_none}
 pub use Rattle.finish.proofs.Wrong.{zero_then, zero_else}
 use Rattle.finish.proofs.Represents.{Represents, Labelled}
 use Rattle.finish.proofs.Entries.{twice_kept}
-use Rattle.finish.proofs.Each.{word-represents, jump_represents, label-represents}
+use Rattle.finish.proofs.Each.{word_represents, jump_represents, label_represents}
 
 -- ---- labels set one after the other
 
@@ -111,12 +111,12 @@ module _ (b : List ℕ) (tag : ℕ) where
       let n = longer is (instr i) (encode i) refl in
       let m = more is (instr i) 0 refl in
       regroup is (instr i) js _ _ _ refl
-      (all_represents js (is ++ (instr i ∷ [])) ts (with_word (encode i) s) (word-represents b is ts s a (instr i) (encode i) refl refl (λ x. refl) (λ l x. refl) refl (omega arith)) h t (omega arith) (omega arith))
+      (all_represents js (is ++ (instr i ∷ [])) ts (with_word (encode i) s) (word_represents b is ts s a (instr i) (encode i) refl refl (λ x. refl) (λ l x. refl) refl (omega arith)) h t (omega arith) (omega arith))
   all_represents (raw w ∷ js) is ts s a h t r f =
       let n = longer is (raw w) w refl in
       let m = more is (raw w) 0 refl in
       regroup is (raw w) js _ _ _ refl
-      (all_represents js (is ++ (raw w ∷ [])) ts (with_word w s) (word-represents b is ts s a (raw w) w refl refl (λ x. refl) (λ l x. refl) refl (omega arith)) h t (omega arith) (omega arith))
+      (all_represents js (is ++ (raw w ∷ [])) ts (with_word w s) (word_represents b is ts s a (raw w) w refl refl (λ x. refl) (λ l x. refl) refl (omega arith)) h t (omega arith) (omega arith))
   all_represents (jump k l x ∷ js) is ts s a h t r f =
       let n = longer is (jump k l x) 0 refl in
       let m = more is (jump k l x) 1 refl in
@@ -130,7 +130,7 @@ module _ (b : List ℕ) (tag : ℕ) where
       let p = either (is_set (get_or s.labels l 0)) (member l (labels js) || twice s.labels (labels js)) t in
       let q = either (member l (labels js)) (twice s.labels (labels js)) p.1 in
       regroup is (label l) js _ _ _ refl
-      (all_represents js (is ++ (label l ∷ [])) ts (with_label l s) (label-represents b is ts s a l h.0 p.0) h.1 (still s.labels l (with_place (get_or s.labels l 0) s.asm.len) (labels js) q.0 q.1) (omega arith) (omega arith))
+      (all_represents js (is ++ (label l ∷ [])) ts (with_label l s) (label_represents b is ts s a l h.0 p.0) h.1 (still s.labels l (with_place (get_or s.labels l 0) s.asm.len) (labels js) q.0 q.1) (omega arith) (omega arith))
 
 pub jumps_are : (is : List Item) → jumps is ≡ length (targets is)
 unfolding jumps

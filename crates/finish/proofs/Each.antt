@@ -50,8 +50,8 @@ module _ (is : List Item) (i : Item) where
     same_place : (l : ℕ) → label_place l 0 (is ++ (i ∷ [])) ≡ label_place l 0 is
     same_place l = label_place_append l 0 is (i ∷ []) ∙ ap (or_else (label_place l 0 is)) (el l (0 + 4 * length (words is))) ∙ or_none (label_place l 0 is)
 
-    entry-behind : (l : ℕ) → entry_of (is ++ (i ∷ [])) l ≡ entry_of is l + 2 ^ 32 * times l (targets (i ∷ []))
-    entry-behind l = omega (arith, ap entry (same_place l), times_behind l)
+    entry_behind : (l : ℕ) → entry_of (is ++ (i ∷ [])) l ≡ entry_of is l + 2 ^ 32 * times l (targets (i ∷ []))
+    entry_behind l = omega (arith, ap entry (same_place l), times_behind l)
 
 module _ (b : List ℕ) (is : List Item) (ts : List ℕ) (s : State) (a : Represents b is ts s) where
   next : (w : ℕ) → written s.buf s.asm.len (w ∷ []) ≡ written b 0 (words is ++ (w ∷ []))
@@ -61,9 +61,9 @@ module _ (b : List ℕ) (is : List Item) (ts : List ℕ) (s : State) (a : Repres
 
   -- an item with a word and nothing else
   module _ (i : Item) (w : ℕ) (ew : words (i ∷ []) ≡ w ∷ []) (ej : jumps (i ∷ []) ≡ 0) (en : (h : ℕ) → jumps_in h (i ∷ []) ≡ []) (el : (l h : ℕ) → label_place l h (i ∷ []) ≡ none) (et : targets (i ∷ []) ≡ []) (r : 4 * length (words is) + 4 ≤ room (length b)) where
-    pub word-represents : Represents b (is ++ (i ∷ [])) ts (with_word w s)
+    pub word_represents : Represents b (is ++ (i ∷ [])) ts (with_word w s)
     unfolding with_word
-    word-represents =
+    word_represents =
         let e : words (is ++ (i ∷ [])) ≡ words is ++ (w ∷ []) = words_append is (i ∷ []) ∙ ap (λ (x : List ℕ). words is ++ x) ew in
         let n : length (words (is ++ (i ∷ []))) ≡ length (words is) + 1 = ap length e ∙ length-append (words is) (w ∷ []) in
         let j : jumps (is ++ (i ∷ [])) ≡ jumps is = jumps_append is (i ∷ []) ∙ ap (λ (x : ℕ). jumps is + x) ej ∙ add-zero (jumps is) in
@@ -77,7 +77,7 @@ module _ (b : List ℕ) (is : List Item) (ts : List ℕ) (s : State) (a : Repres
           noted = ap (jumps_of s.jumps 0) j ∙ a.noted ∙ sym (jumps_in_append 0 is (i ∷ []) ∙ ap (λ (x : List Jump). jumps_in 0 is ++ x) (en (0 + 4 * length (words is))) ∙ append-nil (jumps_in 0 is));
           tagged = ap (tags_of s.jumps 0) j ∙ a.tagged;
           wide_jumps = a.wide_jumps;
-          set_labels = λ l h. omega (arith, a.set_labels l h, entry-behind is i el l, ap (times l) et);
+          set_labels = λ l h. omega (arith, a.set_labels l h, entry_behind is i el l, ap (times l) et);
           wide_labels = a.wide_labels;
         }
 
@@ -105,22 +105,22 @@ module _ (b : List ℕ) (is : List Item) (ts : List ℕ) (s : State) (a : Repres
         tagged =
             ap (tags_of after 0) c ∙ tags_noted s.jumps s.asm.jumps s.asm.len l r k tag g ∙ rw a.count (ap (λ (x : List ℕ). x ++ (tag ∷ [])) a.tagged);
         wide_jumps = length-sets s.jumps (5 * s.asm.jumps) (s.asm.len ∷ l ∷ r ∷ k ∷ tag ∷ []) ∙ a.wide_jumps;
-        set_labels = λ m h. jump-entry m h (eqb m l) refl;
+        set_labels = λ m h. jump_entry m h (eqb m l) refl;
         wide_labels = length-set s.labels l (one_more (get_or s.labels l 0)) ∙ a.wide_labels;
       }
     where
-      jump-entry : (m : ℕ) → m < 2039 → (t : Bool) → eqb m l ≡ t → get_or (set s.labels l (one_more (get_or s.labels l 0))) m 0 ≡ entry_of (is ++ (i ∷ [])) m
-      jump-entry m h true e =
+      jump_entry : (m : ℕ) → m < 2039 → (t : Bool) → eqb m l ≡ t → get_or (set s.labels l (one_more (get_or s.labels l 0))) m 0 ≡ entry_of (is ++ (i ∷ [])) m
+      jump_entry m h true e =
           let w = a.wide_labels in
           let z : m ≡ l = eqb-true m l e in
           let g : get_or (set s.labels l (one_more (get_or s.labels l 0))) m 0 ≡ one_more (get_or s.labels l 0) = rw z (get_or-set_same s.labels l (one_more (get_or s.labels l 0)) 0 (omega arith)) in
           let o : times m (l ∷ []) ≡ 1 = rw e in
           let n : get_or s.labels l 0 ≡ get_or s.labels m 0 = ap (λ (x : ℕ). get_or s.labels x 0) (sym z) in
-          omega (arith, g, n, a.set_labels m h, entry-behind is i el m, ap (times m) et, o)
-      jump-entry m h false e =
+          omega (arith, g, n, a.set_labels m h, entry_behind is i el m, ap (times m) et, o)
+      jump_entry m h false e =
           let g = get_or-set_other s.labels l m (one_more (get_or s.labels l 0)) 0 (eqb-false m l e) in
           let o : times m (l ∷ []) ≡ 0 = rw e in
-          omega (arith, g, a.set_labels m h, entry-behind is i el m, ap (times m) et, o)
+          omega (arith, g, a.set_labels m h, entry_behind is i el m, ap (times m) et, o)
 
   -- a label that is not set
   unset_none : (l : ℕ) → l < 2039 → is_set (get_or s.labels l 0) ≡ false → label_place l 0 is ≡ none
@@ -139,9 +139,9 @@ module _ (b : List ℕ) (is : List Item) (ts : List ℕ) (s : State) (a : Repres
     unfolding words
     same_words = words_append is (label l ∷ []) ∙ append-nil (words is)
 
-    same-jumps : jumps (is ++ (label l ∷ [])) ≡ jumps is
+    same_jumps : jumps (is ++ (label l ∷ [])) ≡ jumps is
     unfolding jumps targets
-    same-jumps = jumps_append is (label l ∷ []) ∙ add-zero (jumps is)
+    same_jumps = jumps_append is (label l ∷ []) ∙ add-zero (jumps is)
 
     same_noted : jumps_in 0 (is ++ (label l ∷ [])) ≡ jumps_in 0 is
     unfolding jumps_in
@@ -152,9 +152,9 @@ module _ (b : List ℕ) (is : List Item) (ts : List ℕ) (s : State) (a : Repres
     same_targets = targets_append is (label l ∷ []) ∙ append-nil (targets is)
 
     -- the entry of each label
-    set-now : (m : ℕ) → m < 2039 → (t : Bool) → eqb l m ≡ t → get_or (set s.labels l (with_place (get_or s.labels l 0) s.asm.len)) m 0 ≡ entry_of (is ++ (label l ∷ [])) m
+    set_now : (m : ℕ) → m < 2039 → (t : Bool) → eqb l m ≡ t → get_or (set s.labels l (with_place (get_or s.labels l 0) s.asm.len)) m 0 ≡ entry_of (is ++ (label l ∷ [])) m
     unfolding label_place
-    set-now m q true e =
+    set_now m q true e =
         let w = a.wide_labels in
         let i = a.within in
         let z : l ≡ m = eqb-true l m e in
@@ -165,24 +165,24 @@ module _ (b : List ℕ) (is : List Item) (ts : List ℕ) (s : State) (a : Repres
         ap (λ (x : ℕ). get_or (set s.labels l (with_place (get_or s.labels l 0) s.asm.len)) x 0) (sym z)
         ∙ get_or-set_same s.labels l (with_place (get_or s.labels l 0) s.asm.len) 0 (omega arith)
         ∙ omega (arith, v, a.len, ap entry g, t)
-    set-now m q false e =
+    set_now m q false e =
         let d : m ≡ l → ⊥ = λ x. eqb-false l m e (sym x) in
         let g : label_place m 0 (is ++ (label l ∷ [])) ≡ label_place m 0 is = label_place_append m 0 is (label l ∷ []) ∙ rw e (or_none (label_place m 0 is)) in
         get_or-set_other s.labels l m (with_place (get_or s.labels l 0) s.asm.len) 0 d
         ∙ omega (arith, a.set_labels m q, ap entry g, ap (times m) same_targets)
 
-    pub label-represents : Represents b (is ++ (label l ∷ [])) ts (with_label l s)
+    pub label_represents : Represents b (is ++ (label l ∷ [])) ts (with_label l s)
     unfolding with_label
-    label-represents = record {
+    label_represents = record {
       unclosed = a.unclosed;
       len = a.len ∙ ap (λ (x : List ℕ). 4 * length x) (sym same_words);
       within = rw same_words a.within;
       buf = a.buf ∙ ap (written b 0) (sym same_words);
-      count = a.count ∙ sym same-jumps;
-      few = rw same-jumps a.few;
-      noted = ap (jumps_of s.jumps 0) same-jumps ∙ a.noted ∙ sym same_noted;
-      tagged = ap (tags_of s.jumps 0) same-jumps ∙ a.tagged;
+      count = a.count ∙ sym same_jumps;
+      few = rw same_jumps a.few;
+      noted = ap (jumps_of s.jumps 0) same_jumps ∙ a.noted ∙ sym same_noted;
+      tagged = ap (tags_of s.jumps 0) same_jumps ∙ a.tagged;
       wide_jumps = a.wide_jumps;
-      set_labels = λ m q. set-now m q (eqb l m) refl;
+      set_labels = λ m q. set_now m q (eqb l m) refl;
       wide_labels = length-set s.labels l (with_place (get_or s.labels l 0) s.asm.len) ∙ a.wide_labels;
     }

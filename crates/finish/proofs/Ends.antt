@@ -40,30 +40,30 @@ module _ (s : State) where
   n_closed e = simp e
 
   module _ (e : s.asm.closed ≡ false) where
-    pub n-record : sound (length s.buf) s.asm ≡ false → 2 ≡ finish_number s
+    pub n_record : sound (length s.buf) s.asm ≡ false → 2 ≡ finish_number s
     unfolding finish_number
-    n-record f = simp (e, f)
+    n_record f = simp (e, f)
 
     module _ (f : sound (length s.buf) s.asm ≡ true) where
-      pub n-labels : labels_good s.asm.len s.labels ≡ false → 2 ≡ finish_number s
+      pub n_labels : labels_good s.asm.len s.labels ≡ false → 2 ≡ finish_number s
       unfolding finish_number
-      n-labels g = simp (e, f, g)
+      n_labels g = simp (e, f, g)
 
       module _ (g : labels_good s.asm.len s.labels ≡ true) where
-        pub n-jump : first_with 2 s < s.asm.jumps → 2 ≡ finish_number s
+        pub n_jump : first_with 2 s < s.asm.jumps → 2 ≡ finish_number s
         unfolding finish_number
-        n-jump a = simp (e, f, g, lt-ltb _ _ a)
+        n_jump a = simp (e, f, g, lt-ltb _ _ a)
 
         module _ (a : s.asm.jumps ≤ first_with 2 s) where
-          pub n-unset : first_with 5 s < s.asm.jumps → 5 ≡ finish_number s
+          pub n_unset : first_with 5 s < s.asm.jumps → 5 ≡ finish_number s
           unfolding finish_number
-          n-unset b = simp (e, f, g, le-ltb _ _ a, lt-ltb _ _ b)
+          n_unset b = simp (e, f, g, le-ltb _ _ a, lt-ltb _ _ b)
 
           module _ (b : s.asm.jumps ≤ first_with 5 s) where
-            pub n-far : first_with 6 s < s.asm.jumps → 6 ≡ finish_number s
+            pub n_far : first_with 6 s < s.asm.jumps → 6 ≡ finish_number s
             unfolding finish_number
-            n-far c = simp (e, f, g, le-ltb _ _ a, le-ltb _ _ b, lt-ltb _ _ c)
+            n_far c = simp (e, f, g, le-ltb _ _ a, le-ltb _ _ b, lt-ltb _ _ c)
 
-            pub n-good : s.asm.jumps ≤ first_with 6 s → 0 ≡ finish_number s
+            pub n_good : s.asm.jumps ≤ first_with 6 s → 0 ≡ finish_number s
             unfolding finish_number
-            n-good c = simp (e, f, g, le-ltb _ _ a, le-ltb _ _ b, le-ltb _ _ c)
+            n_good c = simp (e, f, g, le-ltb _ _ a, le-ltb _ _ b, le-ltb _ _ c)

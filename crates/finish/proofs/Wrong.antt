@@ -48,16 +48,16 @@ module _ (labels : List ℕ) (len : ℕ) (j : Jump) (g : jump_good len j ≡ tru
   wrong_unset u = simp (g, u)
 
   module _ (u : not (is_set (get_or labels j.label 0)) ≡ false) (k : j.kind < 6) (r : j.reg < 32) where
-    by-far : (t : Bool) → valid (jump_instr (kind_of j.kind) j.reg (way labels j)) ≡ not t → leb 4 j.kind && not (holds (offset 13 (way labels j))) ≡ t → cond (valid (jump_instr (kind_of j.kind) j.reg (way labels j))) 0 6 ≡ jump_number labels len j
+    by_far : (t : Bool) → valid (jump_instr (kind_of j.kind) j.reg (way labels j)) ≡ not t → leb 4 j.kind && not (holds (offset 13 (way labels j))) ≡ t → cond (valid (jump_instr (kind_of j.kind) j.reg (way labels j))) 0 6 ≡ jump_number labels len j
     unfolding jump_number
-    by-far true e f = rw e (simp (g, u, f))
-    by-far false e f = rw e (simp (g, u, f))
+    by_far true e f = rw e (simp (g, u, f))
+    by_far false e f = rw e (simp (g, u, f))
 
     -- p is the label's place
-    pub wrong-far : (p : ℕ) (t : Bool) → p ≡ place_of (get_or labels j.label 0) → t ≡ valid (jump_instr (kind_of j.kind) j.reg (sub_ℕ p j.word)) → cond t 0 6 ≡ jump_number labels len j
-    wrong-far p t e f =
+    pub wrong_far : (p : ℕ) (t : Bool) → p ≡ place_of (get_or labels j.label 0) → t ≡ valid (jump_instr (kind_of j.kind) j.reg (sub_ℕ p j.word)) → cond t 0 6 ≡ jump_number labels len j
+    wrong_far p t e f =
         ap (λ (u : Bool). cond u 0 6) (f ∙ ap (λ (q : ℕ). valid (jump_instr (kind_of j.kind) j.reg (sub_ℕ q j.word))) e)
-        ∙ by-far (leb 4 j.kind && not (holds (offset 13 (way labels j)))) (near j.kind j.reg (way labels j) k r) refl
+        ∙ by_far (leb 4 j.kind && not (holds (offset 13 (way labels j)))) (near j.kind j.reg (way labels j) k r) refl
 
 -- ---- a jump with nothing wrong
 

@@ -221,17 +221,17 @@ module _ (s : List ℕ) (a : ℕ) where
     unfolding shaped
     float_is m n g = rw (last_is integer_sort s a h) (float_of (read_integer (take (length s - a) (drop a s))) m n g)
 
-    pub float-bad : integer (read_integer (take (length s - a) (drop a s))) ≡ Integer.Malformed → Form.Malformed ≡ shaped Kind.Float (fields_from s a)
+    pub float_bad : integer (read_integer (take (length s - a) (drop a s))) ≡ Integer.Malformed → Form.Malformed ≡ shaped Kind.Float (fields_from s a)
     unfolding shaped
-    float-bad g = rw (last_is integer_sort s a h) (no_float (read_integer (take (length s - a) (drop a s))) g)
+    float_bad g = rw (last_is integer_sort s a h) (no_float (read_integer (take (length s - a) (drop a s))) g)
 
     pub bits_is : (n : ℕ) → word (read_word (take (length s - a) (drop a s))) ≡ Word.Is n → Form.Bits n ≡ shaped Kind.Bits (fields_from s a)
     unfolding shaped
     bits_is n g = rw (last_is word_sort s a h) (bits_of (read_word (take (length s - a) (drop a s))) n g)
 
-    pub bits-bad : word (read_word (take (length s - a) (drop a s))) ≡ Word.Malformed → Form.Malformed ≡ shaped Kind.Bits (fields_from s a)
+    pub bits_bad : word (read_word (take (length s - a) (drop a s))) ≡ Word.Malformed → Form.Malformed ≡ shaped Kind.Bits (fields_from s a)
     unfolding shaped
-    bits-bad g = rw (last_is word_sort s a h) (no_bits (read_word (take (length s - a) (drop a s))) g)
+    bits_bad g = rw (last_is word_sort s a h) (no_bits (read_word (take (length s - a) (drop a s))) g)
 
 module _ (s : List ℕ) (a e : ℕ) (he : e ≡ end_from s a) (hs : a ≤ e) (hl : a ≤ length s → e ≤ length s) where
   pub flag_not_last : (e ≡ length s → ⊥) → Flag.Malformed ≡ flagged (only flag (fields_from s a))
@@ -309,20 +309,20 @@ module _ (save : Bool) where
     abbrev q : Option (Values (number ∷ []))
     q = read_values (number ∷ []) (fields_from s k)
 
-    in-steps : shaped (cond save Kind.Save Kind.Load) (fields_from s a) ≡ cell_of o p q
-    in-steps = as_cell save (fields_from s a) ∙ rw (step s a number (place ∷ number ∷ []), first_is s a, ← ex.1, step s j place (number ∷ []), ← ey.1)
+    in_steps : shaped (cond save Kind.Save Kind.Load) (fields_from s a) ≡ cell_of o p q
+    in_steps = as_cell save (fields_from s a) ∙ rw (step s a number (place ∷ number ∷ []), first_is s a, ← ex.1, step s j place (number ∷ []), ← ey.1)
 
-    pub cell-no-number : x ≡ Numeral.Malformed → Form.Malformed ≡ shaped (cond save Kind.Save Kind.Load) (fields_from s a)
-    cell-no-number e = rw (in-steps, no_number o (sym ex.0 ∙ e))
+    pub cell_no_number : x ≡ Numeral.Malformed → Form.Malformed ≡ shaped (cond save Kind.Save Kind.Load) (fields_from s a)
+    cell_no_number e = rw (in_steps, no_number o (sym ex.0 ∙ e))
 
-    pub cell-no-place : y ≡ Where.Malformed → Form.Malformed ≡ shaped (cond save Kind.Save Kind.Load) (fields_from s a)
-    cell-no-place e = rw (in-steps, not_placed p (sym ey.0 ∙ e), no_both {B = Values (place ∷ number ∷ [])} o)
+    pub cell_no_place : y ≡ Where.Malformed → Form.Malformed ≡ shaped (cond save Kind.Save Kind.Load) (fields_from s a)
+    cell_no_place e = rw (in_steps, not_placed p (sym ey.0 ∙ e), no_both {B = Values (place ∷ number ∷ [])} o)
 
-    pub cell-no-index : r ≡ Numbers.Malformed → Form.Malformed ≡ shaped (cond save Kind.Save Kind.Load) (fields_from s a)
-    cell-no-index e = rw (in-steps, no_index q (sym er ∙ e), no_both {B = Values (number ∷ [])} p, no_both {B = Values (place ∷ number ∷ [])} o)
+    pub cell_no_index : r ≡ Numbers.Malformed → Form.Malformed ≡ shaped (cond save Kind.Save Kind.Load) (fields_from s a)
+    cell_no_index e = rw (in_steps, no_index q (sym er ∙ e), no_both {B = Values (number ∷ [])} p, no_both {B = Values (place ∷ number ∷ [])} o)
 
     pub cell_is : (m : Number) (w : Place) (b c d e f : Number) → x ≡ Numeral.Is m → y ≡ Where.Is w → r ≡ Numbers.Are b c d e f → cond save (Form.Save m w f) (Form.Load m w f) ≡ shaped (cond save Kind.Save Kind.Load) (fields_from s a)
-    cell_is m w b c d e f g h i = cell_all o p q m w b c d e f (sym ex.0 ∙ g) (sym ey.0 ∙ h) (sym er ∙ i) ∙ sym in-steps
+    cell_is m w b c d e f g h i = cell_all o p q m w b c d e f (sym ex.0 ∙ g) (sym ey.0 ∙ h) (sym er ∙ i) ∙ sym in_steps
 
 -- ---- a branch
 

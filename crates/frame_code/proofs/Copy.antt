@@ -14,7 +14,7 @@ use Rattle.machine.specs.Effect.{effect, apply, exec}
 use Rattle.machine.proofs.Exec.{execs, Fit}
 use Rattle.machine.proofs.Memory.{wrap_l, dist_ahead, upd_twice, load_store, load8_store, load8_small}
 use Rattle.machine.proofs.Effects.{setx_same, setx_other}
-use Rattle.machine.proofs.Straight.{execs-x}
+use Rattle.machine.proofs.Straight.{execs_x}
 use Rattle.machine.proofs.Stores.{Same, Off, Landing, landing_same, lands_in}
 use Rattle.frame_code.specs.Items.{mv, state_copy}
 use Rattle.frame_code.proofs.Land.{In, landing_wider, load8_same}
@@ -118,15 +118,15 @@ module _ (Q : Floats) (P : ℕ → Type 0) (m0 m1 X F : ℕ → ℕ) (base most 
     unfolding effect apply setx upd
     loaded = rw value
 
-    new-f : v.f ≡ floats (suc i)
-    new-f = loaded ∙ rw h.f (by i)
+    new_f : v.f ≡ floats (suc i)
+    new_f = loaded ∙ rw h.f (by i)
       where
         by : (j : ℕ) → upd (floats j) 10 (state i) ≡ upd F 10 (state i)
         by zero = refl
         by (suc j) = upd_twice F 10 (state j) (state i)
 
-    new-cells : (j : ℕ) → j < suc i → load8 v.mem (base + 8 * j) ≡ state j
-    new-cells j k = rw stored (by (eqb j i) refl)
+    new_cells : (j : ℕ) → j < suc i → load8 v.mem (base + 8 * j) ≡ state j
+    new_cells j k = rw stored (by (eqb j i) refl)
       where
         by : (t : Bool) → eqb j i ≡ t → load8 (store8 u.mem (base + 8 * i) (state i)) (base + 8 * j) ≡ state j
         by true e = rw (eqb-true j i e) (load_store u.mem (base + 8 * i) (state i) (load8_small m0 (through i) bytes))
@@ -135,19 +135,19 @@ module _ (Q : Floats) (P : ℕ → Type 0) (m0 m1 X F : ℕ → ℕ) (base most 
             load8_store u.mem (base + 8 * i) (state i) (base + 8 * j) (cells_apart base most j i fits (omega (arith, n)) (omega arith) n)
             ∙ h.cells j (omega (arith, n))
 
-    new-x : (r : ℕ) → T (not (copy_regs r)) → v.x r ≡ u.x r
+    new_x : (r : ℕ) → T (not (copy_regs r)) → v.x r ≡ u.x r
     unfolding effect apply
-    new-x r k = execs-x Q copy_regs state_copy u r tt k
+    new_x r k = execs_x Q copy_regs state_copy u r tt k
 
-    pointer-even : w64 (u.x 18 + 0) % 8 ≡ 0
-    pointer-even = omega (arith, h.s2, table-even)
+    pointer_even : w64 (u.x 18 + 0) % 8 ≡ 0
+    pointer_even = omega (arith, h.s2, table-even)
 
-    cell-even : w64 (u.x 6 + 0) % 8 ≡ 0
-    cell-even = rw to (omega (arith, even))
+    cell_even : w64 (u.x 6 + 0) % 8 ≡ 0
+    cell_even = rw to (omega (arith, even))
 
     fit : Fit Q state_copy u
     unfolding effect apply setx upd
-    fit = (omega arith, pointer-even, (omega arith, tt, (omega arith, rw reached (states-even i l), (omega arith, cell-even, (omega arith, tt, (omega arith, tt, tt))))))
+    fit = (omega arith, pointer_even, (omega arith, tt, (omega arith, rw reached (states-even i l), (omega arith, cell_even, (omega arith, tt, (omega arith, tt, tt))))))
 
     pub round : Round Q P state_copy count Copied i u
     round =
@@ -160,9 +160,9 @@ module _ (Q : Floats) (P : ℕ → Type 0) (m0 m1 X F : ℕ → ℕ) (base most 
                 t1 = r.0;
                 s2 = r.1;
                 s3 = r.2;
-                x = λ q k. new-x q k ∙ h.x q k;
-                f = new-f;
-                cells = new-cells;
+                x = λ q k. new_x q k ∙ h.x q k;
+                f = new_f;
+                cells = new_cells;
                 same = λ x b o. landing_same Cells Q state_copy u lands x b o ∙ h.same x b o;
               };
           t2 = r.3;
@@ -178,7 +178,7 @@ module _ (Q : Floats) (P : ℕ → Type 0) (m0 F : ℕ → ℕ) (base most tab i
       t1 = setx_same u.x 6 _ (λ z. omega arith) ∙ omega (arith, a);
       s2 = setx_other u.x 6 _ 18 (λ z. omega arith) ∙ omega (arith, b);
       s3 = setx_other u.x 6 _ 19 (λ z. omega arith) ∙ c;
-      x = λ r k. execs-x Q copy_regs (mv 6 9 ∷ []) u r tt k;
+      x = λ r k. execs_x Q copy_regs (mv 6 9 ∷ []) u r tt k;
       f = f;
       cells = λ j k. absurd (omega arith);
       same = λ x k o. refl;

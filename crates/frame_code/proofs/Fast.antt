@@ -86,16 +86,16 @@ module _ (Q : Floats) (cap states obs last mask : ℕ) (at : ℕ → ℕ) (s : S
     three : (v : State) × Lowered Q P (sub_stack_code ss ++ (mv 21 2 ∷ [])) 21 bottom two.0 v
     three = down_to Q P 21 bottom ss (omega arith) (λ z. omega arith) (λ z. omega arith) (omega (arith, sizes)) two.0 (two.1.sp ∙ omega (arith, top)) (omega (arith, top))
 
-    same-f : three.0.f ≡ s.f
-    same-f = three.1.f ∙ two.1.f ∙ one.1.f
+    same_f : three.0.f ≡ s.f
+    same_f = three.1.f ∙ two.1.f ∙ one.1.f
 
     four : (v : State) × Stored Q (bottom + ss) states (states_from 0 states) three.0 v × ((i : ℕ) → i < states → load8 v.mem (bottom + ss + 8 * i) ≡ three.0.f (10 + i))
-    four = states_stored Q (bottom + ss) states states three.0 (three.1.x 9 tt ∙ two.1.copy) (omega (arith, sizes, top)) (omega (arith, c.frame_aligned)) few.2 (omega arith) (λ r. rw same-f (c.sound.f r))
+    four = states_stored Q (bottom + ss) states states three.0 (three.1.x 9 tt ∙ two.1.copy) (omega (arith, sizes, top)) (omega (arith, c.frame_aligned)) few.2 (omega arith) (λ r. rw same_f (c.sound.f r))
 
     five : (v : State) × Stored Q bottom cap (map save (saved mask)) four.0 v × ((r : ℕ) → Memᴰ r (saved mask) → load8 v.mem (bottom + 8 * save_cell r) ≡ four.0.f r) × ((c : ℕ) → c < cap → ((r : ℕ) → Memᴰ r (saved mask) → save_cell r ≢ c) → load8 v.mem (bottom + 8 * c) ≡ load8 four.0.mem (bottom + 8 * c))
     five =
         saves_stored Q bottom cap mask four.0 (ap (λ (x : ℕ → ℕ). x 21) four.1.x ∙ three.1.copy) (omega (arith, sizes, top)) (omega (arith, c.frame_aligned)) c.room_for_saves
-        (λ r. rw (four.1.f, same-f) (c.sound.f r))
+        (λ r. rw (four.1.f, same_f) (c.sound.f r))
 
     abbrev tail : List Instr
     tail = sub_stack_code ss ++ (mv 21 2 ∷ states_from 0 states)
@@ -137,8 +137,8 @@ module _ (Q : Floats) (cap states obs last mask : ℕ) (at : ℕ → ℕ) (s : S
     abbrev end : State
     end = five.0
 
-    five-x : end.x ≡ three.0.x
-    five-x = five.1.x ∙ four.1.x
+    five_x : end.x ≡ three.0.x
+    five_x = five.1.x ∙ four.1.x
 
     reg : (r : ℕ) → T (not (sets Fast r)) → end.x r ≡ s.x r
     reg r h =
@@ -147,7 +147,7 @@ module _ (Q : Floats) (cap states obs last mask : ℕ) (at : ℕ → ℕ) (s : S
         let p8 = not_or (eqb r 8) _ p5.1 in
         let p9 = not_or (eqb r 9) _ p8.1 in
         let only : (b : Bool) → T (not b) → T (not (eqb r 2 || (eqb r 5 || b))) = λ b k. or_not (eqb r 2) _ p2.0 (or_not (eqb r 5) b p5.0 k) in
-        ap (λ (x : ℕ → ℕ). x r) five-x ∙ three.1.x r (only (eqb r 21) p9.1) ∙ two.1.x r (only (eqb r 9) p9.0) ∙ one.1.x r (only (eqb r 8) p8.0)
+        ap (λ (x : ℕ → ℕ). x r) five_x ∙ three.1.x r (only (eqb r 21) p9.1) ∙ two.1.x r (only (eqb r 9) p9.0) ∙ one.1.x r (only (eqb r 8) p8.0)
 
     -- what the saves, the states and the opening leave
     late : (a : ℕ) → bottom + 8 * cap ≤ a → a + 8 ≤ 2 ^ 64 → load8 end.mem a ≡ load8 four.0.mem a
@@ -172,7 +172,7 @@ module _ (Q : Floats) (cap states obs last mask : ℕ) (at : ℕ → ℕ) (s : S
     state : (i : ℕ) → i < states → load8 end.mem (w64 (bottom + ss + 8 * i)) ≡ s.f (10 + i)
     state i h =
         let e : w64 (bottom + ss + 8 * i) ≡ bottom + ss + 8 * i = omega (arith, sizes, top) in
-        rw e (late (bottom + ss + 8 * i) (omega (arith, sizes)) (omega (arith, sizes, top)) ∙ four.2 i h ∙ ap (λ (f : ℕ → ℕ). f (10 + i)) same-f)
+        rw e (late (bottom + ss + 8 * i) (omega (arith, sizes)) (omega (arith, sizes, top)) ∙ four.2 i h ∙ ap (λ (f : ℕ → ℕ). f (10 + i)) same_f)
 
     unwritten : (i : ℕ) → states ≤ i → i < states + obs → load8 end.mem (w64 (bottom + ss + 8 * i)) ≡ load8 s.mem (w64 (bottom + ss + 8 * i))
     unwritten i h l =
@@ -191,10 +191,10 @@ module _ (Q : Floats) (cap states obs last mask : ℕ) (at : ℕ → ℕ) (s : S
       record {
         runs = subst (λ (k : ℕ). RunIn Q C s k five.0) count came.runs;
         pc = came.pc ∙ rw (words_are, length-map (straight ++ map save (saved mask)) encode);
-        sp = ap (λ (x : ℕ → ℕ). x 2) five-x ∙ three.1.sp;
-        s5 = ap (λ (x : ℕ → ℕ). x 21) five-x ∙ three.1.copy;
-        s0 = ap (λ (x : ℕ → ℕ). x 8) five-x ∙ three.1.x 8 tt ∙ two.1.x 8 tt ∙ one.1.s0;
-        s1 = ap (λ (x : ℕ → ℕ). x 9) five-x ∙ three.1.x 9 tt ∙ two.1.copy;
+        sp = ap (λ (x : ℕ → ℕ). x 2) five_x ∙ three.1.sp;
+        s5 = ap (λ (x : ℕ → ℕ). x 21) five_x ∙ three.1.copy;
+        s0 = ap (λ (x : ℕ → ℕ). x 8) five_x ∙ three.1.x 8 tt ∙ two.1.x 8 tt ∙ one.1.s0;
+        s1 = ap (λ (x : ℕ → ℕ). x 9) five_x ∙ three.1.x 9 tt ∙ two.1.copy;
         s2 = λ h. absurd h;
         s3 = λ h. absurd h;
         s4 = λ h. absurd h;
@@ -203,8 +203,8 @@ module _ (Q : Floats) (cap states obs last mask : ℕ) (at : ℕ → ℕ) (s : S
         states = state;
         mem_cells = unwritten;
         stack_cells = unsaved;
-        saved_cells = λ r m. five.2 r m ∙ ap (λ (f : ℕ → ℕ). f r) (four.1.f ∙ same-f);
-        f = five.1.f ∙ four.1.f ∙ same-f ∙ sym (start_unused H s states refl);
+        saved_cells = λ r m. five.2 r m ∙ ap (λ (f : ℕ → ℕ). f r) (four.1.f ∙ same_f);
+        f = five.1.f ∙ four.1.f ∙ same_f ∙ sym (start_unused H s states refl);
         rm = run_rm came.runs.runs;
         mem = came.same;
       },

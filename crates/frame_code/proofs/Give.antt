@@ -15,7 +15,7 @@ use Rattle.machine.specs.Effect.{effect, apply, exec}
 use Rattle.machine.proofs.Exec.{execs, Fit}
 use Rattle.machine.proofs.Memory.{wrap_l, upd_other}
 use Rattle.machine.proofs.Effects.{setx_same, setx_other}
-use Rattle.machine.proofs.Straight.{execs-x}
+use Rattle.machine.proofs.Straight.{execs_x}
 use Rattle.machine.proofs.Stores.{Same, Off, Landing, landing_same}
 use Rattle.accesses.specs.Code.{li_code}
 use Rattle.frame_code.specs.Items.{obs_copy}
@@ -95,23 +95,23 @@ module _ (Q : Floats) (P : ℕ → Type 0) (m X F : ℕ → ℕ) (base tab idx s
     unfolding effect apply setx upd
     regs = (rw (h.t1, wrap_l (base + 8 * (skip + i)) 8) (omega arith), rw (h.s2, wrap_l (tab + 16 * (skip + i)) 16) (omega arith), h.s3, refl)
 
-    new-f : (r : ℕ) → r ≢ 10 → v.f r ≡ u.f r
+    new_f : (r : ℕ) → r ≢ 10 → v.f r ≡ u.f r
     unfolding effect apply
-    new-f r k = upd_other u.f 10 _ r k
+    new_f r k = upd_other u.f 10 _ r k
 
-    new-x : (r : ℕ) → T (not (copy_regs r)) → v.x r ≡ u.x r
+    new_x : (r : ℕ) → T (not (copy_regs r)) → v.x r ≡ u.x r
     unfolding effect apply
-    new-x r k = execs-x Q copy_regs obs_copy u r tt k
+    new_x r k = execs_x Q copy_regs obs_copy u r tt k
 
-    pointer-even : w64 (u.x 18 + 0) % 8 ≡ 0
-    pointer-even = omega (arith, h.s2, table-even)
+    pointer_even : w64 (u.x 18 + 0) % 8 ≡ 0
+    pointer_even = omega (arith, h.s2, table-even)
 
-    cell-even : w64 (u.x 6 + 0) % 8 ≡ 0
-    cell-even = omega (arith, h.t1, even)
+    cell_even : w64 (u.x 6 + 0) % 8 ≡ 0
+    cell_even = omega (arith, h.t1, even)
 
     fit : Fit Q obs_copy u
     unfolding effect apply setx upd
-    fit = (omega arith, pointer-even, (omega arith, tt, (omega arith, cell-even, (omega arith, rw (pointer, to) (goals-even i l), (omega arith, tt, (omega arith, tt, tt))))))
+    fit = (omega arith, pointer_even, (omega arith, tt, (omega arith, cell_even, (omega arith, rw (pointer, to) (goals-even i l), (omega arith, tt, (omega arith, tt, tt))))))
 
     pub give : Round Q P obs_copy count Given i u
     give =
@@ -124,8 +124,8 @@ module _ (Q : Floats) (P : ℕ → Type 0) (m X F : ℕ → ℕ) (base tab idx s
                 t1 = r.0;
                 s2 = r.1;
                 s3 = r.2;
-                x = λ q k. new-x q k ∙ h.x q k;
-                f = λ q k. new-f q k ∙ h.f q k;
+                x = λ q k. new_x q k ∙ h.x q k;
+                f = λ q k. new_f q k ∙ h.f q k;
                 mem = stored ∙ rw h.mem;
                 same = λ x b o. landing_same P Q obs_copy u lands x b o ∙ h.same x b o;
               };
@@ -146,7 +146,7 @@ module _ (Q : Floats) (P : ℕ → Type 0) (base tab idx skip count : ℕ) (u : 
       t1 = setx_same w.x 6 _ (λ z. omega arith) ∙ rw (q.1, q.0.x 9 tt, a) (omega arith);
       s2 = setx_other w.x 6 _ 18 (λ z. omega arith) ∙ q.0.x 18 tt ∙ b ∙ ap (λ (k : ℕ). k % 2 ^ 64) (omega arith);
       s3 = setx_other w.x 6 _ 19 (λ z. omega arith) ∙ q.0.x 19 tt ∙ c;
-      x = λ r k. execs-x Q copy_regs (R ADD 6 6 9 ∷ []) w r tt k ∙ q.0.x r (six-out r k);
+      x = λ r k. execs_x Q copy_regs (R ADD 6 6 9 ∷ []) w r tt k ∙ q.0.x r (six_out r k);
       f = λ r k. ap (λ (g : ℕ → ℕ). g r) q.0.f;
       mem = q.0.mem;
       same = λ x k o. ap (λ (g : ℕ → ℕ). g x) q.0.mem;
@@ -159,8 +159,8 @@ module _ (Q : Floats) (P : ℕ → Type 0) (base tab idx skip count : ℕ) (u : 
       w : State
       w = execs Q (li_code 6 (pos (8 * skip))) u
 
-      six-out : (r : ℕ) → T (not (copy_regs r)) → T (not (eqb r 6))
-      six-out r = by (eqb r 5) (eqb r 6) (eqb r 7) (eqb r 18)
+      six_out : (r : ℕ) → T (not (copy_regs r)) → T (not (eqb r 6))
+      six_out r = by (eqb r 5) (eqb r 6) (eqb r 7) (eqb r 18)
         where
           by : (a b c d : Bool) → T (not (a || (b || (c || d)))) → T (not b)
           by true b c d h = absurd h

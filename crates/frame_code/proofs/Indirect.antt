@@ -21,7 +21,7 @@ use Rattle.machine.specs.Step.{Among, RunIn}
 use Rattle.machine.proofs.Exec.{execs}
 use Rattle.base.proofs.Bools.{and_l, and_r}
 use Rattle.machine.proofs.Runs.{no_step, run_sound}
-use Rattle.machine.proofs.Straight.{execs-x}
+use Rattle.machine.proofs.Straight.{execs_x}
 use Rattle.machine.proofs.Stores.{Same, Off}
 use Rattle.ast.specs.declared.Frame.TheVariants.{Indirect}
 use Rattle.ast.specs.declared.Head.{Head}
@@ -81,7 +81,7 @@ module _ (Q : Floats) (P : ℕ → Type 0) (u : State) where
 
   moved_x : (r : ℕ) → T (not (move_regs r)) → (execs Q moves u).x r ≡ u.x r
   unfolding effect
-  moved_x r h = execs-x Q move_regs moves u r tt h
+  moved_x r h = execs_x Q move_regs moves u r tt h
 
   moved_to : u.x 10 < 2 ^ 64 → u.x 11 < 2 ^ 64 → u.x 12 < 2 ^ 64 → u.x 13 < 2 ^ 64 → ((execs Q moves u).x 9 ≡ u.x 10) × ((execs Q moves u).x 18 ≡ u.x 11) × ((execs Q moves u).x 19 ≡ u.x 12) × ((execs Q moves u).x 20 ≡ u.x 13)
   unfolding effect apply setx upd
@@ -203,8 +203,8 @@ module _ (Q : Floats) (cap states obs last mask : ℕ) (at : ℕ → ℕ) (s : S
     abbrev way : ℕ
     way = 1 + length down + length (resolved at h2 copies)
 
-    short-way : way < 1024
-    short-way =
+    short_way : way < 1024
+    short_way =
         omega (arith, length-append (sub_stack_code fs) (mv 9 2 ∷ Shift SLLI 19 19 (pos 3) ∷ []), sub_stack_length fs, repeated_words at h2 states at_pro (mv 6 9 ∷ []) state_copy refl)
 
     branch : Words C P s.mem (s.pc + h1) (encode (over way) ∷ [])
@@ -214,15 +214,15 @@ module _ (Q : Floats) (cap states obs last mask : ℕ) (at : ℕ → ℕ) (s : S
 
     -- ---- the opening and the arguments
 
-    fp-even : fp % 8 ≡ 0
-    fp-even = by (eqb (s.x 11) 0)
+    fp_even : fp % 8 ≡ 0
+    fp_even = by (eqb (s.x 11) 0)
       where
         by : (z : Bool) → (bottom + (ss + cond (not z) fs 0)) % 8 ≡ 0
         by true = omega (arith, c.frame_aligned)
         by false = omega (arith, c.frame_aligned)
 
     one : (v : State) × Begun Q (In fp (fp + 64)) Indirect fp s v
-    one = begun Q Indirect fp s c.sound (omega (arith, top)) top fp-even (c.sp ∙ omega arith)
+    one = begun Q Indirect fp s c.sound (omega (arith, top)) top fp_even (c.sp ∙ omega arith)
 
     one_in : (x : ℕ) → In fp (fp + 64) x → P x
     one_in x p = omega (arith, p)
@@ -249,11 +249,11 @@ module _ (Q : Floats) (cap states obs last mask : ℕ) (at : ℕ → ℕ) (s : S
     past = exec Q (over way) two
 
     came2 : (b : ℕ) → past.pc ≡ w64 b → Came Q C P s b 14 past
-    came2 b p = hop (over way) (s.pc + h1) b 13 two branch came1 (omega (arith, short-way)) tt (over_keeps Q two way).2 p
+    came2 b p = hop (over way) (s.pc + h1) b 13 two branch came1 (omega (arith, short_way)) tt (over_keeps Q two way).2 p
 
     -- registers there
-    past-x : (r : ℕ) → T (not (move_regs r)) → past.x r ≡ one.0.x r
-    past-x r h = ap (λ (x : ℕ → ℕ). x r) (over_keeps Q two way).0 ∙ moved_x Q P one.0 r h
+    past_x : (r : ℕ) → T (not (move_regs r)) → past.x r ≡ one.0.x r
+    past_x r h = ap (λ (x : ℕ → ℕ). x r) (over_keeps Q two way).0 ∙ moved_x Q P one.0 r h
 
     -- what lies below the registers' places
     early : (a : ℕ) → a + 8 ≤ fp → load8 one.0.mem a ≡ load8 s.mem a
@@ -285,13 +285,13 @@ module _ (Q : Floats) (cap states obs last mask : ℕ) (at : ℕ → ℕ) (s : S
           past,
           record {
             came = came2 (s.pc + h3) (over_goes Q two way (s.pc + h1) came1.pc (args.1 ∙ z) ∙ omega arith);
-            sp = past-x 2 tt ∙ one.1.sp ∙ omega (arith, m);
-            s0 = past-x 8 tt ∙ one.1.s0;
+            sp = past_x 2 tt ∙ one.1.sp ∙ omega (arith, m);
+            s0 = past_x 8 tt ∙ one.1.s0;
             s1 = rw e (ap (λ (x : ℕ → ℕ). x 9) (over_keeps Q two way).0 ∙ args.0);
             s2 = rw e (ap (λ (x : ℕ → ℕ). x 18) (over_keeps Q two way).0 ∙ args.1 ∙ z);
             s3 = rw e (ap (λ (x : ℕ → ℕ). x 19) (over_keeps Q two way).0 ∙ args.2);
             s4 = ap (λ (x : ℕ → ℕ). x 20) (over_keeps Q two way).0 ∙ args.3;
-            others = λ r h. let k = clear r h in past-x r k.1 ∙ arg r k.0;
+            others = λ r h. let k = clear r h in past_x r k.1 ∙ arg r k.0;
             f = (over_keeps Q two way).1 ∙ (moved Q P one.0).1 ∙ one.1.f ∙ sym (start_unused H s states (rw e refl));
             places = λ i h. rw ((over_keeps Q two way).2, (moved Q P one.0).2) (one.1.places i h);
             under = λ a h. rw ((over_keeps Q two way).2, (moved Q P one.0).2) (early a (omega arith));
@@ -308,14 +308,14 @@ module _ (Q : Floats) (cap states obs last mask : ℕ) (at : ℕ → ℕ) (s : S
       used : T (not (eqb (s.x 11) 0))
       used = rw e tt
 
-      ms-is : ms ≡ fs
-      ms-is = rw e refl
+      ms_is : ms ≡ fs
+      ms_is = rw e refl
 
       fall : Came Q C P s (s.pc + (h1 + 4)) 14 past
       fall = came2 (s.pc + (h1 + 4)) (over_stays Q two way (s.pc + h1) came1.pc (λ z. not_zero (sym args.1 ∙ z)) ∙ omega arith)
 
       low : (v : State) × Lowered Q P (sub_stack_code fs ++ (mv 9 2 ∷ [])) 9 base past v
-      low = down_to Q P 9 base fs (omega arith) (λ z. omega arith) (λ z. omega arith) (omega (arith, sizes)) past (past-x 2 tt ∙ one.1.sp ∙ omega (arith, ms-is, top)) (omega (arith, top))
+      low = down_to Q P 9 base fs (omega arith) (λ z. omega arith) (λ z. omega arith) (omega (arith, sizes)) past (past_x 2 tt ∙ one.1.sp ∙ omega (arith, ms_is, top)) (omega (arith, top))
 
       abbrev eight : Instr
       eight = Shift SLLI 19 19 (pos 3)
@@ -323,41 +323,41 @@ module _ (Q : Floats) (cap states obs last mask : ℕ) (at : ℕ → ℕ) (s : S
       abbrev three : State
       three = exec Q eight low.0
 
-      three-x : (r : ℕ) → T (not (eqb r 19)) → three.x r ≡ low.0.x r
+      three_x : (r : ℕ) → T (not (eqb r 19)) → three.x r ≡ low.0.x r
       unfolding effect
-      three-x r h = execs-x Q (λ r. eqb r 19) (eight ∷ []) low.0 r tt h
+      three_x r h = execs_x Q (λ r. eqb r 19) (eight ∷ []) low.0 r tt h
 
-      three-does : Seg Q P (eight ∷ []) low.0 three × (three.f ≡ low.0.f) × (three.mem ≡ low.0.mem) × (three.x 19 ≡ w64 (low.0.x 19 * 8))
+      three_does : Seg Q P (eight ∷ []) low.0 three × (three.f ≡ low.0.f) × (three.mem ≡ low.0.mem) × (three.x 19 ≡ w64 (low.0.x 19 * 8))
       unfolding effect apply setx upd
-      three-does = (record { fit = omega arith; lands = omega arith; end = refl }, refl, refl, refl)
+      three_does = (record { fit = omega arith; lands = omega arith; end = refl }, refl, refl, refl)
 
       came3 : Came Q C P s (s.pc + h2) (14 + (length (sub_stack_code fs) + 2)) three
       came3 =
           let k = length-append (sub_stack_code fs) (mv 9 2 ∷ eight ∷ []) in
           came_at (omega arith) (omega (arith, k))
-          (onward_seg down (s.pc + (h1 + 4)) 14 past (piece (h1 + 4) down _ st2) fall (rw (append_assoc (sub_stack_code fs) (mv 9 2 ∷ []) (eight ∷ [])) at (seg_join {is = sub_stack_code fs ++ (mv 9 2 ∷ [])} low.1.seg three-does.0)))
+          (onward_seg down (s.pc + (h1 + 4)) 14 past (piece (h1 + 4) down _ st2) fall (rw (append_assoc (sub_stack_code fs) (mv 9 2 ∷ []) (eight ∷ [])) at (seg_join {is = sub_stack_code fs ++ (mv 9 2 ∷ [])} low.1.seg three_does.0)))
 
-      three-f : three.f ≡ s.f
-      three-f = three-does.1 ∙ low.1.f ∙ (over_keeps Q two way).1 ∙ (moved Q P one.0).1 ∙ one.1.f
+      three_f : three.f ≡ s.f
+      three_f = three_does.1 ∙ low.1.f ∙ (over_keeps Q two way).1 ∙ (moved Q P one.0).1 ∙ one.1.f
 
-      three-mem : three.mem ≡ one.0.mem
-      three-mem = three-does.2 ∙ low.1.mem ∙ (over_keeps Q two way).2 ∙ (moved Q P one.0).2
+      three_mem : three.mem ≡ one.0.mem
+      three_mem = three_does.2 ∙ low.1.mem ∙ (over_keeps Q two way).2 ∙ (moved Q P one.0).2
 
       -- s0, s1, s2, s3, s4 and sp
-      three-regs : (three.x 2 ≡ base) × (three.x 8 ≡ fp) × (three.x 9 ≡ base) × (three.x 18 ≡ s.x 11) × (three.x 19 ≡ w64 (8 * s.x 12)) × (three.x 20 ≡ s.x 13)
-      three-regs =
+      three_regs : (three.x 2 ≡ base) × (three.x 8 ≡ fp) × (three.x 9 ≡ base) × (three.x 18 ≡ s.x 11) × (three.x 19 ≡ w64 (8 * s.x 12)) × (three.x 20 ≡ s.x 13)
+      three_regs =
           let o : (r : ℕ) → two.x r ≡ past.x r = λ r. sym (ap (λ (x : ℕ → ℕ). x r) (over_keeps Q two way).0) in
           let i : low.0.x 19 ≡ s.x 12 = low.1.x 19 tt ∙ sym (o 19) ∙ args.2 in (
-            three-x 2 tt ∙ low.1.sp,
-            three-x 8 tt ∙ low.1.x 8 tt ∙ past-x 8 tt ∙ one.1.s0,
-            three-x 9 tt ∙ low.1.copy,
-            three-x 18 tt ∙ low.1.x 18 tt ∙ sym (o 18) ∙ args.1,
-            three-does.3 ∙ omega (arith, i),
-            three-x 20 tt ∙ low.1.x 20 tt ∙ sym (o 20) ∙ args.3,
+            three_x 2 tt ∙ low.1.sp,
+            three_x 8 tt ∙ low.1.x 8 tt ∙ past_x 8 tt ∙ one.1.s0,
+            three_x 9 tt ∙ low.1.copy,
+            three_x 18 tt ∙ low.1.x 18 tt ∙ sym (o 18) ∙ args.1,
+            three_does.3 ∙ omega (arith, i),
+            three_x 20 tt ∙ low.1.x 20 tt ∙ sym (o 20) ∙ args.3,
           )
 
-      three-others : (r : ℕ) → T (not (sets Indirect r)) → three.x r ≡ s.x r
-      three-others r h = let k = clear r h in three-x r k.5 ∙ low.1.x r k.3 ∙ past-x r k.1 ∙ arg r k.0
+      three_others : (r : ℕ) → T (not (sets Indirect r)) → three.x r ≡ s.x r
+      three_others r h = let k = clear r h in three_x r k.5 ∙ low.1.x r k.3 ∙ past_x r k.1 ∙ arg r k.0
 
       -- ---- the states
 
@@ -369,16 +369,16 @@ module _ (Q : Floats) (cap states obs last mask : ℕ) (at : ℕ → ℕ) (s : S
 
       started : Seg Q P (mv 6 9 ∷ []) three four × Done 0 four
       started =
-          let r = three-regs in
-          begin Q P s.mem s.f base states (s.x 11) (8 * s.x 12) states three r.2 r.3 r.4 three-f (omega (arith, top)) (c.sound.x 11)
+          let r = three_regs in
+          begin Q P s.mem s.f base states (s.x 11) (8 * s.x 12) states three r.2 r.3 r.4 three_f (omega (arith, top)) (c.sound.x 11)
 
       before : Same P three.mem s.mem
       before = came3.same
 
       again : (i : ℕ) (u : State) → i < states → Done i u → Round Q P state_copy states Done i u
       again =
-          round Q P s.mem three.mem three.x s.f base states (s.x 11) (8 * s.x 12) states (omega (arith, top, sizes, ms-is)) (omega arith)
-          (λ x p. omega (arith, p, sizes, ms-is)) before c.sound.mem (λ x b d. c.table_apart used x b (omega arith)) (omega (arith, few)) (c.states_apart used) (omega (arith, c.frame_aligned)) (c.table_aligned used) (c.states_aligned used)
+          round Q P s.mem three.mem three.x s.f base states (s.x 11) (8 * s.x 12) states (omega (arith, top, sizes, ms_is)) (omega arith)
+          (λ x p. omega (arith, p, sizes, ms_is)) before c.sound.mem (λ x b d. c.table_apart used x b (omega arith)) (omega (arith, few)) (c.states_apart used) (omega (arith, c.frame_aligned)) (c.table_aligned used) (c.states_aligned used)
 
       abbrev steps : ℕ
       steps = 14 + (length (sub_stack_code fs) + 2 + repeated_steps states 1)
@@ -394,9 +394,9 @@ module _ (Q : Floats) (cap states obs last mask : ℕ) (at : ℕ → ℕ) (s : S
       some : states ≢ 0 → (w : State) × Main steps w
       some n =
           let q = copied n in
-          let past-states : (a : ℕ) → Off States a 8 → load8 q.0.mem a ≡ load8 three.mem a = λ a o. load8_same States q.0.mem three.mem a q.2.same o in
+          let past_states : (a : ℕ) → Off States a 8 → load8 q.0.mem a ≡ load8 three.mem a = λ a o. load8_same States q.0.mem three.mem a q.2.same o in
           let d = q.2 in
-          let r = three-regs in (
+          let r = three_regs in (
             q.0,
             record {
               came = came_at refl (omega arith) q.1;
@@ -406,18 +406,18 @@ module _ (Q : Floats) (cap states obs last mask : ℕ) (at : ℕ → ℕ) (s : S
               s2 = rw e d.s2;
               s3 = rw e d.s3;
               s4 = d.x 20 tt ∙ r.5;
-              others = λ k h. d.x k (clear k h).2 ∙ three-others k h;
+              others = λ k h. d.x k (clear k h).2 ∙ three_others k h;
               f = d.f ∙ rw (start_last H s states n, e) (floats_last Q P s.mem s.f base states (s.x 11) (8 * s.x 12) states three states n);
-              places = λ i h. past-states (fp + 8 * i) (off_above base (base + 8 * states) (fp + 8 * i) (omega (arith, sizes, ms-is)) (omega (arith, top))) ∙ rw three-mem (one.1.places i h);
-              under = λ a h. past-states a (off_below base (base + 8 * states) a h (omega (arith, top))) ∙ rw three-mem (early a (omega arith));
-              rest = λ z i h l. past-states (base + 8 * i) (off_above base (base + 8 * states) (base + 8 * i) (omega arith) (omega (arith, top, sizes, ms-is))) ∙ rw three-mem (early (base + 8 * i) (omega (arith, sizes, ms-is)));
+              places = λ i h. past_states (fp + 8 * i) (off_above base (base + 8 * states) (fp + 8 * i) (omega (arith, sizes, ms_is)) (omega (arith, top))) ∙ rw three_mem (one.1.places i h);
+              under = λ a h. past_states a (off_below base (base + 8 * states) a h (omega (arith, top))) ∙ rw three_mem (early a (omega arith));
+              rest = λ z i h l. past_states (base + 8 * i) (off_above base (base + 8 * states) (base + 8 * i) (omega arith) (omega (arith, top, sizes, ms_is))) ∙ rw three_mem (early (base + 8 * i) (omega (arith, sizes, ms_is)));
               cells = λ z i h. d.cells i h;
             },
           )
 
       none : eqb states 0 ≡ true → (w : State) × Main steps w
       none z =
-          let r = three-regs in
+          let r = three_regs in
           let n : states ≡ 0 = eqb-true states 0 z in
           let empty = repeated_none at h2 states at_pro (mv 6 9 ∷ []) state_copy refl z in (
             three,
@@ -429,11 +429,11 @@ module _ (Q : Floats) (cap states obs last mask : ℕ) (at : ℕ → ℕ) (s : S
               s2 = rw e (r.3 ∙ omega (arith, n, c.sound.x 11));
               s3 = rw e r.4;
               s4 = r.5;
-              others = three-others;
-              f = three-f ∙ ap (start_f H s) (sym n);
-              places = λ i h. rw three-mem (one.1.places i h);
-              under = λ a h. rw three-mem (early a (omega arith));
-              rest = λ y i h l. rw three-mem (early (base + 8 * i) (omega (arith, sizes, ms-is)));
+              others = three_others;
+              f = three_f ∙ ap (start_f H s) (sym n);
+              places = λ i h. rw three_mem (one.1.places i h);
+              under = λ a h. rw three_mem (early a (omega arith));
+              rest = λ y i h l. rw three_mem (early (base + 8 * i) (omega (arith, sizes, ms_is)));
               cells = λ y i h. absurd (omega (arith, n));
             },
           )
@@ -445,30 +445,30 @@ module _ (Q : Floats) (cap states obs last mask : ℕ) (at : ℕ → ℕ) (s : S
           by true z = none z
           by false z = some (eqb-false states 0 z)
 
-    abbrev main-steps : Bool → ℕ
-    main-steps z = 14 + cond z 0 (length (sub_stack_code fs) + 2 + repeated_steps states 1)
+    abbrev main_steps : Bool → ℕ
+    main_steps z = 14 + cond z 0 (length (sub_stack_code fs) + 2 + repeated_steps states 1)
 
-    main : (w : State) × Main (main-steps (eqb (s.x 11) 0)) w
+    main : (w : State) × Main (main_steps (eqb (s.x 11) 0)) w
     main = by (eqb (s.x 11) 0) refl
       where
-        by : (z : Bool) → eqb (s.x 11) 0 ≡ z → (w : State) × Main (main-steps z) w
+        by : (z : Bool) → eqb (s.x 11) 0 ≡ z → (w : State) × Main (main_steps z) w
         by true z = jumped z
         by false z = table z
 
     -- ---- `stack` and the saves
 
-    low-sp : (v : State) × Lowered Q P (allocate_stack_code ss) 21 bottom main.0 v
-    low-sp = allocate_to Q P bottom ss (omega (arith, sizes)) main.0 (main.1.sp ∙ omega (arith, top)) (omega (arith, top))
+    low_sp : (v : State) × Lowered Q P (allocate_stack_code ss) 21 bottom main.0 v
+    low_sp = allocate_to Q P bottom ss (omega (arith, sizes)) main.0 (main.1.sp ∙ omega (arith, top)) (omega (arith, top))
 
-    came5 : Came Q C P s (s.pc + h3 + 4 * length (allocate_stack_code ss)) (main-steps (eqb (s.x 11) 0) + length (allocate_stack_code ss)) low-sp.0
-    came5 = onward_seg (allocate_stack_code ss) (s.pc + h3) (main-steps (eqb (s.x 11) 0)) main.0 (stood_code h3 (allocate_stack_code ss) (behind_label h3 at_main _ st4)) main.1.came low-sp.1.seg
+    came5 : Came Q C P s (s.pc + h3 + 4 * length (allocate_stack_code ss)) (main_steps (eqb (s.x 11) 0) + length (allocate_stack_code ss)) low_sp.0
+    came5 = onward_seg (allocate_stack_code ss) (s.pc + h3) (main_steps (eqb (s.x 11) 0)) main.0 (stood_code h3 (allocate_stack_code ss) (behind_label h3 at_main _ st4)) main.1.came low_sp.1.seg
 
-    six : (v : State) × Stored Q bottom cap (map save (saved mask)) low-sp.0 v × ((r : ℕ) → Memᴰ r (saved mask) → load8 v.mem (bottom + 8 * save_cell r) ≡ low-sp.0.f r) × ((c : ℕ) → c < cap → ((r : ℕ) → Memᴰ r (saved mask) → save_cell r ≢ c) → load8 v.mem (bottom + 8 * c) ≡ load8 low-sp.0.mem (bottom + 8 * c))
-    six = saves_stored Q bottom cap mask low-sp.0 low-sp.1.copy (omega (arith, sizes, top)) (omega (arith, c.frame_aligned)) c.room_for_saves (run_sound Q came5.runs.runs c.sound).f
+    six : (v : State) × Stored Q bottom cap (map save (saved mask)) low_sp.0 v × ((r : ℕ) → Memᴰ r (saved mask) → load8 v.mem (bottom + 8 * save_cell r) ≡ low_sp.0.f r) × ((c : ℕ) → c < cap → ((r : ℕ) → Memᴰ r (saved mask) → save_cell r ≢ c) → load8 v.mem (bottom + 8 * c) ≡ load8 low_sp.0.mem (bottom + 8 * c))
+    six = saves_stored Q bottom cap mask low_sp.0 low_sp.1.copy (omega (arith, sizes, top)) (omega (arith, c.frame_aligned)) c.room_for_saves (run_sound Q came5.runs.runs c.sound).f
 
-    words-before : 4 * length (resolved at 0 items) ≡ h3 + 4 * length (allocate_stack_code ss)
+    words_before : 4 * length (resolved at 0 items) ≡ h3 + 4 * length (allocate_stack_code ss)
     unfolding resolved
-    words-before =
+    words_before =
         rw (resolved_code at 0 first (jump Beq at_main 0 ∷ (code down ++ (copies ++ up))), length-append (map encode first) (resolved at h1 (jump Beq at_main 0 ∷ (code down ++ (copies ++ up)))), length-map first encode, resolved_code at (h1 + 4) down (copies ++ up))
         (rw (length-append (map encode down) (resolved at h2 (copies ++ up)), length-map down encode, resolved_append at h2 copies up, length-append (resolved at h2 copies) (resolved at h3 up), resolved_instrs at h3 (allocate_stack_code ss), length-map (allocate_stack_code ss) encode)
         (omega arith))
@@ -476,20 +476,20 @@ module _ (Q : Floats) (cap states obs last mask : ℕ) (at : ℕ → ℕ) (s : S
     abbrev row : List Instr
     row = map save (saved mask)
 
-    saves-stood : Words C P s.mem (s.pc + (h3 + 4 * length (allocate_stack_code ss))) (map encode row)
+    saves_stood : Words C P s.mem (s.pc + (h3 + 4 * length (allocate_stack_code ss))) (map encode row)
     unfolding saves
-    saves-stood =
-        rw (zero-add (4 * length (resolved at 0 items)), words-before)
+    saves_stood =
+        rw (zero-add (4 * length (resolved at 0 items)), words_before)
         at (stood_code (0 + 4 * length (resolved at 0 items)) row (stood_right 0 items (code row) stood))
 
-    came6 : Came Q C P s (s.pc + (h3 + 4 * length (allocate_stack_code ss)) + 4 * length row) (main-steps (eqb (s.x 11) 0) + length (allocate_stack_code ss) + length row) six.0
+    came6 : Came Q C P s (s.pc + (h3 + 4 * length (allocate_stack_code ss)) + 4 * length row) (main_steps (eqb (s.x 11) 0) + length (allocate_stack_code ss) + length row) six.0
     came6 =
-        onward_seg row (s.pc + (h3 + 4 * length (allocate_stack_code ss))) (main-steps (eqb (s.x 11) 0) + length (allocate_stack_code ss)) low-sp.0 saves-stood (came_at (omega arith) refl came5)
+        onward_seg row (s.pc + (h3 + 4 * length (allocate_stack_code ss))) (main_steps (eqb (s.x 11) 0) + length (allocate_stack_code ss)) low_sp.0 saves_stood (came_at (omega arith) refl came5)
         (seg_wider (λ x p. omega (arith, p, sizes)) six.1.seg)
 
-    words-all : length (resolved at 0 (prologue H ++ saves mask)) ≡ length (resolved at 0 items) + length row
+    words_all : length (resolved at 0 (prologue H ++ saves mask)) ≡ length (resolved at 0 items) + length row
     unfolding prologue saves
-    words-all =
+    words_all =
         rw (resolved_append at 0 items (code row), length-append (resolved at 0 items) (resolved at (0 + 4 * length (resolved at 0 items)) (code row)), resolved_instrs at (0 + 4 * length (resolved at 0 items)) row, length-map row encode)
 
     abbrev end : State
@@ -497,11 +497,11 @@ module _ (Q : Floats) (cap states obs last mask : ℕ) (at : ℕ → ℕ) (s : S
 
     -- from `@main` on
     since : (r : ℕ) → T (not (eqb r 2 || (eqb r 5 || eqb r 21))) → end.x r ≡ main.0.x r
-    since r h = ap (λ (x : ℕ → ℕ). x r) six.1.x ∙ low-sp.1.x r h
+    since r h = ap (λ (x : ℕ → ℕ). x r) six.1.x ∙ low_sp.1.x r h
 
     -- what lies above `stack`
     above : (a : ℕ) → bottom + 8 * cap ≤ a → a + 8 ≤ 2 ^ 64 → load8 end.mem a ≡ load8 main.0.mem a
-    above a h l = load8_same (In bottom (bottom + 8 * cap)) end.mem low-sp.0.mem a (seg_same six.1.seg) (off_above bottom (bottom + 8 * cap) a h l) ∙ rw low-sp.1.mem
+    above a h l = load8_same (In bottom (bottom + 8 * cap)) end.mem low_sp.0.mem a (seg_same six.1.seg) (off_above bottom (bottom + 8 * cap) a h l) ∙ rw low_sp.1.mem
 
     -- the block is off the frame
     block : eqb (s.x 11) 0 ≡ true → (i : ℕ) → i < states + obs → load8 end.mem (w64 (s.x 10 + 8 * i)) ≡ load8 s.mem (w64 (s.x 10 + 8 * i))
@@ -511,7 +511,7 @@ module _ (Q : Floats) (cap states obs last mask : ℕ) (at : ℕ → ℕ) (s : S
 
     -- a cell of `mem` in the frame
     cell_at : eqb (s.x 11) 0 ≡ false → (i : ℕ) → i < states + obs → (w64 (base + 8 * i) ≡ base + 8 * i) × (load8 end.mem (base + 8 * i) ≡ load8 main.0.mem (base + 8 * i))
-    cell_at z i h = (omega (arith, top, sizes, ms-is z), above (base + 8 * i) (omega (arith, sizes)) (omega (arith, top, sizes, ms-is z)))
+    cell_at z i h = (omega (arith, top, sizes, ms_is z), above (base + 8 * i) (omega (arith, sizes)) (omega (arith, top, sizes, ms_is z)))
 
     state : (i : ℕ) → i < states → load8 end.mem (w64 (mem_at H s bottom + 8 * i)) ≡ state_value H s Indirect i
     state i h = by (eqb (s.x 11) 0) refl
@@ -528,16 +528,16 @@ module _ (Q : Floats) (cap states obs last mask : ℕ) (at : ℕ → ℕ) (s : S
         by false z = let g = cell_at z i l in rw (z, g.0) (g.1 ∙ main.1.rest (eqb-false (s.x 11) 0 z) i h l)
 
     unsaved : (i : ℕ) → i < cap → ((r : ℕ) → Memᴰ r (saved mask) → save_cell r ≢ i) → load8 end.mem (bottom + 8 * i) ≡ load8 s.mem (bottom + 8 * i)
-    unsaved i h o = six.3 i h o ∙ rw low-sp.1.mem (main.1.under (bottom + 8 * i) (omega (arith, sizes)))
+    unsaved i h o = six.3 i h o ∙ rw low_sp.1.mem (main.1.under (bottom + 8 * i) (omega (arith, sizes)))
 
     pub ready : (v : State) × PrologueDone Q H at s bottom v
     ready = (
       end,
       record {
         runs = subst (λ (k : ℕ). RunIn Q C s k end) (omega (arith, length-map (saved mask) save)) came6.runs;
-        pc = came6.pc ∙ ap (λ (b : ℕ). b % 2 ^ 64) (omega (arith, words-all, words-before));
-        sp = ap (λ (x : ℕ → ℕ). x 2) six.1.x ∙ low-sp.1.sp;
-        s5 = ap (λ (x : ℕ → ℕ). x 21) six.1.x ∙ low-sp.1.copy;
+        pc = came6.pc ∙ ap (λ (b : ℕ). b % 2 ^ 64) (omega (arith, words_all, words_before));
+        sp = ap (λ (x : ℕ → ℕ). x 2) six.1.x ∙ low_sp.1.sp;
+        s5 = ap (λ (x : ℕ → ℕ). x 21) six.1.x ∙ low_sp.1.copy;
         s0 = since 8 tt ∙ main.1.s0;
         s1 = since 9 tt ∙ main.1.s1;
         s2 = λ h. since 18 tt ∙ main.1.s2;
@@ -548,8 +548,8 @@ module _ (Q : Floats) (cap states obs last mask : ℕ) (at : ℕ → ℕ) (s : S
         states = state;
         mem_cells = unwritten;
         stack_cells = unsaved;
-        saved_cells = λ r m. six.2 r m ∙ ap (λ (f : ℕ → ℕ). f r) (low-sp.1.f ∙ main.1.f) ∙ start_other H s states r (not_ten mask r m);
-        f = six.1.f ∙ low-sp.1.f ∙ main.1.f;
+        saved_cells = λ r m. six.2 r m ∙ ap (λ (f : ℕ → ℕ). f r) (low_sp.1.f ∙ main.1.f) ∙ start_other H s states r (not_ten mask r m);
+        f = six.1.f ∙ low_sp.1.f ∙ main.1.f;
         rm = run_rm came6.runs.runs;
         mem = came6.same;
       },

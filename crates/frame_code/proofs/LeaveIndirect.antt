@@ -39,7 +39,7 @@ use Rattle.frame_code.proofs.Copy.{off_part, copy_regs}
 use Rattle.frame_code.proofs.Give.{goal, result, given, Given, given_free, give, given_begin}
 use Rattle.frame_code.proofs.Indirect.{forward, over, over_keeps, over_goes, over_stays}
 use Rattle.frame_code.proofs.Rows.{not_ten}
-use Rattle.frame_code.proofs.Reload.{restoring, return, restored, Restored, restores-indirect}
+use Rattle.frame_code.proofs.Reload.{restoring, return, restored, Restored, restores_indirect}
 use Rattle.frame_code.proofs.Leave.{Reloaded, stood, reloaded, Closed, closes}
 use Rattle.frame_code.specs.Steps.{repeated_steps}
 use Rattle.reading.specs.Terms.{table_cell, observed}
@@ -87,8 +87,8 @@ module _ (Q : Floats) (cap states obs last mask : ℕ) (at : ℕ → ℕ) (s : S
         let h = and_l (leb cap 4096 && (leb (states + obs) 4096 && leb last 4096)) true l.counts in
         (leb→le cap 4096 (and_l (leb cap 4096) _ h), leb→le (states + obs) 4096 (and_l (leb (states + obs) 4096) _ (and_r (leb cap 4096) _ h)))
 
-    fp-even : fp % 8 ≡ 0
-    fp-even = by (eqb (s.x 11) 0)
+    fp_even : fp % 8 ≡ 0
+    fp_even = by (eqb (s.x 11) 0)
       where
         by : (z : Bool) → (bottom + (ss + cond (not z) (frame_size H) 0)) % 8 ≡ 0
         by true = omega (arith, l.frame_aligned)
@@ -132,8 +132,8 @@ module _ (Q : Floats) (cap states obs last mask : ℕ) (at : ℕ → ℕ) (s : S
     abbrev way : ℕ
     way = 1 + length (resolved at h2 copies)
 
-    short-way : way < 1024
-    short-way = omega (arith, repeated_words at h2 obs at_epi first obs_copy refl, length-append (li_code 6 (pos (8 * states))) (R ADD 6 6 9 ∷ []), li_length 6 (pos (8 * states)))
+    short_way : way < 1024
+    short_way = omega (arith, repeated_words at h2 obs at_epi first obs_copy refl, length-append (li_code 6 (pos (8 * states))) (R ADD 6 6 9 ∷ []), li_length 6 (pos (8 * states)))
 
     branch : Words C P u.mem (a + h1) (encode (over way) ∷ [])
     branch =
@@ -147,13 +147,13 @@ module _ (Q : Floats) (cap states obs last mask : ℕ) (at : ℕ → ℕ) (s : S
     begun = 2 + length (saved mask)
 
     came2 : (b : ℕ) → past.pc ≡ w64 b → Came Q C P u b begun past
-    came2 b p = came_at refl (omega arith) (hop (over way) (a + h1) b (1 + length (saved mask)) one.0 branch one.1.came (omega (arith, short-way)) tt (over_keeps Q one.0 way).2 p)
+    came2 b p = came_at refl (omega arith) (hop (over way) (a + h1) b (1 + length (saved mask)) one.0 branch one.1.came (omega (arith, short_way)) tt (over_keeps Q one.0 way).2 p)
 
-    past-x : (r : ℕ) → r ≢ 10 → past.x r ≡ u.x r
-    past-x r h = ap (λ (x : ℕ → ℕ). x r) (over_keeps Q one.0 way).0 ∙ one.1.x r h
+    past_x : (r : ℕ) → r ≢ 10 → past.x r ≡ u.x r
+    past_x r h = ap (λ (x : ℕ → ℕ). x r) (over_keeps Q one.0 way).0 ∙ one.1.x r h
 
-    past-mem : past.mem ≡ u.mem
-    past-mem = (over_keeps Q one.0 way).2 ∙ one.1.mem
+    past_mem : past.mem ≡ u.mem
+    past_mem = (over_keeps Q one.0 way).2 ∙ one.1.mem
 
     abbrev cell : ℕ → ℕ
     cell j = load8 u.mem (w64 (mem_at H s bottom + 8 * j))
@@ -166,7 +166,7 @@ module _ (Q : Floats) (cap states obs last mask : ℕ) (at : ℕ → ℕ) (s : S
       mem : w.mem ≡ cond (not (eqb (s.x 11) 0)) (observed H s cell 0 obs u.mem) u.mem
 
     seen : (r : ℕ) → T (not (copy_regs r)) → r ≢ 10 → past.x r ≡ u.x r
-    seen r h n = past-x r n
+    seen r h n = past_x r n
 
     -- a1 is zero
     jumped : eqb (s.x 11) 0 ≡ true → (w : State) × Done begun w
@@ -177,7 +177,7 @@ module _ (Q : Floats) (cap states obs last mask : ℕ) (at : ℕ → ℕ) (s : S
             came = came2 (a + h3) (over_goes Q one.0 way (a + h1) one.1.came.pc z ∙ omega arith);
             x = seen;
             f = λ r h. ap (λ (f : ℕ → ℕ). f r) (over_keeps Q one.0 way).1;
-            mem = rw e past-mem;
+            mem = rw e past_mem;
           },
         )
 
@@ -197,7 +197,7 @@ module _ (Q : Floats) (cap states obs last mask : ℕ) (at : ℕ → ℕ) (s : S
               came = came_at refl (rw z (omega arith)) (came2 (a + h3) (by (eqb (one.0.x 18) 0) refl));
               x = seen;
               f = λ r h. ap (λ (f : ℕ → ℕ). f r) (over_keeps Q one.0 way).1;
-              mem = rw e (past-mem ∙ nothing obs n);
+              mem = rw e (past_mem ∙ nothing obs n);
             },
           )
         where
@@ -223,8 +223,8 @@ module _ (Q : Floats) (cap states obs last mask : ℕ) (at : ℕ → ℕ) (s : S
         abbrev base : ℕ
         base = bottom + ss
 
-        ms-is : ms ≡ frame_size H
-        ms-is = rw e refl
+        ms_is : ms ≡ frame_size H
+        ms_is = rw e refl
 
         abbrev Inv : ℕ → State → Type 0
         Inv = Given Q P past.mem past.x past.f base (s.x 11) (8 * s.x 12) states obs
@@ -232,26 +232,26 @@ module _ (Q : Floats) (cap states obs last mask : ℕ) (at : ℕ → ℕ) (s : S
         begin : (v : State) × Seg Q P first past v × Inv 0 v
         begin =
             given_begin Q P base (s.x 11) (8 * s.x 12) states obs past
-            (past-x 9 (λ y. omega arith) ∙ l.s1 ∙ rw e refl)
+            (past_x 9 (λ y. omega arith) ∙ l.s1 ∙ rw e refl)
             (ap (λ (x : ℕ → ℕ). x 18) (over_keeps Q one.0 way).0 ∙ pointer)
-            (past-x 19 (λ y. omega arith) ∙ l.s3 tt ∙ rw e refl)
+            (past_x 19 (λ y. omega arith) ∙ l.s3 tt ∙ rw e refl)
             (omega (arith, few))
 
         -- where the observation cells are
-        goal-is : (i : ℕ) → i < obs → goal Q P past.mem past.x past.f base (s.x 11) (8 * s.x 12) states obs i ≡ table_cell H s (states + i)
-        goal-is i h = rw (past-mem, l.pointers used i h)
+        goal_is : (i : ℕ) → i < obs → goal Q P past.mem past.x past.f base (s.x 11) (8 * s.x 12) states obs i ≡ table_cell H s (states + i)
+        goal_is i h = rw (past_mem, l.pointers used i h)
 
-        cell-off : (i : ℕ) → i < obs → Off P (w64 (base + 8 * (states + i))) 8
-        cell-off i h =
+        cell_off : (i : ℕ) → i < obs → Off P (w64 (base + 8 * (states + i))) 8
+        cell_off i h =
             let z : bottom + (ss + 8 * (states + i)) ≡ base + 8 * (states + i) = omega arith in
-            rw z at (off_part P bottom (ss + ms + 64) (ss + 8 * (states + i)) l.frame_apart (omega (arith, ms-is)) (omega (arith, few, ms-is)))
+            rw z at (off_part P bottom (ss + ms + 64) (ss + 8 * (states + i)) l.frame_apart (omega (arith, ms_is)) (omega (arith, few, ms_is)))
 
         again : (i : ℕ) (v : State) → i < obs → Inv i v → Round Q P obs_copy obs Inv i v
         again =
             give Q P past.mem past.x past.f base (s.x 11) (8 * s.x 12) states obs
-            (λ i x h d. (used, i, h, rw (goal-is i h) at d))
+            (λ i x h d. (used, i, h, rw (goal_is i h) at d))
             (λ i h. off_part P (s.x 11) (16 * (states + obs)) (16 * (states + i)) (l.table_apart used) (omega arith) (omega (arith, few)))
-            cell-off (omega (arith, l.frame_aligned)) (l.table_aligned used) (λ i h. rw (goal-is i h) (l.obs_aligned used i h))
+            cell_off (omega (arith, l.frame_aligned)) (l.table_aligned used) (λ i h. rw (goal_is i h) (l.obs_aligned used i h))
 
         done : (w : State) × Came Q C P u (a + h3) (begun + repeated_steps obs (length first)) w × Inv obs w
         done =
@@ -259,24 +259,24 @@ module _ (Q : Floats) (cap states obs last mask : ℕ) (at : ℕ → ℕ) (s : S
             (stood_left h2 copies down st2)
 
         -- memory with i given, in the reading's terms
-        abbrev mem-with : ℕ → ℕ → ℕ
-        mem-with = given Q P past.mem past.x past.f base (s.x 11) (8 * s.x 12) states obs
+        abbrev mem_with : ℕ → ℕ → ℕ
+        mem_with = given Q P past.mem past.x past.f base (s.x 11) (8 * s.x 12) states obs
 
-        observes : (k i : ℕ) → i + k ≡ obs → observed H s cell i k (mem-with i) ≡ mem-with obs
-        observes zero i h = let z : i ≡ obs = omega arith in ap mem-with z
-        observes (suc k) i h = rw (← (goal-is i (omega arith)), ← (result-is i)) (observes k (suc i) (omega arith))
+        observes : (k i : ℕ) → i + k ≡ obs → observed H s cell i k (mem_with i) ≡ mem_with obs
+        observes zero i h = let z : i ≡ obs = omega arith in ap mem_with z
+        observes (suc k) i h = rw (← (goal_is i (omega arith)), ← (result_is i)) (observes k (suc i) (omega arith))
           where
-            result-is : (j : ℕ) → result Q P past.mem past.x past.f base (s.x 11) (8 * s.x 12) states obs j ≡ cell (states + j)
-            result-is j = rw (past-mem, e)
+            result_is : (j : ℕ) → result Q P past.mem past.x past.f base (s.x 11) (8 * s.x 12) states obs j ≡ cell (states + j)
+            result_is j = rw (past_mem, e)
 
         some : (w : State) × Done (begun + repeated_steps obs (length first)) w
         some = (
           done.0,
           record {
             came = done.1;
-            x = λ r h k. done.2.x r h ∙ past-x r k;
+            x = λ r h k. done.2.x r h ∙ past_x r k;
             f = λ r h. done.2.f r h ∙ ap (λ (f : ℕ → ℕ). f r) (over_keeps Q one.0 way).1;
-            mem = rw e (done.2.mem ∙ sym (observes obs 0 (omega arith)) ∙ ap (observed H s cell 0 obs) past-mem);
+            mem = rw e (done.2.mem ∙ sym (observes obs 0 (omega arith)) ∙ ap (observed H s cell 0 obs) past_mem);
           },
         )
 
@@ -287,13 +287,13 @@ module _ (Q : Floats) (cap states obs last mask : ℕ) (at : ℕ → ℕ) (s : S
           by true z = none z
           by false z = some (eqb-false obs 0 z)
 
-    abbrev done-steps : Bool → ℕ
-    done-steps z = begun + cond z 0 (repeated_steps obs (length first))
+    abbrev done_steps : Bool → ℕ
+    done_steps z = begun + cond z 0 (repeated_steps obs (length first))
 
-    two : (w : State) × Done (done-steps (eqb (s.x 11) 0)) w
+    two : (w : State) × Done (done_steps (eqb (s.x 11) 0)) w
     two = by (eqb (s.x 11) 0) refl
       where
-        by : (z : Bool) → eqb (s.x 11) 0 ≡ z → (w : State) × Done (done-steps z) w
+        by : (z : Bool) → eqb (s.x 11) 0 ≡ z → (w : State) × Done (done_steps z) w
         by true z = let j = jumped z in (j.0, record { came = came_at refl (omega arith) j.1.came; x = j.1.x; f = j.1.f; mem = j.1.mem })
         by false z = table z
 
@@ -310,16 +310,16 @@ module _ (Q : Floats) (cap states obs last mask : ℕ) (at : ℕ → ℕ) (s : S
     three = execs Q (restoring Indirect) two.0
 
     back : Restored Q P Indirect fp two.0 three
-    back = restores-indirect Q P fp two.0 (two.1.x 8 tt (λ y. omega arith) ∙ l.s0) fp-even (omega (arith, l.fits)) (omega (arith, l.fits))
+    back = restores_indirect Q P fp two.0 (two.1.x 8 tt (λ y. omega arith) ∙ l.s0) fp_even (omega (arith, l.fits)) (omega (arith, l.fits))
 
     ra : three.x 1 ≡ s.x 1
     ra = back.regs 0 (omega arith) ∙ place 0 (omega arith)
 
-    ra-small : s.x 1 < 2 ^ 64
-    ra-small = subst (λ (k : ℕ). k < 2 ^ 64) (l.places 0 (omega arith)) (load8_small u.mem (fp + 8 * 0) l.sound.mem)
+    ra_small : s.x 1 < 2 ^ 64
+    ra_small = subst (λ (k : ℕ). k < 2 ^ 64) (l.places 0 (omega arith)) (load8_small u.mem (fp + 8 * 0) l.sound.mem)
 
-    end : Closed Q C P Indirect fp (s.x 1) (done-steps (eqb (s.x 11) 0)) u two.0 (exec Q return three)
-    end = closes Q C P at Indirect fp (s.x 1) a h3 (done-steps (eqb (s.x 11) 0)) u two.0 three (behind_label h3 at_done _ st3) two.1.came back ra l.ra ra-small
+    end : Closed Q C P Indirect fp (s.x 1) (done_steps (eqb (s.x 11) 0)) u two.0 (exec Q return three)
+    end = closes Q C P at Indirect fp (s.x 1) a h3 (done_steps (eqb (s.x 11) 0)) u two.0 three (behind_label h3 at_done _ st3) two.1.came back ra l.ra ra_small
 
     first_length : length first ≡ length (li_code 6 (pos (8 * states))) + 1
     first_length = length-append (li_code 6 (pos (8 * states))) (R ADD 6 6 9 ∷ [])
@@ -329,7 +329,7 @@ module _ (Q : Floats) (cap states obs last mask : ℕ) (at : ℕ → ℕ) (s : S
       exec Q return three,
       record {
         runs = subst (λ (k : ℕ). RunIn Q C u k (exec Q return three)) count end.came.runs;
-        pc = end.came.pc ∙ omega (arith, ra-small);
+        pc = end.came.pc ∙ omega (arith, ra_small);
         sp = end.sp ∙ sym (l.sp ∙ ap (λ (k : ℕ). k % 2 ^ 64) (omega arith));
         a0 = end.a0;
         restored = λ i h. end.regs i h ∙ place i h;
@@ -342,5 +342,5 @@ module _ (Q : Floats) (cap states obs last mask : ℕ) (at : ℕ → ℕ) (s : S
       },
     )
       where
-        count : done-steps (eqb (s.x 11) 0) + 11 ≡ 13 + cond (eqb (s.x 11) 0) 0 (repeated_steps obs (length (li_code 6 (pos (8 * states))) + 1)) + length (saved mask)
+        count : done_steps (eqb (s.x 11) 0) + 11 ≡ 13 + cond (eqb (s.x 11) 0) 0 (repeated_steps obs (length (li_code 6 (pos (8 * states))) + 1)) + length (saved mask)
         count = rw first_length (omega arith)

@@ -18,7 +18,7 @@ use Rattle.machine.specs.State.{State, setx}
 use Rattle.machine.specs.Effect.{address, effect, apply, exec}
 use Rattle.machine.proofs.Exec.{execs}
 use Rattle.machine.proofs.Memory.{upd_same, upd_other}
-use Rattle.machine.proofs.Straight.{fit_cut, execs-x}
+use Rattle.machine.proofs.Straight.{fit_cut, execs_x}
 use Rattle.machine.proofs.Stores.{Landing}
 use Rattle.accesses.specs.Code.{add_stack_code}
 use Rattle.ast.specs.declared.Frame.{Frame}
@@ -134,51 +134,51 @@ module _ (Q : Floats) (P : ℕ → Type 0) (fp : ℕ) (u : State) (s0 : u.x 8 �
     at : (k : ℕ) → k < 32 → (w64 (u.x 8 + 0) + k) % 2 ^ 64 ≡ fp + k
     at k h = place 4 fits small k (omega arith)
 
-    fast-reg : (i : ℕ) → i < 4 → (execs Q (restoring Fast) u).x (get_or (kept Fast) i 0) ≡ load8 u.mem (fp + 8 * i)
+    fast_reg : (i : ℕ) → i < 4 → (execs Q (restoring Fast) u).x (get_or (kept Fast) i 0) ≡ load8 u.mem (fp + 8 * i)
     unfolding add_stack_code effect apply setx upd
-    fast-reg zero h = rw (at 0 (omega arith))
-    fast-reg (suc zero) h = rw (at 8 (omega arith))
-    fast-reg (suc (suc zero)) h = rw (at 16 (omega arith))
-    fast-reg (suc (suc (suc zero))) h = rw (at 24 (omega arith))
-    fast-reg (suc (suc (suc (suc i)))) h = absurd (omega arith)
+    fast_reg zero h = rw (at 0 (omega arith))
+    fast_reg (suc zero) h = rw (at 8 (omega arith))
+    fast_reg (suc (suc zero)) h = rw (at 16 (omega arith))
+    fast_reg (suc (suc (suc zero))) h = rw (at 24 (omega arith))
+    fast_reg (suc (suc (suc (suc i)))) h = absurd (omega arith)
 
-    pub restores-fast : Restored Q P Fast fp u (execs Q (restoring Fast) u)
+    pub restores_fast : Restored Q P Fast fp u (execs Q (restoring Fast) u)
     unfolding add_stack_code effect apply setx upd
-    restores-fast =
+    restores_fast =
         record {
           seg = record { fit = omega (arith, s0, even); lands = omega arith; end = refl };
-          regs = fast-reg;
+          regs = fast_reg;
           sp = omega (arith, s0);
           a0 = xor_self (u.x 10);
-          x = λ r h. execs-x Q (restored Fast) (restoring Fast) u r tt h;
+          x = λ r h. execs_x Q (restored Fast) (restoring Fast) u r tt h;
           f = refl;
           mem = refl;
         }
 
   module _ (fits : fp + 8 * 7 ≤ 2 ^ 64) (small : fp < 2 ^ 64) where
-    at-seven : (k : ℕ) → k < 56 → (w64 (u.x 8 + 0) + k) % 2 ^ 64 ≡ fp + k
-    at-seven k h = place 7 fits small k (omega arith)
+    at_seven : (k : ℕ) → k < 56 → (w64 (u.x 8 + 0) + k) % 2 ^ 64 ≡ fp + k
+    at_seven k h = place 7 fits small k (omega arith)
 
-    indirect-reg : (i : ℕ) → i < 7 → (execs Q (restoring Indirect) u).x (get_or (kept Indirect) i 0) ≡ load8 u.mem (fp + 8 * i)
+    indirect_reg : (i : ℕ) → i < 7 → (execs Q (restoring Indirect) u).x (get_or (kept Indirect) i 0) ≡ load8 u.mem (fp + 8 * i)
     unfolding add_stack_code effect apply setx upd
-    indirect-reg zero h = rw (at-seven 0 (omega arith))
-    indirect-reg (suc zero) h = rw (at-seven 8 (omega arith))
-    indirect-reg (suc (suc zero)) h = rw (at-seven 16 (omega arith))
-    indirect-reg (suc (suc (suc zero))) h = rw (at-seven 24 (omega arith))
-    indirect-reg (suc (suc (suc (suc zero)))) h = rw (at-seven 32 (omega arith))
-    indirect-reg (suc (suc (suc (suc (suc zero))))) h = rw (at-seven 40 (omega arith))
-    indirect-reg (suc (suc (suc (suc (suc (suc zero)))))) h = rw (at-seven 48 (omega arith))
-    indirect-reg (suc (suc (suc (suc (suc (suc (suc i))))))) h = absurd (omega arith)
+    indirect_reg zero h = rw (at_seven 0 (omega arith))
+    indirect_reg (suc zero) h = rw (at_seven 8 (omega arith))
+    indirect_reg (suc (suc zero)) h = rw (at_seven 16 (omega arith))
+    indirect_reg (suc (suc (suc zero))) h = rw (at_seven 24 (omega arith))
+    indirect_reg (suc (suc (suc (suc zero)))) h = rw (at_seven 32 (omega arith))
+    indirect_reg (suc (suc (suc (suc (suc zero))))) h = rw (at_seven 40 (omega arith))
+    indirect_reg (suc (suc (suc (suc (suc (suc zero)))))) h = rw (at_seven 48 (omega arith))
+    indirect_reg (suc (suc (suc (suc (suc (suc (suc i))))))) h = absurd (omega arith)
 
-    pub restores-indirect : Restored Q P Indirect fp u (execs Q (restoring Indirect) u)
+    pub restores_indirect : Restored Q P Indirect fp u (execs Q (restoring Indirect) u)
     unfolding add_stack_code effect apply setx upd
-    restores-indirect =
+    restores_indirect =
         record {
           seg = record { fit = fit_cut Q 5 (restoring Indirect) u (omega (arith, s0, even)) (omega (arith, s0, even)); lands = omega arith; end = refl };
-          regs = indirect-reg;
+          regs = indirect_reg;
           sp = omega (arith, s0);
           a0 = xor_self (u.x 10);
-          x = λ r h. execs-x Q (restored Indirect) (restoring Indirect) u r tt h;
+          x = λ r h. execs_x Q (restored Indirect) (restoring Indirect) u r tt h;
           f = refl;
           mem = refl;
         }

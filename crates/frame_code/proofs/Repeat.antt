@@ -96,14 +96,14 @@ module _ (Q : Floats) (P : ℕ → Type 0) (each : List Instr) (n : ℕ) (Inv : 
         abbrev new : State
         new = exec Q back low
 
-        new-inv : Inv (suc i) new
-        new-inv =
+        new_inv : Inv (suc i) new
+        new_inv =
             let d = less_does Q (execs Q each u) in
             let g = back_keeps Q low in
             free (suc i) (execs Q each u) new (λ r o. ap (λ (x : ℕ → ℕ). x r) g.0 ∙ d.2 r o) (g.1 ∙ d.0) (g.2 ∙ d.1) (round i u (omega arith) h).inv
 
-        new-x : new.x 7 ≡ k
-        new-x = ap (λ (x : ℕ → ℕ). x 7) (back_keeps Q low).0 ∙ low_x
+        new_x : new.x 7 ≡ k
+        new_x = ap (λ (x : ℕ → ℕ). x 7) (back_keeps Q low).0 ∙ low_x
 
         -- to b'
         jumped : (b' : ℕ) → new.pc ≡ w64 b' → Came Q C P s b' (c + 7 + 1) new
@@ -113,10 +113,10 @@ module _ (Q : Floats) (P : ℕ → Type 0) (each : List Instr) (n : ℕ) (Inv : 
       loop zero i c u e l h x m =
           let q = jumped zero i c u e l h x m (b + 28 + 4) (leaves Q (low zero i c u e l h x m) (b + 28) (down zero i c u e l h x m).pc (low_x zero i c u e l h x m)) in
           let z : suc i ≡ n = omega arith in
-          (new zero i c u e l h x m, came_at (omega arith) (omega arith) q, subst (λ (j : ℕ). Inv j (new zero i c u e l h x m)) z (new-inv zero i c u e l h x m))
+          (new zero i c u e l h x m, came_at (omega arith) (omega arith) q, subst (λ (j : ℕ). Inv j (new zero i c u e l h x m)) z (new_inv zero i c u e l h x m))
       loop (suc k) i c u e l h x m =
           let q = jumped (suc k) i c u e l h x m b (turns Q (low (suc k) i c u e l h x m) b k (down (suc k) i c u e l h x m).pc (low_x (suc k) i c u e l h x m)) in
-          let t = loop k (suc i) (c + 7 + 1) (new (suc k) i c u e l h x m) (omega arith) (omega arith) (new-inv (suc k) i c u e l h x m) (new-x (suc k) i c u e l h x m) q in
+          let t = loop k (suc i) (c + 7 + 1) (new (suc k) i c u e l h x m) (omega arith) (omega arith) (new_inv (suc k) i c u e l h x m) (new_x (suc k) i c u e l h x m) q in
           (t.0, came_at refl (omega arith) t.1, t.2)
 
     -- ---- all of it
@@ -142,8 +142,8 @@ module _ (Q : Floats) (P : ℕ → Type 0) (each : List Instr) (n : ℕ) (Inv : 
       seven : length (each ++ (count_down ∷ [])) ≡ 7
       seven = omega (arith, length-append each (count_down ∷ []), six)
 
-      back-word : (p there : ℕ) → p ≡ there → Words C P s.mem (a + (there + 4 * length (each ++ (count_down ∷ [])))) (encode (B BNE 7 0 (sub_ℕ p (there + 4 * length (each ++ (count_down ∷ []))))) ∷ []) → Words C P s.mem (a + there + 28) (encode back ∷ [])
-      back-word p there e w =
+      back_word : (p there : ℕ) → p ≡ there → Words C P s.mem (a + (there + 4 * length (each ++ (count_down ∷ [])))) (encode (B BNE 7 0 (sub_ℕ p (there + 4 * length (each ++ (count_down ∷ []))))) ∷ []) → Words C P s.mem (a + there + 28) (encode back ∷ [])
+      back_word p there e w =
           let z : a + there + 28 ≡ a + (there + 28) = omega arith in
           rw (z, ← (back_by there)) (rw (seven, e) at w)
 
@@ -159,7 +159,7 @@ module _ (Q : Floats) (P : ℕ → Type 0) (each : List Instr) (n : ℕ) (Inv : 
           let there = here + 4 * length start in
           let jw = jump_word (there + 4 * length (each ++ (count_down ∷ []))) Bne l 0 [] (behind there (each ++ (count_down ∷ [])) (jump Bne l 0 ∷ []) st3) in
           let t =
-          loop at s (a + there) (piece there (each ++ (count_down ∷ [])) (jump Bne l 0 ∷ []) st3) (back-word (at l) there st2.labels.0 jw) (n - 1) 0 (c + length start) w2
+          loop at s (a + there) (piece there (each ++ (count_down ∷ [])) (jump Bne l 0 ∷ []) st3) (back_word (at l) there st2.labels.0 jw) (n - 1) 0 (c + length start) w2
           (omega arith) (omega arith) i2 (q.1 ∙ omega arith) (came_at (omega arith) refl m2)
           in
           (t.0, came_at {u = t.0} (omega (arith, loop_words at here n l first each six, k)) (omega (arith, k)) t.1, t.2)

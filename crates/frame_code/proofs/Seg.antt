@@ -227,16 +227,16 @@ module _ (Q : Floats) (F : Frame) (fp : ℕ) (s : State) (o : Sound s) (below : 
     three,
     record {
       seg = seg_join (seg_quiet one_does.0) (seg_join (subst (λ (is : List Instr). Seg Q (In fp (fp + save_size F)) is one two) (stores_numbered 0 (kept F)) whole) (record { fit = omega arith; lands = omega arith; end = refl }));
-      sp = setx_other two.x 8 _ 2 (λ z. omega arith) ∙ two-sp;
-      s0 = setx_same two.x 8 _ (λ z. omega arith) ∙ omega (arith, two-sp);
+      sp = setx_other two.x 8 _ 2 (λ z. omega arith) ∙ two_sp;
+      s0 = setx_same two.x 8 _ (λ z. omega arith) ∙ omega (arith, two_sp);
       x = λ r k. let w = in_two 8 r k in setx_other two.x 8 _ r w.1 ∙ ap (λ (x : ℕ → ℕ). x r) rowed.x ∙ one_does.0.x r w.0;
       f = rowed.f ∙ one_does.0.f;
       places = λ i h. rowed.sets (get_or (kept F) i 0, i) (mem i h) ∙ one_does.0.x (get_or (kept F) i 0) (clear F (get_or (kept F) i 0, i) (all_mem (sound_place F) (numbered 0 (kept F)) (sound_places F) (get_or (kept F) i 0, i) (mem i h)));
     },
   )
     where
-      two-sp : two.x 2 ≡ fp
-      two-sp = ap (λ (x : ℕ → ℕ). x 2) rowed.x ∙ at
+      two_sp : two.x 2 ≡ fp
+      two_sp = ap (λ (x : ℕ → ℕ). x 2) rowed.x ∙ at
 
       mem : (i : ℕ) → i < length (kept F) → Memᴰ (get_or (kept F) i 0, i) (numbered 0 (kept F))
       mem i h = rw (zero-add i) at (among 0 i (kept F) h)

@@ -18,7 +18,7 @@ use Rattle.machine.specs.State.{State, setx}
 use Rattle.machine.specs.Effect.{upper, effect, apply}
 use Rattle.machine.proofs.Exec.{execs, Fit}
 use Rattle.machine.proofs.Effects.{setx_same, getx_same, twos_small}
-use Rattle.machine.proofs.Straight.{execs_append, fit_join, execs-x}
+use Rattle.machine.proofs.Straight.{execs_append, fit_join, execs_x}
 use Rattle.machine.proofs.Stores.{Landing}
 use Rattle.accesses.specs.Code.{top, li_code, sub_stack_code}
 use Rattle.accesses.proofs.Parts.{Plain, plain_op, parts}
@@ -57,7 +57,7 @@ module _ (Q : Floats) where
       record {
         fit = omega (arith, ltb-true (mag z) 2048 e);
         lands = omega arith;
-        x = λ r k. execs-x Q (λ r. eqb r d) (I ADDI d 0 z ∷ []) u r (rw (ne_eqb d 0 n, eq-eqb d d refl) tt) k;
+        x = λ r k. execs_x Q (λ r. eqb r d) (I ADDI d 0 z ∷ []) u r (rw (ne_eqb d 0 n, eq-eqb d d refl) tt) k;
         f = refl;
         mem = refl;
       },
@@ -73,7 +73,7 @@ module _ (Q : Floats) where
       record {
         fit = omega (arith, lo_fits (twos 32 z), hi_fits (twos 32 z));
         lands = omega arith;
-        x = λ r k. execs-x Q (λ r. eqb r d) far_code u r (rw (ne_eqb d 0 n, eq-eqb d d refl) tt) k;
+        x = λ r k. execs_x Q (λ r. eqb r d) far_code u r (rw (ne_eqb d 0 n, eq-eqb d d refl) tt) k;
         f = refl;
         mem = refl;
       },
@@ -137,7 +137,7 @@ module _ (Q : Floats) (n : ℕ) (h : n < top) (u : State) where
     record {
       fit = omega (arith, minus_fits n l);
       lands = omega arith;
-      x = λ r k. execs-x Q stack_regs (I ADDI 2 2 (neg_ℤ (pos n)) ∷ []) u r tt k;
+      x = λ r k. execs_x Q stack_regs (I ADDI 2 2 (neg_ℤ (pos n)) ∷ []) u r tt k;
       f = refl;
       mem = refl;
     },
@@ -151,7 +151,7 @@ module _ (Q : Floats) (n : ℕ) (h : n < top) (u : State) where
     record {
       fit = omega arith;
       lands = omega arith;
-      x = λ r k. execs-x Q stack_regs (R ADD 2 2 5 ∷ []) v r tt k;
+      x = λ r k. execs_x Q stack_regs (R ADD 2 2 5 ∷ []) v r tt k;
       f = refl;
       mem = refl;
     },
@@ -164,7 +164,7 @@ module _ (Q : Floats) (n : ℕ) (h : n < top) (u : State) where
     record {
       fit = omega arith;
       lands = omega arith;
-      x = λ r k. execs-x Q stack_regs (R SUB 2 2 5 ∷ []) v r tt k;
+      x = λ r k. execs_x Q stack_regs (R SUB 2 2 5 ∷ []) v r tt k;
       f = refl;
       mem = refl;
     },
@@ -173,8 +173,8 @@ module _ (Q : Floats) (n : ℕ) (h : n < top) (u : State) where
 
   -- li t0, then the rest
   module _ (z : ℤ) (i : Instr) (t : Plain z) (g : (v : State) → v.x 2 ≡ u.x 2 → v.x 5 ≡ twos 64 z → Quiet Q stack_regs (i ∷ []) v × ((execs Q (i ∷ []) v).x 2 ≡ lowered)) where
-    by-t0 : Quiet Q stack_regs (li_code 5 z ++ (i ∷ [])) u × ((execs Q (li_code 5 z ++ (i ∷ [])) u).x 2 ≡ lowered)
-    by-t0 =
+    by_t0 : Quiet Q stack_regs (li_code 5 z ++ (i ∷ [])) u × ((execs Q (li_code 5 z ++ (i ∷ [])) u).x 2 ≡ lowered)
+    by_t0 =
         let l = li Q 5 z u (omega arith) (λ e. omega arith) t in
         let k = g (execs Q (li_code 5 z) u) (l.0.x 2 tt) l.1 in
         (quiet_join (li_code 5 z) (i ∷ []) u (quiet_wider five_in l.0) k.0, rw (execs_append Q (li_code 5 z) (i ∷ []) u) k.1)
@@ -185,11 +185,11 @@ module _ (Q : Floats) (n : ℕ) (h : n < top) (u : State) where
     where
       by : (b : Bool) → ltb n 2048 ≡ b → Quiet Q stack_regs (cond b (I ADDI 2 2 (neg_ℤ (pos n)) ∷ []) (li_code 5 (neg_ℤ (pos n)) ++ (R ADD 2 2 5 ∷ []))) u × ((execs Q (cond b (I ADDI 2 2 (neg_ℤ (pos n)) ∷ []) (li_code 5 (neg_ℤ (pos n)) ++ (R ADD 2 2 5 ∷ []))) u).x 2 ≡ lowered)
       by true e = down (ltb-true n 2048 e)
-      by false e = by-t0 (neg_ℤ (pos n)) (R ADD 2 2 5) (minus_plain n (omega arith)) added
+      by false e = by_t0 (neg_ℤ (pos n)) (R ADD 2 2 5) (minus_plain n (omega arith)) added
 
   pub lower : Quiet Q stack_regs (cond (ltb n 2048) (I ADDI 2 2 (neg_ℤ (pos n)) ∷ []) (li_code 5 (pos n) ++ (R SUB 2 2 5 ∷ []))) u × ((execs Q (cond (ltb n 2048) (I ADDI 2 2 (neg_ℤ (pos n)) ∷ []) (li_code 5 (pos n) ++ (R SUB 2 2 5 ∷ []))) u).x 2 ≡ lowered)
   lower = by (ltb n 2048) refl
     where
       by : (b : Bool) → ltb n 2048 ≡ b → Quiet Q stack_regs (cond b (I ADDI 2 2 (neg_ℤ (pos n)) ∷ []) (li_code 5 (pos n) ++ (R SUB 2 2 5 ∷ []))) u × ((execs Q (cond b (I ADDI 2 2 (neg_ℤ (pos n)) ∷ []) (li_code 5 (pos n) ++ (R SUB 2 2 5 ∷ []))) u).x 2 ≡ lowered)
       by true e = down (ltb-true n 2048 e)
-      by false e = by-t0 (pos n) (R SUB 2 2 5) (omega arith) taken_off
+      by false e = by_t0 (pos n) (R SUB 2 2 5) (omega arith) taken_off

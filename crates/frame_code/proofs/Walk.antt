@@ -20,7 +20,7 @@ use Rattle.machine.proofs.Memory.{dist_ahead}
 use Rattle.machine.proofs.Effects.{apply_rm}
 use Rattle.machine.proofs.Runs.{step_at, step_made, no_step, one_more, joined, wider}
 use Rattle.machine.proofs.Straight.{flow_pc}
-use Rattle.machine.proofs.Stores.{Same, Off, Landing, landing_same, landing-flow, landing-run}
+use Rattle.machine.proofs.Stores.{Same, Off, Landing, landing_same, landing_flow, landing_run}
 use Rattle.machine.proofs.Placed.{code_left, code_right, code_kept}
 use Rattle.assembler.specs.Item.{Item, instr, raw, jump, label}
 use Rattle.assembler.specs.Resolved.{resolved}
@@ -208,9 +208,9 @@ module _ {Q : Floats} {C P : ℕ → Type 0} {s : State} where
         runs =
             joined Q c.runs
             (wider Q (λ x v. subst C (sym (v.2 ∙ rw p (wrapped b v.0))) (w.inside v.0 (omega (arith, v.1, n))))
-            (landing-run P Q is u f l (omega (arith, w.short)) (rw (p, ← n) w.off) (rw p (omega arith)) (omega (arith, w.even)) (rw p (kept b k (map encode is) u w c))));
+            (landing_run P Q is u f l (omega (arith, w.short)) (rw (p, ← n) w.off) (rw p (omega arith)) (omega (arith, w.even)) (rw p (kept b k (map encode is) u w c))));
         same = λ x h o. landing_same P Q is u l x h o ∙ c.same x h o;
-        pc = flow_pc Q is u (landing-flow P Q is u l) (omega arith) ∙ rw p (omega arith);
+        pc = flow_pc Q is u (landing_flow P Q is u l) (omega arith) ∙ rw p (omega arith);
       }
 
   -- one word that stores nothing, wherever it leads

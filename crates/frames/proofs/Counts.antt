@@ -31,15 +31,15 @@ module _ (H : Head) where
     pub bounds : (H.cap ≤ 4096) × (cells H ≤ 4096)
     bounds = (halves.0, leb-true (cells H) 4096 (both (leb (cells H) 4096) (frame_holds H H.frame) halves.1).0)
 
-    pub fast-bound : H.frame ≡ Fast → H.states ≤ 8
-    fast-bound f = leb-true H.states 8 (sym (ap (frame_holds H) f) ∙ (both (leb (cells H) 4096) (frame_holds H H.frame) halves.1).1)
+    pub fast_bound : H.frame ≡ Fast → H.states ≤ 8
+    fast_bound f = leb-true H.states 8 (sym (ap (frame_holds H) f) ∙ (both (leb (cells H) 4096) (frame_holds H H.frame) halves.1).1)
 
   module _ (held : epilogue_holds H ≡ true) where
     all : (prologue_holds H ≡ true) × (result_holds H H.frame ≡ true)
     all = both (prologue_holds H) (result_holds H H.frame) held
 
-    pub end-cells : cells H ≤ 4096
-    end-cells = (bounds all.0).1
+    pub end_cells : cells H ≤ 4096
+    end_cells = (bounds all.0).1
 
-    pub near-result : H.frame ≡ Fast → H.last ≤ 255
-    near-result f = leb-true H.last 255 (both (leb H.last 255) (ltb H.last (cells H)) (sym (ap (result_holds H) f) ∙ all.1)).0
+    pub near_result : H.frame ≡ Fast → H.last ≤ 255
+    near_result f = leb-true H.last 255 (both (leb H.last 255) (ltb H.last (cells H)) (sym (ap (result_holds H) f) ∙ all.1)).0

@@ -137,11 +137,11 @@ module _ (tag : ℕ) where
 
   -- a piece of code placed
   module _ (is js : List Instr) (s u : State) (o : Outcome) (e : o ≡ put tag 0 (code is) s) where
-    pub code-piece : Accepts tag (code (is ++ js)) s u → Accepts tag (code js) o.state u
-    code-piece a = piece (code is) (code js) s u o (subst (λ (x : List Item). Accepts tag x s u) (map-append instr is js) a) e
+    pub code_piece : Accepts tag (code (is ++ js)) s u → Accepts tag (code js) o.state u
+    code_piece a = piece (code is) (code js) s u o (subst (λ (x : List Item). Accepts tag x s u) (map-append instr is js) a) e
 
-    pub front-piece : (rest : List Item) → Accepts tag (code (is ++ js) ++ rest) s u → Accepts tag (code js ++ rest) o.state u
-    front-piece rest a =
+    pub front_piece : (rest : List Item) → Accepts tag (code (is ++ js) ++ rest) s u → Accepts tag (code js ++ rest) o.state u
+    front_piece rest a =
         let q : code (is ++ js) ++ rest ≡ code is ++ (code js ++ rest) = ap (λ (x : List Item). x ++ rest) (map-append instr is js) ∙ append_assoc (code is) (code js) rest in
         piece (code is) (code js ++ rest) s u o (subst (λ (x : List Item). Accepts tag x s u) q a) e
 
@@ -149,4 +149,4 @@ module _ (tag : ℕ) where
   pub row_piece : (each : List Instr) (n i : ℕ) (s u : State) (o : Outcome) → i < n → o ≡ put tag 0 (code each) s → Accepts tag (code (times_over (n - i) each)) s u → Accepts tag (code (times_over (n - (i + 1)) each)) o.state u
   row_piece each n i s u o h e a =
       let k : n - i ≡ suc (n - (i + 1)) = omega arith in
-      code-piece each (times_over (n - (i + 1)) each) s u o e (subst (λ (x : ℕ). Accepts tag (code (times_over x each)) s u) k a)
+      code_piece each (times_over (n - (i + 1)) each) s u o e (subst (λ (x : ℕ). Accepts tag (code (times_over x each)) s u) k a)

@@ -91,11 +91,11 @@ module _ (r : List ℕ) (ls js b : List ℕ) where
   emit_left d o e n l k = rw (← e, k.0, k.1)
 
   module _ (f : FinishResult) (x : FinishOutcome) (e : finish_outcome f ls js b ≡ x) where
-    pub finish-stops : (why : Refusal) (place n : ℕ) → f.answer ≡ Refused why place → n ≡ number_of why → (single n r ls js b ≡ finish_result r x) × ((place ∷ f.tag ∷ []) ≡ finish_told x)
-    finish-stops why place n h g = rw (← e, h, g) (refl, refl)
+    pub finish_stops : (why : Refusal) (place n : ℕ) → f.answer ≡ Refused why place → n ≡ number_of why → (single n r ls js b ≡ finish_result r x) × ((place ∷ f.tag ∷ []) ≡ finish_told x)
+    finish_stops why place n h g = rw (← e, h, g) (refl, refl)
 
-    pub finish-goes : (l : List ℕ) → f.answer ≡ Accepted → l ≡ numbers_of f.asm → (single 0 l ls js b ≡ finish_result r x) × ((0 ∷ f.tag ∷ []) ≡ finish_told x)
-    finish-goes l h g = rw (← e, h, g) (refl, refl)
+    pub finish_goes : (l : List ℕ) → f.answer ≡ Accepted → l ≡ numbers_of f.asm → (single 0 l ls js b ≡ finish_result r x) × ((0 ∷ f.tag ∷ []) ≡ finish_told x)
+    finish_goes l h g = rw (← e, h, g) (refl, refl)
 
 -- ---- listings
 

@@ -32,7 +32,7 @@ use Rattle.print.specs.Inner.Text.{word_in}
 use Rattle.print.specs.declared.Text.{Text}
 use Rattle.print.proofs.Short.{refusal_short}
 use Rattle.print.proofs.Brief.{listing_short}
-use Rattle.print.proofs.Listings.{first_from, no_first, first-behind, data_own, instr_own, views_length, all_shown}
+use Rattle.print.proofs.Listings.{first_from, no_first, first_behind, data_own, instr_own, views_length, all_shown}
 use Rattle.listing.specs.Listing.{unless_foreign, listed, text_of, program_listing, deck_listing}
 use Rattle.listing.specs.Never.{NeverRefused, EveryWord}
 use Rattle.listing.specs.Views.{hidden_in, program_view, deck_view, MaintainerSees}
@@ -71,7 +71,7 @@ module _ (constants : ℕ) (s : List ℕ) (own : (k : ℕ) → 4 * k < constants
       by true e r =
           let l = leb-true (4 * k + 4) (length s) e in
           let q : 4 * k + 4 ≡ 4 * suc k = omega arith in
-          first-behind constants s (4 * k) _ l refl (not_foreign k l) ∙ ap (first_from constants s) q ∙ r
+          first_behind constants s (4 * k) _ l refl (not_foreign k l) ∙ ap (first_from constants s) q ∙ r
       by false e r = no_first constants s (4 * k) (leb-false (4 * k + 4) (length s) e)
 
 pub never_refused : NeverRefused

@@ -50,8 +50,8 @@ module _ (code : List ℕ) (constants : ℕ) where
     pub is_foreign : (place : ℕ) → some place ≡ first → listed code constants ≡ refused 14 place
     is_foreign place f = whole e n ∙ ap (λ (o : Option ℕ). unless_foreign o (accepted lines)) (sym f)
 
-    pub is-listed : none ≡ first → listed code constants ≡ accepted lines
-    is-listed f = whole e n ∙ ap (λ (o : Option ℕ). unless_foreign o (accepted lines)) (sym f)
+    pub is_listed : none ≡ first → listed code constants ≡ accepted lines
+    is_listed f = whole e n ∙ ap (λ (o : Option ℕ). unless_foreign o (accepted lines)) (sym f)
 
 -- ---- how long it is
 

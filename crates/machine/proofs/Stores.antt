@@ -64,18 +64,18 @@ module _ (P : ℕ → Type 0) where
     landing_same [] s h x l o = refl
     landing_same (i ∷ is) s h x l o = landing_same is (exec Q i s) h.1 x l o ∙ apply_same (effect Q i s) s h.0 x l o
 
-    pub landing-flow : (is : List Instr) (s : State) → Landing is s → T (flow Q is s)
-    landing-flow [] s h = tt
-    landing-flow (i ∷ is) s h = both (flows (effect Q i s)) _ (lands_flows (effect Q i s) h.0) (landing-flow is (exec Q i s) h.1)
+    pub landing_flow : (is : List Instr) (s : State) → Landing is s → T (flow Q is s)
+    landing_flow [] s h = tt
+    landing_flow (i ∷ is) s h = both (flows (effect Q i s)) _ (lands_flows (effect Q i s) h.0) (landing_flow is (exec Q i s) h.1)
       where
         both : (a b : Bool) → T a → T b → T (a && b)
         both true b p q = q
         both false b p q = p
 
     -- The run of code whose stores miss it.
-    pub landing-run : (is : List Instr) (s : State) → Fit Q is s → Landing is s → 4 * length is ≤ 2 ^ 64 → Off s.pc (4 * length is) → s.pc < 2 ^ 64 → s.pc % 4 ≡ 0 → CodeAt s.mem s.pc (words is) → RunIn Q (Among s.pc (length is)) s (length is) (execs Q is s)
-    landing-run [] s w h n o b a c = no_step Q
-    landing-run (i ∷ is) s w h n o b a c =
+    pub landing_run : (is : List Instr) (s : State) → Fit Q is s → Landing is s → 4 * length is ≤ 2 ^ 64 → Off s.pc (4 * length is) → s.pc < 2 ^ 64 → s.pc % 4 ≡ 0 → CodeAt s.mem s.pc (words is) → RunIn Q (Among s.pc (length is)) s (length is) (execs Q is s)
+    landing_run [] s w h n o b a c = no_step Q
+    landing_run (i ∷ is) s w h n o b a c =
         let e : Effect = effect Q i s in
         let p : (exec Q i s).pc ≡ next s = apply_pc e s (lands_flows e h.0) in
         let k : length (words is) ≡ length is = length-map is encode in
@@ -87,7 +87,7 @@ module _ (P : ℕ → Type 0) where
         in
         one_more Q (at_first s.pc (length is) b) (step_at Q i s w.0 w.1 a c.0)
         (wider Q (λ x m. at_next s.pc (length is) x (rw p at m))
-        (landing-run is (exec Q i s) w.2 h.1 (omega arith) (rw p f) (rw p (omega arith)) (rw p (aligned s a)) (rw p r)))
+        (landing_run is (exec Q i s) w.2 h.1 (omega arith) (rw p f) (rw p (omega arith)) (rw p (aligned s a)) (rw p r)))
 
 -- ---- stores to a range that doesn't go round
 

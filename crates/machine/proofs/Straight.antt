@@ -48,7 +48,7 @@ module _ (Q : Floats) where
       let p : (exec Q i s).pc ≡ next s = apply_pc e s (quiet_flows e q) in
       one_more Q (at_first s.pc (suc (length is)) l) (step_at Q i s w.0 w.1 a c.0)
       (wider Q (λ x m. at_next s.pc (suc (length is)) x (rw p at m))
-      (lead_run (j ∷ is) (exec Q i s) w.2 (and_r (quiet e) _ h) (rw p (omega arith)) (rw p (aligned s a)) (rw (apply_mem e s q, p) c.1)))
+      (lead_run (j ∷ is) (exec Q i s) w.2 (and_r (quiet e) _ h) (rw p (omega arith)) (rw p (aligned s a)) (rw (apply_mem e s q, p, apply_mem e s q) c.1)))
 
   -- no jump at all
   abbrev pub flow : List Instr → State → Bool
@@ -70,9 +70,9 @@ module _ (Q : Floats) where
     Path [] s = Unit {0}
     Path (i ∷ is) s = C s.pc × (s.pc % 4 ≡ 0) × (load4 s.mem s.pc ≡ encode i) × Path is (exec Q i s)
 
-    pub path-run : (is : List Instr) (s : State) → Fit Q is s → Path is s → RunIn Q C s (length is) (execs Q is s)
-    path-run [] s w p = no_step Q
-    path-run (i ∷ is) s w p = one_more Q p.0 (step_at Q i s w.0 w.1 p.1 p.2) (path-run is (exec Q i s) w.2 p.3)
+    pub path_run : (is : List Instr) (s : State) → Fit Q is s → Path is s → RunIn Q C s (length is) (execs Q is s)
+    path_run [] s w p = no_step Q
+    path_run (i ∷ is) s w p = one_more Q p.0 (step_at Q i s w.0 w.1 p.1 p.2) (path_run is (exec Q i s) w.2 p.3)
 
   -- ---- one list behind another
 
@@ -101,18 +101,18 @@ module _ (Q : Floats) where
     keeps [] s = true
     keeps (i ∷ is) s = within W (effect Q i s) && keeps is (exec Q i s)
 
-    pub execs-x : (is : List Instr) (s : State) (r : ℕ) → T (keeps is s) → T (not (W r)) → (execs Q is s).x r ≡ s.x r
-    execs-x [] s r h k = refl
-    execs-x (i ∷ is) s r h k =
+    pub execs_x : (is : List Instr) (s : State) (r : ℕ) → T (keeps is s) → T (not (W r)) → (execs Q is s).x r ≡ s.x r
+    execs_x [] s r h k = refl
+    execs_x (i ∷ is) s r h k =
         let e : Effect = effect Q i s in
-        execs-x is (exec Q i s) r (and_r (within W e) _ h) k ∙ apply_x W e s r (and_l (within W e) _ h) k
+        execs_x is (exec Q i s) r (and_r (within W e) _ h) k ∙ apply_x W e s r (and_l (within W e) _ h) k
 
     -- the test of straight code: no jump, only registers of W, no store but the last
     abbrev pub straight : List Instr → State → Bool
     straight is s = lead is s && (flow is s && keeps is s)
 
-    pub by-straight : (is : List Instr) (s : State) (f' m' : ℕ → ℕ) → Fit Q is s → T (straight is s) → Sound s → s.pc % 4 ≡ 0 → CodeAt s.mem s.pc (words is) → (execs Q is s).f ≡ f' → (execs Q is s).mem ≡ m' → Ends Q W s (length is) (length is) (w64 (s.pc + 4 * length is)) f' m'
-    by-straight is s f' m' w h o a c p q =
+    pub by_straight : (is : List Instr) (s : State) (f' m' : ℕ → ℕ) → Fit Q is s → T (straight is s) → Sound s → s.pc % 4 ≡ 0 → CodeAt s.mem s.pc (words is) → (execs Q is s).f ≡ f' → (execs Q is s).mem ≡ m' → Ends Q W s (length is) (length is) (w64 (s.pc + 4 * length is)) f' m'
+    by_straight is s f' m' w h o a c p q =
         let g : T (flow is s && keeps is s) = and_r (lead is s) _ h in
         record {
           end = execs Q is s;
@@ -123,16 +123,16 @@ module _ (Q : Floats) where
                 f = p;
                 mem = q;
                 rm = execs_rm is s;
-                x = λ r k. execs-x is s r (and_r (flow is s) _ g) k;
+                x = λ r k. execs_x is s r (and_r (flow is s) _ g) k;
               };
         }
 
-    pub by-path : (is : List Instr) (s : State) (n a : ℕ) (f' m' : ℕ → ℕ) → Fit Q is s → T (keeps is s) → Path (Among s.pc n) is s → (execs Q is s).pc ≡ a → (execs Q is s).f ≡ f' → (execs Q is s).mem ≡ m' → Ends Q W s n (length is) a f' m'
-    by-path is s n a f' m' w h c e p q =
+    pub by_path : (is : List Instr) (s : State) (n a : ℕ) (f' m' : ℕ → ℕ) → Fit Q is s → T (keeps is s) → Path (Among s.pc n) is s → (execs Q is s).pc ≡ a → (execs Q is s).f ≡ f' → (execs Q is s).mem ≡ m' → Ends Q W s n (length is) a f' m'
+    by_path is s n a f' m' w h c e p q =
         record {
           end = execs Q is s;
-          runs = path-run (Among s.pc n) is s w c;
-          does = record { pc = e; f = p; mem = q; rm = execs_rm is s; x = λ r k. execs-x is s r h k };
+          runs = path_run (Among s.pc n) is s w c;
+          does = record { pc = e; f = p; mem = q; rm = execs_rm is s; x = λ r k. execs_x is s r h k };
         }
 
 -- ---- one end behind another

@@ -31,7 +31,7 @@ use Rattle.reading.specs.Meaning.{on, unary, scratched, binary, fused}
 use Rattle.orders.specs.Code.{unary_code, scratched_code, binary_code, fused_code}
 use Rattle.orders.specs.Does.{At, Done}
 use Rattle.orders.proofs.Bits.{negated, negated_inverted, sign_converted, own_sign, upd_self}
-use Rattle.orders.proofs.Items.{straight-done}
+use Rattle.orders.proofs.Items.{straight_done}
 
 -- ---- validity
 
@@ -114,7 +114,7 @@ module _ (places : ℕ → ℕ) (start here : ℕ) (s : State) (Q : Floats) wher
   Sets is f = At places start here (map instr is) s → Done places start Q here (map instr is) s f s.mem on
 
   sets : (is : List Instr) (f : ℕ → ℕ) → Valids is → T (silent Q is s && straight Q temporary is s) → (execs Q is s).f ≡ f → (execs Q is s).mem ≡ s.mem → Sets is f
-  sets is f v h p q o = straight-done places start here s is o Q f s.mem v h p q
+  sets is f v h p q o = straight_done places start here s is o Q f s.mem v h p q
 
   pub unary_does : (k : U.Unary) (d a : ℕ) → d < 32 → a < 32 → Sound s → Sets (unary_code k d a) (unary Q s.rm k s.f d a)
   unfolding unary_code unary effect apply setx upd temporary

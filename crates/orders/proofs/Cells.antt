@@ -16,20 +16,20 @@ use Rattle.machine.specs.Effect.{effect, apply}
 use Rattle.machine.specs.Ends.{temporary, Ends}
 use Rattle.machine.proofs.Effects.{setx_other}
 use Rattle.machine.proofs.Memory.{load8_small}
-use Rattle.machine.proofs.Straight.{by-straight, ends_join}
+use Rattle.machine.proofs.Straight.{by_straight, ends_join}
 use Rattle.ast.specs.declared.Place.{Place}
 use Rattle.ast.specs.declared.Place.TheVariants.{Mem, Stack, Param}
 use Rattle.assembler.specs.Item.{instr}
 use Rattle.accesses.specs.Code.{near, load_float_code, save_float_code, load_int_code}
 use Rattle.accesses.specs.Fault.{offset_limit, one_fault}
 use Rattle.accesses.specs.Stands.{Stands, Goes, behind, cell_at, Accessible, with_t0}
-use Rattle.accesses.proofs.Then.{fits, stands-first, stands-second}
+use Rattle.accesses.proofs.Then.{fits, stands_first, stands_second}
 use Rattle.accesses.proofs.Runs.{load_float_runs, save_float_runs, load_int_runs}
 use Rattle.reading.specs.Meaning.{on, choose}
 use Rattle.orders.specs.Code.{base, choose_code}
 use Rattle.orders.specs.Does.{At, Done, cell, cell_value}
 use Rattle.orders.proofs.Bits.{chosen}
-use Rattle.orders.proofs.Items.{at-stands, goes_on}
+use Rattle.orders.proofs.Items.{at_stands, goes_on}
 
 -- ---- a cell's access is accepted
 
@@ -71,14 +71,14 @@ module _ (places : ℕ → ℕ) (start here : ℕ) (s : State) (Q : Floats) wher
       let is : List Instr = load_float_code d (base p) (8 * i) in
       goes_on places start here s is o Q _ _
       (kept_ends Q s is (with_t0 near (base p) (8 * i) s) _ _ (t0_kept near (base p) (8 * i) s)
-      (load_float_runs d (base p) (8 * i) (cell_accepted d p (8 * i) hd hi) Q s c (at-stands places start here s is o)))
+      (load_float_runs d (base p) (8 * i) (cell_accepted d p (8 * i) hd hi) Q s c (at_stands places start here s is o)))
 
   pub save_does : (d : ℕ) (p : Place) (i : ℕ) → d < 32 → 8 * i ≤ offset_limit → Accessible (cell s p i ∷ []) → At places start here (map instr (save_float_code d (base p) (8 * i))) s → Done places start Q here (map instr (save_float_code d (base p) (8 * i))) s s.f (store8 s.mem (cell s p i) (s.f d)) on
   save_does d p i hd hi c o =
       let is : List Instr = save_float_code d (base p) (8 * i) in
       goes_on places start here s is o Q _ _
       (kept_ends Q s is (with_t0 near (base p) (8 * i) s) _ _ (t0_kept near (base p) (8 * i) s)
-      (save_float_runs d (base p) (8 * i) (cell_accepted d p (8 * i) hd hi) Q s c (at-stands places start here s is o)))
+      (save_float_runs d (base p) (8 * i) (cell_accepted d p (8 * i) hd hi) Q s c (at_stands places start here s is o)))
 
   -- one list behind another, the first to a state that is known
   both_end : (is js : List Instr) (x f f' m' : ℕ → ℕ) → ((r : ℕ) → T (not (temporary r)) → x r ≡ s.x r) → Goes Q is s (behind is s x f s.mem) → Ends Q temporary (behind is s x f s.mem) (length js) (length js) (w64 ((behind is s x f s.mem).pc + 4 * length js)) f' m'
@@ -99,12 +99,12 @@ module _ (places : ℕ → ℕ) (start here : ℕ) (s : State) (Q : Floats) wher
       let v : ℕ = cell_value s Stack i in
       let w : ℕ → ℕ = with_t0 near (base Stack) (8 * i) s in
       let x : ℕ → ℕ = setx w 5 v in
-      let st : Stands (is ++ js) s = at-stands places start here s (is ++ js) o in
-      let r = load_int_runs 5 (base Stack) (8 * i) (cell_accepted 5 Stack (8 * i) (omega arith) hi) Q s c (stands-first Q is js s x s.f st) in
-      let u : Stands js (behind is s x s.f s.mem) = stands-second Q is js s x s.f st r in
+      let st : Stands (is ++ js) s = at_stands places start here s (is ++ js) o in
+      let r = load_int_runs 5 (base Stack) (8 * i) (cell_accepted 5 Stack (8 * i) (omega arith) hi) Q s c (stands_first Q is js s x s.f st) in
+      let u : Stands js (behind is s x s.f s.mem) = stands_second Q is js s x s.f st r in
       let e = chosen 64 v (s.f a) (s.f b) (load8_small s.mem (cell s Stack i) o.sound.mem) (o.sound.f a) (o.sound.f b) in
       goes_on places start here s (is ++ js) o Q _ _
       (both_end is js x s.f _ _
       (λ k h. setx_other w 5 v k (t0_temporary k h) ∙ t0_kept near (base Stack) (8 * i) s k h)
       r
-      (by-straight Q temporary js _ _ _ (fits Q js (behind is s x s.f s.mem) (omega arith) tt) tt u.sound u.aligned u.code (rw e) refl))
+      (by_straight Q temporary js _ _ _ (fits Q js (behind is s x s.f s.mem) (omega arith) tt) tt u.sound u.aligned u.code (rw e) refl))

@@ -16,7 +16,7 @@ use Rattle.machine.specs.State.{State}
 use Rattle.machine.proofs.Exec.{execs}
 use Rattle.machine.specs.Ends.{temporary, Ends}
 use Rattle.base.proofs.Bools.{and_l, and_r, passed}
-use Rattle.machine.proofs.Straight.{straight, by-straight}
+use Rattle.machine.proofs.Straight.{straight, by_straight}
 use Rattle.machine.proofs.Placed.{Valids}
 use Rattle.assembler.specs.Item.{Item, instr, raw, jump, label}
 use Rattle.assembler.specs.Jump.{jump_instr}
@@ -69,13 +69,13 @@ checked_below rs n last k e =
 module _ (places : ℕ → ℕ) (start here : ℕ) (s : State) where
   pub at_aligned : {is : List Item} → At places start here is s → s.pc % 4 ≡ 0
   at_aligned o =
-      let a : start % 4 ≡ 0 = o.start-aligned in
-      let b : here % 4 ≡ 0 = o.here-aligned in
+      let a : start % 4 ≡ 0 = o.start_aligned in
+      let b : here % 4 ≡ 0 = o.here_aligned in
       rw o.pc (omega arith)
 
   module _ (is : List Instr) (o : At places start here (map instr is) s) where
-    pub at-stands : Stands is s
-    at-stands =
+    pub at_stands : Stands is s
+    at_stands =
         record { sound = o.sound; aligned = at_aligned o; code = rw (resolved_instrs places here is) at o.code }
 
     -- instructions that end behind themselves
@@ -85,6 +85,6 @@ module _ (places : ℕ → ℕ) (start here : ℕ) (s : State) where
         record { count = length is; few = rw n (le_refl (length is)); ends = rw n e }
 
     -- straight code
-    pub straight-done : (Q : Floats) (f m : ℕ → ℕ) → Valids is → T (silent Q is s && straight Q temporary is s) → (execs Q is s).f ≡ f → (execs Q is s).mem ≡ m → Done places start Q here (map instr is) s f m on
-    straight-done Q f m v h p q =
-        goes_on Q f m (by-straight Q temporary is s f m (fits Q is s v (and_l (silent Q is s) _ h)) (and_r (silent Q is s) _ h) o.sound (at_aligned o) at-stands.code p q)
+    pub straight_done : (Q : Floats) (f m : ℕ → ℕ) → Valids is → T (silent Q is s && straight Q temporary is s) → (execs Q is s).f ≡ f → (execs Q is s).mem ≡ m → Done places start Q here (map instr is) s f m on
+    straight_done Q f m v h p q =
+        goes_on Q f m (by_straight Q temporary is s f m (fits Q is s v (and_l (silent Q is s) _ h)) (and_r (silent Q is s) _ h) o.sound (at_aligned o) at_stands.code p q)

@@ -16,7 +16,7 @@ use Rattle.machine.specs.Floats.{Floats}
 use Rattle.machine.specs.State.{State, setx}
 use Rattle.machine.specs.Effect.{effect, apply, taken}
 use Rattle.machine.specs.Ends.{temporary}
-use Rattle.machine.proofs.Straight.{at_first, by-straight, by-path}
+use Rattle.machine.proofs.Straight.{at_first, by_straight, by_path}
 use Rattle.machine.proofs.Placed.{Valids}
 use Rattle.assembler.specs.Item.{Item, instr, jump, label}
 use Rattle.assembler.specs.Resolved.{resolved}
@@ -100,39 +100,39 @@ module _ (places : ℕ → ℕ) (start here : ℕ) (s : State) (Q : Floats) (g :
   unfolding resolved effect apply setx upd temporary
   const_does d l hd c o =
       let is : List Instr = const_instrs places here d l in
-      let h : here ≤ 65536 = o.here-small in
+      let h : here ≤ 65536 = o.here_small in
       let p : places l ≤ 65536 = g.small l in
       let e = pair_reaches start (places l) here (omega arith) (omega arith) in
       let v = const_valid places here d l hd in
       record {
         count = 2;
         few = omega arith;
-        ends = by-straight Q temporary is s _ _ (v.0, tt, (v.1.0, rw (o.pc, e) c, tt)) tt o.sound (at_aligned places start here s o) o.code (rw (o.pc, e)) refl;
+        ends = by_straight Q temporary is s _ _ (v.0, tt, (v.1.0, rw (o.pc, e) c, tt)) tt o.sound (at_aligned places start here s o) o.code (rw (o.pc, e)) refl;
       }
 
   -- ---- a branch: the test, then the pair or a jump over it
 
   module _ (c l : ℕ) (k : BOp) (hc : c < 32) where
-    branch-over : taken k (s.f c) 0 ≡ true → At places start here (items c l k) s → Done places start Q here (items c l k) s s.f s.mem on
+    branch_over : taken k (s.f c) 0 ≡ true → At places start here (items c l k) s → Done places start Q here (items c l k) s s.f s.mem on
     unfolding resolved effect apply setx upd temporary
-    branch-over t o =
+    branch_over t o =
         let is : List Instr = M FMV_X_D 5 c ∷ B k 5 0 (pos 12) ∷ [] in
         let a = at_aligned places start here s o in
         record {
           count = 2;
           few = omega arith;
           ends =
-              by-path Q temporary is s 4 _ _ _ (fits Q is s (omega arith) tt) tt
+              by_path Q temporary is s 4 _ _ _ (fits Q is s (omega arith) tt) tt
               (at_first s.pc 3 o.sound.pc, a, o.code.0, ((1, omega arith, refl), four s.pc a, o.code.1.0, tt))
               (rw (t, twelve s.pc)) refl refl;
         }
 
-    branch-jump : taken k (s.f c) 0 ≡ false → At places start here (items c l k) s → Done places start Q here (items c l k) s s.f s.mem (to l)
+    branch_jump : taken k (s.f c) 0 ≡ false → At places start here (items c l k) s → Done places start Q here (items c l k) s s.f s.mem (to l)
     unfolding resolved effect apply setx upd temporary
-    branch-jump t o =
+    branch_jump t o =
         let is : List Instr = branch_instrs places here c l k in
         let a = at_aligned places start here s o in
-        let h : here ≤ 65536 = o.here-small in
+        let h : here ≤ 65536 = o.here_small in
         let p : places l ≤ 65536 = g.small l in
         let b : w64 (s.pc + 4) % 4 ≡ 0 = four s.pc a in
         let e = pair_reaches start (places l) (here + 4 + 4) (omega arith) (omega arith) in
@@ -140,7 +140,7 @@ module _ (places : ℕ → ℕ) (start here : ℕ) (s : State) (Q : Floats) (g :
           count = 4;
           few = omega arith;
           ends =
-              by-path Q temporary is s 4 _ _ _ (fits Q is s (branch_valid places here c l k hc) tt) tt (
+              by_path Q temporary is s 4 _ _ _ (fits Q is s (branch_valid places here c l k hc) tt) tt (
                 at_first s.pc 3 o.sound.pc,
                 a,
                 o.code.0,
@@ -156,7 +156,7 @@ module _ (places : ℕ → ℕ) (start here : ℕ) (s : State) (Q : Floats) (g :
                   ),
                 ),
               )
-              (rw (t, o.pc, third start here, e) (even start (places l) o.start-aligned (g.aligned l)))
+              (rw (t, o.pc, third start here, e) (even start (places l) o.start_aligned (g.aligned l)))
               refl refl;
         }
 
@@ -164,8 +164,8 @@ module _ (places : ℕ → ℕ) (start here : ℕ) (s : State) (Q : Floats) (g :
   branch_does c l e hc o = by (jumps e (s.f c)) refl
     where
       by : (t : Bool) → jumps e (s.f c) ≡ t → Done places start Q here (items c l (skip e)) s s.f s.mem (cond t (to l) on)
-      by true q = branch-jump c l (skip e) hc (tested e (s.f c) ∙ ap not q) o
-      by false q = branch-over c l (skip e) hc (tested e (s.f c) ∙ ap not q) o
+      by true q = branch_jump c l (skip e) hc (tested e (s.f c) ∙ ap not q) o
+      by false q = branch_over c l (skip e) hc (tested e (s.f c) ∙ ap not q) o
 
 -- a label has no word
 pub label_does : (places : ℕ → ℕ) (start here : ℕ) (s : State) (Q : Floats) (l : ℕ) → At places start here (label l ∷ []) s → Done places start Q here (label l ∷ []) s s.f s.mem on
@@ -174,5 +174,5 @@ label_does places start here s Q l o =
     record {
       count = 0;
       few = omega arith;
-      ends = by-straight Q temporary [] s _ _ tt tt o.sound (at_aligned places start here s o) tt refl refl;
+      ends = by_straight Q temporary [] s _ _ tt tt o.sound (at_aligned places start here s o) tt refl refl;
     }

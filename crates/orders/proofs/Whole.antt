@@ -23,7 +23,7 @@ use Rattle.assembler.specs.declared.Fault.{Fault}
 use Rattle.assembler.specs.declared.Plan.{Plan}
 use Rattle.assembler.specs.declared.Tail.{Tail}
 use Rattle.assembler.specs.declared.Tail.TheVariants as Tails
-use Rattle.assembler.proofs.Checks.{v-good}
+use Rattle.assembler.proofs.Checks.{v_good}
 use Rattle.assembler.proofs.Items.{with_words, placed_append, placed_raw, words_append, targets_append, labels_append, words_raw, targets_raw, labels_raw, targets_instrs, words_tail, labels_tail}
 use Rattle.assembler.proofs.Plans.{put_asked, put_same, earlier_none}
 use Rattle.assembler.proofs.Steps.{put_done}
@@ -288,7 +288,7 @@ rest_taken ts ws s t =
     let b : Asm = record { len = s.asm.len + 4 * w; jumps = s.asm.jumps; closed = s.asm.closed } in
     let g : sound n b ≡ true = rw (le-leb (s.asm.len + 4 * w) (room n) (omega (arith, t.room_for)), eq-eqb ((s.asm.len + 4 * w) % 4) 0 (omega (arith, t.aligned)), le-leb s.asm.jumps 4096 (omega (arith, t.jumps_for))) in
     let f : fits n b j j ≡ true = rw (le-leb (s.asm.len + 4 * w + 4 * j) (room n) (omega (arith, t.room_for)), le-leb (s.asm.jumps + j) 4096 t.jumps_for) in
-    rw m (sym (v-good 0 _ _ false _ t.open_still (λ z. omega arith) (λ z. omega arith) (join _ _ t.known g) refl refl (join _ _ t.numbered f)))
+    rw m (sym (v_good 0 _ _ false _ t.open_still (λ z. omega arith) (λ z. omega arith) (join _ _ t.known g) refl refl (join _ _ t.numbered f)))
 
 -- ---- words and the jumps of a tail
 
@@ -342,25 +342,25 @@ module _ (o : Order) (t : Tail) (tag : ℕ) (s : State) (z : fault o ≡ 0) (g :
     number =
         rw (ej, et, needed_fits (length s.buf) s.asm n (length (instrs o)) (length (targets (tail_items t))) (together o (tail_items t) _ g (tail_length t)) en, length-map (instrs o) encode)
 
-    pub order-full : mark x.answer ≡ 1 → x ≡ emitted tag o s
+    pub order_full : mark x.answer ≡ 1 → x ≡ emitted tag o s
     unfolding put
-    order-full r =
+    order_full r =
         kept _ s (placed tag (map raw ws ++ tail_items t) s) x q r
         ∙ ap (λ (k : ℕ). settled k s (placed tag (map raw ws ++ tail_items t) s)) (number ∙ sym (whole_number ws t s))
         ∙ as_words
 
-    pub order-room : mark x.answer ≡ 0 → s.asm.len + 4 * length (instrs o) ≤ room (length s.buf)
-    order-room r =
+    pub order_room : mark x.answer ≡ 0 → s.asm.len + 4 * length (instrs o) ≤ room (length s.buf)
+    order_room r =
         let k = takes (targets (tail_items t)) (length ws + length (targets (tail_items t))) s (sym number ∙ agreed _ s x q r) in
         omega (arith, k.room_for, length-map (instrs o) encode)
 
-    pub order-placed : mark x.answer ≡ 0 → put tag 0 (tail_items t) (with_words ws s) ≡ emitted tag o s
-    order-placed r = rest_placed ws t tag s (sym number ∙ agreed _ s x q r) ∙ as_words
+    pub order_placed : mark x.answer ≡ 0 → put tag 0 (tail_items t) (with_words ws s) ≡ emitted tag o s
+    order_placed r = rest_placed ws t tag s (sym number ∙ agreed _ s x q r) ∙ as_words
 
     -- the words written and the jumps placed
-    pub order-done : (p : Plan) (r : ℕ) (d : List ℕ) → p ≡ no_words → tail_fault t ≡ 0 → Puts (map word (instrs o)) s.buf s.asm.len d r → mark x.answer ≡ 0 → put tag (plan_fault p t) (plan_items p t) (state (record { len = r; jumps = s.asm.jumps; closed = s.asm.closed }) s.labels s.jumps d) ≡ emitted tag o s
-    order-done p r d e f w m =
-        rw (e, f, w.0, w.1, words_valid (instrs o) (order_valid o z)) (order-placed m)
+    pub order_done : (p : Plan) (r : ℕ) (d : List ℕ) → p ≡ no_words → tail_fault t ≡ 0 → Puts (map word (instrs o)) s.buf s.asm.len d r → mark x.answer ≡ 0 → put tag (plan_fault p t) (plan_items p t) (state (record { len = r; jumps = s.asm.jumps; closed = s.asm.closed }) s.labels s.jumps d) ≡ emitted tag o s
+    order_done p r d e f w m =
+        rw (e, f, w.0, w.1, words_valid (instrs o) (order_valid o z)) (order_placed m)
 
 pub order_label : (o : Order) (tag : ℕ) (s : State) (l : ℕ) → fault o ≡ 0 → code o ≡ map instr (instrs o) ++ (label l ∷ []) → label_fault l ≡ 0 → instrs o ≡ [] → put 0 (label_fault l) (label l ∷ []) s ≡ emitted tag o s
 order_label o tag s l h g z n =
@@ -434,7 +434,7 @@ module _ (H : Head) (tag : ℕ) (o : Order) (s : State) where
 
 -- of an order without a fault of its own
 pub deck_fault : (H : Head) (o : Order) → fault o ≡ 0 → fault_in H o ≡ cond (index_holds H o) (cond (saves_hold H.mask o) 0 11) 9
-deck_fault H o z = rw (z, registers-true)
+deck_fault H o z = rw (z, registers_true)
   where
-    registers-true : registers_fit (uses o).registers ≡ true
-    registers-true = T_true _ (operands_fit o z).0
+    registers_true : registers_fit (uses o).registers ≡ true
+    registers_true = T_true _ (operands_fit o z).0

@@ -58,9 +58,9 @@ module _ (places : ℕ → ℕ) (start : ℕ) where
   -- s stands at the items' words, as finishing leaves them, `here` bytes from the start
   pub record At (here : ℕ) (is : List Item) (s : State) : Type 0 where
     pub sound : Sound s
-    pub start-aligned : start % 4 ≡ 0
-    pub here-aligned : here % 4 ≡ 0
-    pub here-small : here ≤ 65536
+    pub start_aligned : start % 4 ≡ 0
+    pub here_aligned : here % 4 ≡ 0
+    pub here_small : here ≤ 65536
     pub pc : s.pc ≡ w64 (start + here)
     pub code : CodeAt s.mem s.pc (resolved places here is)
 

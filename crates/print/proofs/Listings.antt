@@ -179,14 +179,14 @@ module _ (constants : ℕ) (s : List ℕ) (i : ℕ) where
   first_at h = ap (foreign_from constants i) (more_words s i h)
 
   module _ (w : ℕ) (h : i + 4 ≤ length s) (e : w ≡ word_in s i) where
-    pub length-lines : length (lines_from constants s i) ≡ length (listing_line constants i w) + length (lines_from constants s (i + 4))
-    length-lines = rw e (ap length (more_lines h) ∙ length-append (listing_line constants i (word_in s i)) (lines_from constants s (i + 4)))
+    pub length_lines : length (lines_from constants s i) ≡ length (listing_line constants i w) + length (lines_from constants s (i + 4))
+    length_lines = rw e (ap length (more_lines h) ∙ length-append (listing_line constants i (word_in s i)) (lines_from constants s (i + 4)))
 
     pub first_here : foreign constants i w ≡ true → first_from constants s i ≡ some i
     first_here f = first_at h ∙ rw (← e, f)
 
-    pub first-behind : foreign constants i w ≡ false → first_from constants s i ≡ first_from constants s (i + 4)
-    first-behind f = first_at h ∙ rw (← e, f)
+    pub first_behind : foreign constants i w ≡ false → first_from constants s i ≡ first_from constants s (i + 4)
+    first_behind f = first_at h ∙ rw (← e, f)
 
 module _ (hidden : ℕ → Bool) (constants : ℕ) (s : List ℕ) (i : ℕ) where
   pub no_views : length s < i + 4 → views_from hidden constants s i ≡ []
@@ -198,8 +198,8 @@ module _ (hidden : ℕ → Bool) (constants : ℕ) (s : List ℕ) (i : ℕ) wher
   more_views h = ap (view_lines hidden constants i) (more_words s i h)
 
   module _ (w : ℕ) (h : i + 4 ≤ length s) (e : w ≡ word_in s i) where
-    pub views-put : (out after : List ℕ) (at next : ℕ) → after ≡ sets out at (view_line hidden constants i w) → next ≡ at + length (listing_line constants i w)
+    pub views_put : (out after : List ℕ) (at next : ℕ) → after ≡ sets out at (view_line hidden constants i w) → next ≡ at + length (listing_line constants i w)
         → sets out at (views_from hidden constants s i) ≡ sets after next (views_from hidden constants s (i + 4))
-    views-put out after at next o n =
+    views_put out after at next o n =
         let p : sets out at (views_from hidden constants s i) ≡ sets out at (view_line hidden constants i w ++ views_from hidden constants s (i + 4)) = rw e (ap (sets out at) (more_views h)) in
         p ∙ sets_append out at (view_line hidden constants i w) (views_from hidden constants s (i + 4)) ∙ rw (o, n, view_length hidden constants i w)

@@ -73,14 +73,14 @@ region_ends g w h = w h
 
 module _ (n : ℕ) (t : State) (c : Terms H n t) where
   ra_apart : Within (code n t) (t.x ra) → ⊥
-  ra_apart = c.ra-outside
+  ra_apart = c.ra_outside
 
   module _ (u : T (table_used H t)) (k : ℕ) (h : k < 8) where
-    state-apart : (i : ℕ) → i < 2 → Within (frame H t) (w64 (table_cell H t i + k)) → ⊥
-    state-apart i l = (c.state-cells u i l).0 k h
+    state_apart : (i : ℕ) → i < 2 → Within (frame H t) (w64 (table_cell H t i + k)) → ⊥
+    state_apart i l = (c.state_cells u i l).0 k h
 
-    obs-apart : Within (table H t) (w64 (table_cell H t 2 + k)) → ⊥
-    obs-apart = by (eqb (t.x a1) 0) u ((c.obs-cells u 0 (omega arith)).1.1.1.0 k h)
+    obs_apart : Within (table H t) (w64 (table_cell H t 2 + k)) → ⊥
+    obs_apart = by (eqb (t.x a1) 0) u ((c.obs_cells u 0 (omega arith)).1.1.1.0 k h)
       where
         by : (b : Bool) → T (not b) → (Within (cond b (block H t) (table H t)) (w64 (table_cell H t 2 + k)) → ⊥) → Within (table H t) (w64 (table_cell H t 2 + k)) → ⊥
         by true v f = absurd v
@@ -91,15 +91,15 @@ module _ (n : ℕ) (t : State) (c : Terms H n t) where
 module _ (G : Head) (n : ℕ) (t : State) (c : Terms G n t) where
   -- code at a multiple of 4 alone
   no_fours : t.pc ≡ 0x40000004 → ⊥
-  no_fours e = omega (arith, c.code-aligned)
+  no_fours e = omega (arith, c.code_aligned)
 
   -- the block, even where no line names a cell of it
   no_odd_block : G.frame ≡ Indirect → t.x a1 ≡ 0 → t.x a0 ≡ 0x50000004 → ⊥
-  no_odd_block f z e = omega (arith, e, c.block-aligned (rw (f, z) tt))
+  no_odd_block f z e = omega (arith, e, c.block_aligned (rw (f, z) tt))
 
   -- parameters, where there are some
   no_odd_params : G.frame ≡ Indirect → G.last ≡ 1 → t.x a3 ≡ 3 → ⊥
-  no_odd_params f l e = omega (arith, e, c.params-aligned (rw (f, l) (omega arith)))
+  no_odd_params f l e = omega (arith, e, c.params_aligned (rw (f, l) (omega arith)))
 
 -- a fast frame: a0, a1 and a3 count for nothing
 abbrev fast : State
@@ -135,17 +135,17 @@ odd_terms : Terms T1 200 odd
 unfolding upd load8
 odd_terms =
     record {
-      code-aligned = refl;
-      block-aligned = λ h. absurd h;
+      code_aligned = refl;
+      block_aligned = λ h. absurd h;
       table_aligned = λ h. refl;
-      cells-aligned = λ h. one;
-      params-aligned = λ h. absurd (omega arith);
-      ra-aligned = refl;
-      ra-outside = λ w. omega (arith, w.1);
-      sp-aligned = refl;
+      cells_aligned = λ h. one;
+      params_aligned = λ h. absurd (omega arith);
+      ra_aligned = refl;
+      ra_outside = λ w. omega (arith, w.1);
+      sp_aligned = refl;
       separate = omega arith;
-      state-cells = λ h. clear;
-      obs-cells = λ h i l. absurd (omega arith);
+      state_cells = λ h. clear;
+      obs_cells = λ h i l. absurd (omega arith);
     }
   where
     one : (i : ℕ) → i < 1 → table_cell T1 odd i % 8 ≡ 0

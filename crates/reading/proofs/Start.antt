@@ -36,15 +36,15 @@ module _ (cap states obs last mask n : ℕ) (s : State) where
   pub fast_terms : s.pc % 8 ≡ 0 → s.x 1 % 4 ≡ 0 → (Within (code n s) (s.x 1) → ⊥) → s.x 2 % 16 ≡ 0 → Separate (regions fast n s Fast) → Terms fast n s
   fast_terms c r o p w =
       record {
-        code-aligned = omega (arith, c);
-        block-aligned = λ h. absurd h;
+        code_aligned = omega (arith, c);
+        block_aligned = λ h. absurd h;
         table_aligned = λ h. absurd h;
-        cells-aligned = λ h. absurd h;
-        params-aligned = λ h. absurd (omega arith);
-        ra-aligned = r;
-        ra-outside = o;
-        sp-aligned = p;
+        cells_aligned = λ h. absurd h;
+        params_aligned = λ h. absurd (omega arith);
+        ra_aligned = r;
+        ra_outside = o;
+        sp_aligned = p;
         separate = w;
-        state-cells = λ h. absurd h;
-        obs-cells = λ h. absurd h;
+        state_cells = λ h. absurd h;
+        obs_cells = λ h. absurd h;
       }

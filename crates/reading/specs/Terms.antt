@@ -142,16 +142,16 @@ module _ (H : Head) (code_bytes : ℕ) (s : State) where
   pub record Terms : Type 0 where
     -- document 02, point 7: the code, the block where a0 is it, the table and its cells where it is used, the parameters if any,
     -- "at multiples of 8"
-    pub code-aligned : s.pc % 8 ≡ 0
-    pub block-aligned : T (not (holds_mem H.frame (s.x a1))) → s.x a0 % 8 ≡ 0
+    pub code_aligned : s.pc % 8 ≡ 0
+    pub block_aligned : T (not (holds_mem H.frame (s.x a1))) → s.x a0 % 8 ≡ 0
     pub table_aligned : T (table_used H s) → s.x a1 % 8 ≡ 0
-    pub cells-aligned : T (table_used H s) → (i : ℕ) → i < cells H → table_cell H s i % 8 ≡ 0
-    pub params-aligned : 0 < cell_count H Param → s.x a3 % 8 ≡ 0
+    pub cells_aligned : T (table_used H s) → (i : ℕ) → i < cells H → table_cell H s i % 8 ≡ 0
+    pub params_aligned : 0 < cell_count H Param → s.x a3 % 8 ≡ 0
     -- ra is "at a multiple of 4, ra outside the code; sp is a multiple of 16"
-    pub ra-aligned : s.x ra % 4 ≡ 0
-    pub ra-outside : Within (code code_bytes s) (s.x ra) → ⊥
-    pub sp-aligned : s.x sp % 16 ≡ 0
+    pub ra_aligned : s.x ra % 4 ≡ 0
+    pub ra_outside : Within (code code_bytes s) (s.x ra) → ⊥
+    pub sp_aligned : s.x sp % 16 ≡ 0
     pub separate : Separate (regions H.frame)
     -- "no state cell touches the frame, and no observation cell touches code, frame, table or parameters"
-    pub state-cells : T (table_used H s) → (i : ℕ) → i < H.states → Clear (table_cell H s i) (frame H s ∷ [])
-    pub obs-cells : T (table_used H s) → (i : ℕ) → i < H.obs → Clear (table_cell H s (H.states + i)) (regions H.frame)
+    pub state_cells : T (table_used H s) → (i : ℕ) → i < H.states → Clear (table_cell H s i) (frame H s ∷ [])
+    pub obs_cells : T (table_used H s) → (i : ℕ) → i < H.obs → Clear (table_cell H s (H.states + i)) (regions H.frame)

@@ -34,7 +34,7 @@ use Rattle.routine.proofs.LawRoom.{space_number, room_space}
 use Rattle.routine.proofs.LawFit.{fit_append, fit_labelled, prologue_fit, saves_fit, shared_none, prologue_once, entry_early, saves_labels, saves_jumps}
 use Rattle.base.proofs.Each.{each_map}
 use Rattle.routine.proofs.LawJudged.{Said, line_said}
-use Rattle.routine.proofs.LawParts.{Left, Unmade, Agrees, then_then, laid_refuses, put-agrees, part-agrees}
+use Rattle.routine.proofs.LawParts.{Left, Unmade, Agrees, then_then, laid_refuses, put_agrees, part_agrees}
 use Rattle.routine.proofs.LawLeave.{Before, tags_so_far}
 use Rattle.routine.proofs.LawLines.{Going, ending, lines_agrees}
 
@@ -68,14 +68,14 @@ module _ (b : List ℕ) (H : Head) (g : epilogue_holds H ≡ true) where
     saved t l =
         let new : shared (labels (saves H.mask)) (labels (prologue H)) ≡ false = rw (saves_labels H.mask) in
         subst (λ (k : ℕ). Agrees b (then (unless k 1 (only H)) K) (next (put 0 0 (saves H.mask) t) 1 f)) (room_space (length b) (prologue H) (saves H.mask) new)
-        (put-agrees b (prologue H) (replicate (jumps (prologue H)) 1) t l (saves H.mask) 0 0 (fit_labelled (saves H.mask) (saves_fit H.mask)) (rw (saves_labels H.mask) tt) refl 1 f Program (only H) K
+        (put_agrees b (prologue H) (replicate (jumps (prologue H)) 1) t l (saves H.mask) 0 0 (fit_labelled (saves H.mask) (saves_fit H.mask)) (rw (saves_labels H.mask) tt) refl 1 f Program (only H) K
         (λ u m. more u (entered u m)))
 
-    pub enter-agrees : (s : State) → Represents b [] [] s → Agrees b (then (unless (room_number (length b) [] (prologue H ++ saves H.mask)) 1 (only H)) K) (enter_run H s f)
+    pub enter_agrees : (s : State) → Represents b [] [] s → Agrees b (then (unless (room_number (length b) [] (prologue H ++ saves H.mask)) 1 (only H)) K) (enter_run H s f)
     unfolding enter_run labels
-    enter-agrees s a =
+    enter_agrees s a =
         subst (λ (k : ℕ). Agrees b (then (unless k 1 (only H)) K) (next (put 1 (prologue_fault H) (prologue H) s) 1 (λ (t : State). next (put 0 0 (saves H.mask) t) 1 f))) (sym (room_space (length b) [] (prologue H ++ saves H.mask) (shared_none (labels (prologue H ++ saves H.mask)))))
-        (part-agrees b [] [] s a (prologue H) 1 (prologue_fault H) (fit_labelled (prologue H) (prologue_fit H)) (prologue_once H) fault_free 1 (λ (t : State). next (put 0 0 (saves H.mask) t) 1 f) (saves H.mask) (only H) K (shared_none (labels (prologue H)))
+        (part_agrees b [] [] s a (prologue H) 1 (prologue_fault H) (fit_labelled (prologue H) (prologue_fit H)) (prologue_once H) fault_free 1 (λ (t : State). next (put 0 0 (saves H.mask) t) 1 f) (saves H.mask) (only H) K (shared_none (labels (prologue H)))
         saved)
 
 -- ---- the file
@@ -89,7 +89,7 @@ module _ (b : List ℕ) (s : State) (a : Represents b [] [] s) where
   head_agrees ts (refused n place) e = refuses n 1
   head_agrees ts (accepted (Deck.head h)) e =
       rw (then_then (unless (room_number (length b) [] (prologue h ++ saves h.mask)) 1 (only h)) (λ p. lines_read (length b) p ts) (ending b))
-      (enter-agrees b h e (λ (t : State). lines_run h 1 [] ts t) (λ p. then (lines_read (length b) p ts) (ending b)) (λ u g. lines_agrees b ts (only h) [] u g) s a)
+      (enter_agrees b h e (λ (t : State). lines_run h 1 [] ts t) (λ p. then (lines_read (length b) p ts) (ending b)) (λ u g. lines_agrees b ts (only h) [] u g) s a)
   head_agrees ts (accepted (Deck.order o)) e = refuses 12 1
   head_agrees ts (accepted (Deck.constant c)) e = refuses 12 1
 

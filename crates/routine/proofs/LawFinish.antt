@@ -96,11 +96,11 @@ entry_good len n (some p) h l f =
     let q = h p refl in
     let a : (p + 1 + 2 ^ 32 * n) / 2 ^ 32 ≤ 4096 = omega arith in
     let b : (p + 1 + 2 ^ 32 * n) % 2 ^ 32 - 1 ≡ p = omega arith in
-    rw (le-leb ((p + 1 + 2 ^ 32 * n) / 2 ^ 32) 4096 a, b, le-leb p len q.0, eq-eqb (p % 4) 0 q.1) (or-true (not (is_set (p + 1 + 2 ^ 32 * n))))
+    rw (le-leb ((p + 1 + 2 ^ 32 * n) / 2 ^ 32) 4096 a, b, le-leb p len q.0, eq-eqb (p % 4) 0 q.1) (or_true (not (is_set (p + 1 + 2 ^ 32 * n))))
   where
-    or-true : (t : Bool) → (t || true) ≡ true
-    or-true true = refl
-    or-true false = refl
+    or_true : (t : Bool) → (t || true) ≡ true
+    or_true true = refl
+    or_true false = refl
 
 kind_small : (k : JumpKind) → ltb (kind_number k) 6 ≡ true
 kind_small Auipc = refl
@@ -225,16 +225,16 @@ module _ (b : List ℕ) (is : List Item) (ts : List ℕ) (s : State) (a : Repres
       (ap (λ (k : ℕ). Finish.ended k s) k, q.1)
 
   module _ (e : first_line (unset is) (jumps_in 0 is) ts ≡ none) where
-    pub ends-far : (line : ℕ) → first_line (far is) (jumps_in 0 is) ts ≡ some line → (finish s ≡ about 6 s) × ((about 6 s).tag ≡ line)
+    pub ends_far : (line : ℕ) → first_line (far is) (jumps_in 0 is) ts ≡ some line → (finish s ≡ about 6 s) × ((about 6 s).tag ≡ line)
     unfolding finish
-    ends-far line g =
+    ends_far line g =
         let q = found 6 line (six e ∙ g) in
         let k : finish_number s ≡ 6 = number_is ∙ rw (not_found 5 (five ∙ e), q.0) in
         (ap (λ (k : ℕ). Finish.ended k s) k, q.1)
 
-    pub ends-well : first_line (far is) (jumps_in 0 is) ts ≡ none → finish s ≡ record { answer = accepted tt; tag = 0; state = Finish.finished s }
+    pub ends_well : first_line (far is) (jumps_in 0 is) ts ≡ none → finish s ≡ record { answer = accepted tt; tag = 0; state = Finish.finished s }
     unfolding finish
-    ends-well g =
+    ends_well g =
         let k : finish_number s ≡ 0 = number_is ∙ rw (not_found 5 (five ∙ e), not_found 6 (six e ∙ g)) in
         ap (λ (k : ℕ). Finish.ended k s) k
 
@@ -265,8 +265,8 @@ module _ (b : List ℕ) (p : Program) (s : State) (a : Represents b (items p) (j
           let r = ends_unset b (items p) (jump_lines p) s a f line e in
           rw r.0 (ap (refused 5) r.1, laid_unmade b (items p) (jump_lines p) s a)
       by none (some line) e g =
-          let r = ends-far b (items p) (jump_lines p) s a f e line g in
+          let r = ends_far b (items p) (jump_lines p) s a f e line g in
           rw r.0 (ap (refused 6) r.1, laid_unmade b (items p) (jump_lines p) s a)
       by none none e g =
-          let r = ends-well b (items p) (jump_lines p) s a f e g in
+          let r = ends_well b (items p) (jump_lines p) s a f e g in
           rw r (rw (x, y, a.len, span_words (items p), a.count), left (ap (λ (t : FinishOutcome). t.answer) r) (ap (λ (t : FinishOutcome). t.state) r))

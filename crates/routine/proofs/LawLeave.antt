@@ -30,7 +30,7 @@ use Rattle.routine.specs.Run.{RunOutcome, next, finish_run, constants_run, const
 use Rattle.routine.proofs.LawRoom.{Once, span_words, space_number, room_space}
 use Rattle.base.proofs.Each.{Each, each_map}
 use Rattle.routine.proofs.LawFit.{Fit, fit_append, fit_labelled, epilogue_fit, reloads_fit, padding_fit, padding_labels, padding_jumps, data_fit, each_append, shared_not, exit_late, epilogue_once, epilogue_labels, reloads_labels, reloads_jumps, data_labels}
-use Rattle.routine.proofs.LawParts.{Agrees, part-agrees}
+use Rattle.routine.proofs.LawParts.{Agrees, part_agrees}
 use Rattle.routine.proofs.LawFinish.{finish_agrees}
 
 -- ---- constants
@@ -59,7 +59,7 @@ module _ (b : List ℕ) (line : ℕ) (x : Program) (g : Program → Answer Progr
   unfolding constants_from constants_run jumps targets labels
   constants_agrees [] k is ts s a u h more = rw (space_left b is ts s a) (more s (rw (append-nil is) a))
   constants_agrees (c ∷ cs) k is ts s a u h more =
-      part-agrees b is ts s a (constant_items k c) 0 (constant_fault k) (omega arith, tt) (refl, tt) (rw (le-leb k 1007 (omega arith))) line
+      part_agrees b is ts s a (constant_items k c) 0 (constant_fault k) (omega arith, tt) (refl, tt) (rw (le-leb k 1007 (omega arith))) line
       (λ (t : State). constants_run line (suc k) cs t f) (constants_from (suc k) (map constant_bits cs)) x g
       (shared_not (λ l. (1024 + k ≤ l) × (l ≤ 2031)) (Unused k) (λ l p q. q p.0 p.1) ((1024 + k) ∷ []) (labels is) ((omega arith, omega arith), tt) u)
       (λ t l. constants_agrees cs (suc k) (is ++ constant_items k c) ts t (rw (append-nil ts) at l) (unused_next k c is u) (omega arith)
@@ -192,7 +192,7 @@ module _ (b : List ℕ) (p : Program) (cs : List Constant) (s : State) (a : Repr
       → Agrees b (then (unless (space_number (length b) Ended (data_items p)) (last_line p) p) finished) (padding_then p.head (last_line p) cs u)
   after_epilogue u l =
       rw (pad_is u (jump_lines p) l)
-      (part-agrees b Ended (jump_lines p) u l (pad p) 0 0 (fit_labelled (pad p) (padding_fit _ _)) (rw (padding_labels (span (code_items p)) (length (constants p.lines))) tt) refl (last_line p)
+      (part_agrees b Ended (jump_lines p) u l (pad p) 0 0 (fit_labelled (pad p) (padding_fit _ _)) (rw (padding_labels (span (code_items p)) (length (constants p.lines))) tt) refl (last_line p)
       (constants_then p.head (last_line p) cs) consts p finished (rw (padding_labels (span (code_items p)) (length (constants p.lines))))
       (λ v m. after_padding v (subst (λ (ts : List ℕ). Represents b (Ended ++ pad p) ts v) no_tags m)))
 
@@ -203,7 +203,7 @@ module _ (b : List ℕ) (p : Program) (cs : List Constant) (s : State) (a : Repr
   after_reloads : (t : State) → Represents b (B ++ reloads p.head.mask) (tags_so_far p ++ replicate (jumps (reloads p.head.mask)) 0) t
       → Agrees b (then (unless (space_number (length b) (B ++ reloads p.head.mask) (epilogue p.head ++ data_items p)) (last_line p) p) finished) (closing t)
   after_reloads t l =
-      part-agrees b (B ++ reloads p.head.mask) (tags_so_far p ++ replicate (jumps (reloads p.head.mask)) 0) t l (epilogue p.head) (last_line p) (epilogue_fault p.head)
+      part_agrees b (B ++ reloads p.head.mask) (tags_so_far p ++ replicate (jumps (reloads p.head.mask)) 0) t l (epilogue p.head) (last_line p) (epilogue_fault p.head)
       (fit_labelled (epilogue p.head) (epilogue_fit p.head)) (epilogue_once p.head) (rw g) (last_line p)
       (padding_then p.head (last_line p) cs) (data_items p) p finished (epilogue_new p B e)
       (λ u m. after_epilogue u (subst (λ (ts : List ℕ). Represents b Ended ts u) (tags_all p) m))
@@ -220,5 +220,5 @@ module _ (b : List ℕ) (p : Program) (cs : List Constant) (s : State) (a : Repr
   unfolding closed_off leave_run
   leave_agrees =
       subst (λ (k : ℕ). Agrees b (then (unless k (last_line p) p) finished) (next (put 0 0 (reloads p.head.mask) s) (last_line p) closing)) (sym number_is)
-      (part-agrees b B (tags_so_far p) s a (reloads p.head.mask) 0 0 (fit_labelled (reloads p.head.mask) (reloads_fit p.head.mask)) reloads_once refl (last_line p)
+      (part_agrees b B (tags_so_far p) s a (reloads p.head.mask) 0 0 (fit_labelled (reloads p.head.mask) (reloads_fit p.head.mask)) reloads_once refl (last_line p)
       closing (epilogue p.head ++ data_items p) p finished (reloads_new p B e) after_reloads)

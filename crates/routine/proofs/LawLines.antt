@@ -34,7 +34,7 @@ use Rattle.routine.specs.Run.{RunOutcome, refused_at, next, constant_run, line_r
 use Rattle.routine.proofs.LawFit.{Fit, fit_append, fit_labelled, code_fit, code_labels, each_append}
 use Rattle.base.proofs.Each.{Each, each_map}
 use Rattle.routine.proofs.LawJudged.{Said, line_said}
-use Rattle.routine.proofs.LawParts.{Agrees, then_then, laid_refuses, fault_agrees, put-agrees}
+use Rattle.routine.proofs.LawParts.{Agrees, then_then, laid_refuses, fault_agrees, put_agrees}
 use Rattle.routine.proofs.LawLeave.{Before, tags_so_far, leave_agrees}
 
 -- ---- one line more
@@ -123,21 +123,21 @@ module _ (b : List ℕ) (p : Program) (cs : List Constant) (s : State) (a : Goin
     refuses : (n line : ℕ) → Agrees b (refused n line) (refused_at n line s)
     refuses = laid_refuses b (entry p ++ body p.lines) (tags_so_far p) s a.laid
 
-    order-agrees : (o : Order) → fault o ≡ 0 → Agrees b (then (then (unless (order_number (length b) p o) (next_line p) (order o)) F) K) (next (emitted_in p.head (next_line p) o s) (next_line p) (more cs))
-    order-agrees o e = rw (deck_fault p.head o e, items_all o e) (by (index_holds p.head o) (saves_hold p.head.mask o))
+    order_agrees : (o : Order) → fault o ≡ 0 → Agrees b (then (then (unless (order_number (length b) p o) (next_line p) (order o)) F) K) (next (emitted_in p.head (next_line p) o s) (next_line p) (more cs))
+    order_agrees o e = rw (deck_fault p.head o e, items_all o e) (by (index_holds p.head o) (saves_hold p.head.mask o))
       where
         by : (t u : Bool)
             → Agrees b (then (then (unless (cond t (cond u (room_number (length b) (entry p ++ body p.lines) (code o)) 11) 9) (next_line p) (order o)) F) K)
             (next (put (next_line p) (cond t (cond u 0 11) 9) (code o) s) (next_line p) (more cs))
         by true true =
             rw (then_then (unless (room_number (length b) (entry p ++ body p.lines) (code o)) (next_line p) (order o)) F K)
-            (put-agrees b (entry p ++ body p.lines) (tags_so_far p) s a.laid (code o) (next_line p) 0 (fit_labelled (code o) (code_fit o e)) (code_labels o e).once refl (next_line p) (more cs) Line (order o) (λ l. then (F l) K)
+            (put_agrees b (entry p ++ body p.lines) (tags_so_far p) s a.laid (code o) (next_line p) 0 (fit_labelled (code o) (code_fit o e)) (code_labels o e).once refl (next_line p) (more cs) Line (order o) (λ l. then (F l) K)
             (λ t l. m (order o) cs t (going_order o t e l)))
         by true false = fault_agrees b (entry p ++ body p.lines) (tags_so_far p) s a.laid (code o) (next_line p) 10 (fit_labelled (code o) (code_fit o e)) (λ z. omega arith) (λ z. omega arith) (next_line p) (more cs)
         by false u = fault_agrees b (entry p ++ body p.lines) (tags_so_far p) s a.laid (code o) (next_line p) 8 (fit_labelled (code o) (code_fit o e)) (λ z. omega arith) (λ z. omega arith) (next_line p) (more cs)
 
-    constant-agrees : (c : Constant) → Agrees b (then (then (unless (constant_number p) (next_line p) (constant c)) F) K) (next (constant_run (length cs) s) (next_line p) (more (cs ++ (c ∷ []))))
-    constant-agrees c =
+    constant_agrees : (c : Constant) → Agrees b (then (then (unless (constant_number p) (next_line p) (constant c)) F) K) (next (constant_run (length cs) s) (next_line p) (more (cs ++ (c ∷ []))))
+    constant_agrees c =
         let n : length (constants p.lines) ≡ length cs = ap length (sym a.bits) ∙ length-map cs constant_bits in
         rw n (by (ltb (length cs) 1008) refl)
       where
@@ -147,12 +147,12 @@ module _ (b : List ℕ) (p : Program) (cs : List Constant) (s : State) (a : Goin
         by true q = m (constant c) (cs ++ (c ∷ [])) s (going_constant c (ltb-true (length cs) 1008 q))
         by false q = refuses 9 (next_line p)
 
-    pub line-agrees : (x : Answer Content) → Said x
+    pub line_agrees : (x : Answer Content) → Said x
         → Agrees b (then (then (then (placed_at (next_line p) x) (as_line (length b) p)) F) K) (next (line_run p.head (next_line p) (length cs) x s) (next_line p) (more (cs ++ waiting x)))
-    line-agrees (refused n place) e = refuses n (next_line p)
-    line-agrees (accepted (Deck.head h)) e = refuses 12 (next_line p)
-    line-agrees (accepted (Deck.order o)) e = rw (append-nil cs) (order-agrees o e)
-    line-agrees (accepted (Deck.constant c)) e = constant-agrees c
+    line_agrees (refused n place) e = refuses n (next_line p)
+    line_agrees (accepted (Deck.head h)) e = refuses 12 (next_line p)
+    line_agrees (accepted (Deck.order o)) e = rw (append-nil cs) (order_agrees o e)
+    line_agrees (accepted (Deck.constant c)) e = constant_agrees c
 
 -- ---- all lines behind line 1
 
@@ -167,6 +167,6 @@ module _ (b : List ℕ) where
   unfolding lines_read line_read lines_run
   lines_agrees [] p cs s a = leave_agrees b p cs s a.laid a.fit a.before a.bits a.few a.holds
   lines_agrees (t ∷ ts) p cs s a =
-      line-agrees b p cs s a (λ l. lines_read (length b) (with_line p l) ts) ending (λ (ds : List Constant) (u : State). lines_run p.head (next_line p) ds ts u)
+      line_agrees b p cs s a (λ l. lines_read (length b) (with_line p l) ts) ending (λ (ds : List Constant) (u : State). lines_run p.head (next_line p) ds ts u)
       (λ l ds u g. subst (λ (n : ℕ). Agrees b (then (lines_read (length b) (with_line p l) ts) ending) (lines_run p.head n ds ts u)) (line_after p l) (lines_agrees ts (with_line p l) ds u g))
       (line_judged false (said t)) (line_said false (said t))

@@ -14,7 +14,7 @@ use Rattle.assembler.specs.State.{State}
 use Rattle.base.proofs.Bools.{join}
 use Rattle.assembler.specs.Put.{words, jumps, labels, placed, put_number, settled, put}
 use Rattle.assembler.specs.Resolved.{jumps_in}
-use Rattle.assembler.proofs.Checks.{v-fault}
+use Rattle.assembler.proofs.Checks.{v_fault}
 use Rattle.assembler.proofs.Steps.{put_done, settled_no}
 use Rattle.finish.proofs.Represents.{Represents, Labelled, entry_of}
 use Rattle.finish.proofs.All.{put_represents}
@@ -23,7 +23,7 @@ use Rattle.reading.specs.Program.{Program}
 use Rattle.call.specs.Layout.{items, code_length, routine_words}
 use Rattle.routine.specs.Routine.{then, unless, shared, room_number, jump_lines, summary_of}
 use Rattle.routine.specs.Run.{RunOutcome, refused_at, next}
-use Rattle.routine.proofs.LawRoom.{Once, laid_size, laid_sound, numbers-known, put-room, space_number, room_space, space_none, space_part}
+use Rattle.routine.proofs.LawRoom.{Once, laid_size, laid_sound, numbers_known, put_room, space_number, room_space, space_none, space_part}
 
 -- ---- agreement
 
@@ -68,18 +68,18 @@ module _ (b : List ℕ) (is : List Item) (ts : List ℕ) (s : State) (a : Repres
   pub fault_agrees : (js : List Item) (tag k : ℕ) → Labelled js → (suc k ≡ 1 → ⊥) → (suc k ≡ 3 → ⊥) → (line : ℕ) (f : State → RunOutcome) → Agrees b (refused (suc k) line) (next (put tag (suc k) js s) line f)
   unfolding put
   fault_agrees js tag k lab h g line f =
-      let q : suc k ≡ put_number (suc k) js s = v-fault (suc k) _ _ _ _ a.unclosed h g (join _ _ (numbers-known b is ts s a js lab) (laid_sound b is ts s a)) (λ z. omega arith) in
+      let q : suc k ≡ put_number (suc k) js s = v_fault (suc k) _ _ _ _ a.unclosed h g (join _ _ (numbers_known b is ts s a js lab) (laid_sound b is ts s a)) (λ z. omega arith) in
       rw (← q, settled_no (suc k) s (placed tag js s) (λ z. omega arith)) (laid_refuses (suc k) line)
 
   module _ (js : List Item) (tag fault : ℕ) (h : Labelled js) (o : Once (labels js)) (z : fault ≡ 0) where
     number_is : put_number fault js s ≡ room_number (length b) is js
-    number_is = ap (λ (k : ℕ). put_number k js s) z ∙ put-room b is ts s a js h o
+    number_is = ap (λ (k : ℕ). put_number k js s) z ∙ put_room b is ts s a js h o
 
     done : room_number (length b) is js ≡ 0 → put tag fault js s ≡ record { answer = accepted tt; state = placed tag js s }
     done e = sym (put_done tag fault js s (placed tag js s) (number_is ∙ e) refl)
 
-    done-laid : room_number (length b) is js ≡ 0 → Represents b (is ++ js) (ts ++ replicate (jumps js) tag) (placed tag js s)
-    done-laid e = put_represents b is js ts tag fault s (placed tag js s) a h (done e)
+    done_laid : room_number (length b) is js ≡ 0 → Represents b (is ++ js) (ts ++ replicate (jumps js) tag) (placed tag js s)
+    done_laid e = put_represents b is js ts tag fault s (placed tag js s) a h (done e)
 
     not_done : (k : ℕ) → room_number (length b) is js ≡ suc k → put tag fault js s ≡ record { answer = refused (suc k) 0; state = s }
     unfolding put
@@ -91,24 +91,24 @@ module _ (b : List ℕ) (is : List Item) (ts : List ℕ) (s : State) (a : Repres
       not_agrees : (k : ℕ) → room_number (length b) is js ≡ suc k → Agrees b (refused (suc k) line) (next (put tag fault js s) line f)
       not_agrees k e = rw (not_done k e) (laid_refuses (suc k) line)
 
-      pub put-agrees : (A : Type 0) (x : A) (g : A → Answer Program)
+      pub put_agrees : (A : Type 0) (x : A) (g : A → Answer Program)
           → ((t : State) → Represents b (is ++ js) (ts ++ replicate (jumps js) tag) t → Agrees b (g x) (f t))
           → Agrees b (then (unless (room_number (length b) is js) line x) g) (next (put tag fault js s) line f)
-      put-agrees A x g more = by (room_number (length b) is js) refl
+      put_agrees A x g more = by (room_number (length b) is js) refl
         where
           by : (k : ℕ) → room_number (length b) is js ≡ k → Agrees b (then (unless k line x) g) (next (put tag fault js s) line f)
-          by zero e = rw (done e) (more (placed tag js s) (done-laid e))
+          by zero e = rw (done e) (more (placed tag js s) (done_laid e))
           by (suc k) e = not_agrees k e
 
       -- with new labels, and others to come that need room too
-      pub part-agrees : (ks : List Item) (x : Program) (g : Program → Answer Program) → shared (labels js) (labels is) ≡ false
+      pub part_agrees : (ks : List Item) (x : Program) (g : Program → Answer Program) → shared (labels js) (labels is) ≡ false
           → ((t : State) → Represents b (is ++ js) (ts ++ replicate (jumps js) tag) t → Agrees b (then (unless (space_number (length b) (is ++ js) ks) line x) g) (f t))
           → Agrees b (then (unless (space_number (length b) is (js ++ ks)) line x) g) (next (put tag fault js s) line f)
-      part-agrees ks x g new more = by (space_number (length b) is js) refl
+      part_agrees ks x g new more = by (space_number (length b) is js) refl
         where
           n : room_number (length b) is js ≡ space_number (length b) is js
           n = room_space (length b) is js new
 
           by : (k : ℕ) → space_number (length b) is js ≡ k → Agrees b (then (unless (space_number (length b) is (js ++ ks)) line x) g) (next (put tag fault js s) line f)
-          by zero e = rw (done (n ∙ e), space_part (length b) is js ks) (more (placed tag js s) (done-laid (n ∙ e)))
+          by zero e = rw (done (n ∙ e), space_part (length b) is js ks) (more (placed tag js s) (done_laid (n ∙ e)))
           by (suc k) e = rw (space_none (length b) is js ks k e) (not_agrees k (n ∙ e))

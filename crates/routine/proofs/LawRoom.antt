@@ -141,32 +141,32 @@ module _ (b : List ℕ) (is : List Item) (ts : List ℕ) (s : State) (a : Repres
   made_few l h = omega (arith, made_among l h, times_few l (targets is), jumps_are is)
 
   module _ (js : List Item) (h : Labelled js) where
-    pub numbers-known : numbers_sound s.labels (targets js) ≡ true
-    numbers-known =
+    pub numbers_known : numbers_sound s.labels (targets js) ≡ true
+    numbers_known =
         all_is (number_holds s.labels 0) (targets js)
         (λ l k. let q = targets_low js h l k in holds_is s.labels 0 l q (omega (arith, made_few l q, a.few)))
 
-    numbers-room : jumps is + jumps js ≤ 4096 → numbers_fit s.labels (targets js) ≡ true
-    numbers-room r =
+    numbers_room : jumps is + jumps js ≤ 4096 → numbers_fit s.labels (targets js) ≡ true
+    numbers_room r =
         all_is (λ (k : ℕ). number_holds s.labels (times k (targets js)) k) (targets js)
         (λ l k. let q = targets_low js h l k in holds_is s.labels (times l (targets js)) l q (omega (arith, made_few l q, times_few l (targets js), jumps_are js)))
 
-    fits-span : fits (length s.buf) s.asm (length (words js)) (length (targets js)) ≡ (leb (span is + span js) (room (length b)) && leb (jumps is + jumps js) 4096)
+    fits_span : fits (length s.buf) s.asm (length (words js)) (length (targets js)) ≡ (leb (span is + span js) (room (length b)) && leb (jumps is + jumps js) 4096)
     unfolding fits
-    fits-span = rw (a.len, a.count, span_words is, span_words js, laid_size, ← jumps_are js)
+    fits_span = rw (a.len, a.count, span_words is, span_words js, laid_size, ← jumps_are js)
 
     -- where the jumps fit, so do the numbers
     fits_all : numbers_fit s.labels (targets js) && fits (length s.buf) s.asm (length (words js)) (length (targets js)) ≡ (leb (span is + span js) (room (length b)) && leb (jumps is + jumps js) 4096)
-    fits_all = rw fits-span (by (leb (span is + span js) (room (length b))) (leb (jumps is + jumps js) 4096) refl)
+    fits_all = rw fits_span (by (leb (span is + span js) (room (length b))) (leb (jumps is + jumps js) 4096) refl)
       where
         by : (t u : Bool) → leb (jumps is + jumps js) 4096 ≡ u → numbers_fit s.labels (targets js) && (t && u) ≡ t && u
-        by t true q = rw (numbers-room (leb-true (jumps is + jumps js) 4096 q))
+        by t true q = rw (numbers_room (leb-true (jumps is + jumps js) 4096 q))
         by true false q = and_false (numbers_fit s.labels (targets js))
         by false false q = and_false (numbers_fit s.labels (targets js))
 
-    pub put-room : Once (labels js) → put_number 0 js s ≡ room_number (length b) is js
-    put-room o =
-        ranked_none _ _ _ _ a.unclosed (join _ _ numbers-known laid_sound)
+    pub put_room : Once (labels js) → put_number 0 js s ≡ room_number (length b) is js
+    put_room o =
+        ranked_none _ _ _ _ a.unclosed (join _ _ numbers_known laid_sound)
         ∙ ap₂ (λ (t u : Bool). cond t 4 (cond u 0 7)) (twice_shared s.labels (labels is) set_among (labels js) (labelled_each js h) o) fits_all
 
 -- ---- new labels: only room counts

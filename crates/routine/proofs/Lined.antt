@@ -100,13 +100,13 @@ module _ (file : List ℕ) (s : State) where
   file_long h = rw (lt-leb (length file) 65536 h)
 
   module _ (h : length file ≤ 65536) where
-    pub file-empty : lines_of file ≡ [] → no Line 1 s ≡ file_run file s
+    pub file_empty : lines_of file ≡ [] → no Line 1 s ≡ file_run file s
     unfolding file_run
-    file-empty e = rw (le-leb (length file) 65536 h, e)
+    file_empty e = rw (le-leb (length file) 65536 h, e)
 
-    pub file-goes : (t : List ℕ) (ts : List (List ℕ)) → lines_of file ≡ t ∷ ts → (x : Answer Content) → x ≡ line_judged true (said t) → head_run x ts s ≡ file_run file s
+    pub file_goes : (t : List ℕ) (ts : List (List ℕ)) → lines_of file ≡ t ∷ ts → (x : Answer Content) → x ≡ line_judged true (said t) → head_run x ts s ≡ file_run file s
     unfolding file_run
-    file-goes t ts i x e = rw (le-leb (length file) 65536 h, i, e)
+    file_goes t ts i x e = rw (le-leb (length file) 65536 h, i, e)
 
 -- ---- the whole
 

@@ -77,9 +77,9 @@ module _ (H : Head) (line : ℕ) (cs : List Constant) (s : State) (d : EmitResul
   reloads_stop r place h = rw (← e, h)
 
   module _ (i : d.answer ≡ Accepted) (g : EmitResult) (ls₂ js₂ b₂ : List ℕ) (u : outcome g ls₂ js₂ b₂ ≡ put line (epilogue_fault H) (epilogue H) (state d.asm ls js b)) where
-    pub epilogue-then : leave_run H line cs s ≡ next (outcome g ls₂ js₂ b₂) line (padding_then H line cs)
+    pub epilogue_then : leave_run H line cs s ≡ next (outcome g ls₂ js₂ b₂) line (padding_then H line cs)
     unfolding leave_run
-    epilogue-then = rw (← e, i, ← u)
+    epilogue_then = rw (← e, i, ← u)
 
 pub padding_goes : (H : Head) (line : ℕ) (cs : List Constant) (s : State) (n : ℕ) → length cs ≡ n → (o : Outcome) → o ≡ put 0 0 (padding s.asm.len n) s → padding_then H line cs s ≡ next o line (constants_then H line cs)
 padding_goes H line cs s n k o e = rw (e, ← k)

@@ -42,25 +42,25 @@ module _ (file ps : List ℕ) (n : ℕ) (h : n ≤ length ps) where
   places_length = length-map (take n ps) (constant_at file) ∙ length-take-le n ps h
 
   module _ (k : ℕ) where
-    pub places-done : n ≤ k → (s : State) (line : ℕ) (f : State → RunOutcome) → constants_run line k (constants_at file (drop k (take n ps))) s f ≡ f s
+    pub places_done : n ≤ k → (s : State) (line : ℕ) (f : State → RunOutcome) → constants_run line k (constants_at file (drop k (take n ps))) s f ≡ f s
     unfolding constants_at constants_run
-    places-done g s line f =
+    places_done g s line f =
         let y : length (take n ps) ≤ k = omega (arith, length-take-le n ps h) in
         rw (drop_of_length-le (take n ps) y)
 
-    place-next : k < n → constants_at file (drop k (take n ps)) ≡ constant_at file (get_or ps k 0) ∷ constants_at file (drop (k + 1) (take n ps))
+    place_next : k < n → constants_at file (drop k (take n ps)) ≡ constant_at file (get_or ps k 0) ∷ constants_at file (drop (k + 1) (take n ps))
     unfolding constants_at
-    place-next g =
+    place_next g =
         let y : k < length (take n ps) = omega (arith, length-take-le n ps h) in
         rw (drop-cons (take n ps) k 0 y, get_or-take n ps k 0 g, add-one k)
 
     -- the constant c at place k does what `d` tells
     module _ (g : k < n) (c : Constant) (i : c ≡ constant_at file (get_or ps k 0)) (s : State) (d : EmitResult) (ls js b : List ℕ)
         (e : outcome d ls js b ≡ put 0 (constant_fault k) (constant_items k c) s) (line : ℕ) (f : State → RunOutcome) where
-      pub place-stops : (r : Refusal) (place : ℕ) → d.answer ≡ Refused r place
+      pub place_stops : (r : Refusal) (place : ℕ) → d.answer ≡ Refused r place
           → constants_run line k (constants_at file (drop k (take n ps))) s f ≡ next (outcome d ls js b) line f
-      place-stops = constants_stop line k _ (constants_at file (drop (k + 1) (take n ps))) (constant_at file (get_or ps k 0)) (place-next g) s d ls js b (rw i at e) f
+      place_stops = constants_stop line k _ (constants_at file (drop (k + 1) (take n ps))) (constant_at file (get_or ps k 0)) (place_next g) s d ls js b (rw i at e) f
 
-      pub place-goes : d.answer ≡ Accepted
+      pub place_goes : d.answer ≡ Accepted
           → constants_run line k (constants_at file (drop k (take n ps))) s f ≡ constants_run line (k + 1) (constants_at file (drop (k + 1) (take n ps))) (state d.asm ls js b) f
-      place-goes = constants_go line k _ (constants_at file (drop (k + 1) (take n ps))) (constant_at file (get_or ps k 0)) (place-next g) s d ls js b (rw i at e) f
+      place_goes = constants_go line k _ (constants_at file (drop (k + 1) (take n ps))) (constant_at file (get_or ps k 0)) (place_next g) s d ls js b (rw i at e) f

@@ -32,11 +32,11 @@ use Rattle.stale.proofs.Texts.{same_text, refusal_short}
 
 module _ (file m : List ℕ) (asm : Asm) (a : RoutineAnswer) where
   module _ (l o k j : ℕ) (f : Frame) (e : a ≡ Accepted l o k j f) where
-    pub accepted-within : Within (routine_answer a) file → length file ≤ 65536
-    accepted-within w = rw e at w
+    pub accepted_within : Within (routine_answer a) file → length file ≤ 65536
+    accepted_within w = rw e at w
 
-    pub accepted-said : (out after : List ℕ) (r : Text) → Says (memory_text file m asm) out r after → Says (summary_text (routine_answer a) file m asm) out r after
-    accepted-said out after r s = rw e s
+    pub accepted_said : (out after : List ℕ) (r : Text) → Says (memory_text file m asm) out r after → Says (summary_text (routine_answer a) file m asm) out r after
+    accepted_said out after r s = rw e s
 
   pub refusal_said : (why : Refusal) (line n : ℕ) → a ≡ Refused why line → n ≡ number_of why → n < 256 → line < 2 ^ 32 → (out after : List ℕ) (r : Text) → Puts (refusal_line n line) 0 out r after → Says (summary_text (routine_answer a) file m asm) out r after
   refusal_said why line n e h x y out after r p = rw (e, ← h) (p, refusal_short n line x y)
@@ -63,11 +63,11 @@ module _ (file js b : List ℕ) (wide : length js ≡ 20480) (full : length b �
   text_is (refused n line) e = refl
 
   module _ (r : RoutineResult) (labels jumps buf : List ℕ) (e : run_outcome r labels jumps buf ≡ run file js b) where
-    answer-is : routine_answer r.answer ≡ summary_answer (program_of 65536 file)
-    answer-is = ap (λ (m : RunOutcome). m.answer) e ∙ answered
+    answer_is : routine_answer r.answer ≡ summary_answer (program_of 65536 file)
+    answer_is = ap (λ (m : RunOutcome). m.answer) e ∙ answered
 
     pub is_within : Within (routine_answer r.answer) file
-    is_within = rw answer-is (within (program_of 65536 file) refl)
+    is_within = rw answer_is (within (program_of 65536 file) refl)
 
     pub deck_told : (out after : List ℕ) (t : Text) → Says (summary_text (routine_answer r.answer) file labels r.asm) out t after
         → Puts (deck_labels file) 0 out t after × (routine_answer r.answer ≡ summary_answer (program_of 65536 file)) × (length (deck_labels file) ≤ 11264)
@@ -75,6 +75,6 @@ module _ (file js b : List ℕ) (wide : length js ≡ 20480) (full : length b �
     deck_told out after t s =
         let k : labels ≡ (run file js b).state.labels = ap (λ (m : RunOutcome). m.state.labels) e in
         let a : r.asm ≡ (run file js b).state.asm = ap (λ (m : RunOutcome). m.state.asm) e in
-        let q : summary_text (routine_answer r.answer) file labels r.asm ≡ program_labels (program_of 65536 file) = rw (answer-is, k, a) (text_is (program_of 65536 file) refl) in
+        let q : summary_text (routine_answer r.answer) file labels r.asm ≡ program_labels (program_of 65536 file) = rw (answer_is, k, a) (text_is (program_of 65536 file) refl) in
         let u = rw q at s in
-        (u.0, answer-is, u.1)
+        (u.0, answer_is, u.1)

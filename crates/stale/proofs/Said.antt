@@ -52,31 +52,31 @@ module _ (m : List ℕ) (a : Asm) where
         (in_front z (unused_in m) (few m))
         (omega arith, refl)))
 
-    pub list-room : n ≤ length list
-    list-room = whole.0
+    pub list_room : n ≤ length list
+    list_room = whole.0
 
     -- ---- its text
 
     module _ (file found : List ℕ) (f : (l : ℕ) → l < 1024 → (line_in found l ≡ file_line file l) × (line_in found l ≤ 65536)) where
-      pub list-text : labels_text (line_in found) (take n list) ≡ memory_text file m a
-      list-text = ap (labels_text (line_in found)) whole.1 ∙ same_text (line_in found) (file_line file) (λ l h. (f l h).0) (list_of (listed m a))
+      pub list_text : labels_text (line_in found) (take n list) ≡ memory_text file m a
+      list_text = ap (labels_text (line_in found)) whole.1 ∙ same_text (line_in found) (file_line file) (λ l h. (f l h).0) (list_of (listed m a))
 
       short : length (labels_text (line_in found) (list_of (listed m a))) ≤ 11264
       unfolding labels_text
       short = list_cases (λ x. length (labels_text (line_in found) (list_of x)) ≤ 11264) (labels_short (line_in found) (λ l h. (f l h).1) _ 2039) (omega arith)
 
-      pub text-short : length (labels_text (line_in found) (take n list)) ≤ 11264
-      text-short = rw whole.1 short
+      pub text_short : length (labels_text (line_in found) (take n list)) ≤ 11264
+      text_short = rw whole.1 short
 
       -- the text that was put over zeros, and from there into the buffer
       module _ (text : List ℕ) (k : ℕ) (p : text ≡ sets (replicate 11264 0) 0 (labels_text (line_in found) (take n list))) (q : k ≡ length (labels_text (line_in found) (take n list))) where
         pub text_room : k ≤ length text
         text_room =
             let l : length (replicate {A = ℕ} 11264 0) ≡ 11264 = length-replicate {A = ℕ} 11264 0 in
-            omega (arith, text-short, ap length p, length-sets (replicate 11264 0) 0 (labels_text (line_in found) (take n list)))
+            omega (arith, text_short, ap length p, length-sets (replicate 11264 0) 0 (labels_text (line_in found) (take n list)))
 
         pub said : (out after : List ℕ) (r : Text) → Puts (take k text) 0 out r after → Says (memory_text file m a) out r after
         said out after r u =
             let l : length (replicate {A = ℕ} 11264 0) ≡ 11264 = length-replicate {A = ℕ} 11264 0 in
-            let t : take k text ≡ memory_text file m a = ap (λ (j : ℕ). take j text) q ∙ ap (take (length (labels_text (line_in found) (take n list)))) p ∙ front (replicate 11264 0) (labels_text (line_in found) (take n list)) (omega (arith, text-short)) ∙ list-text in
-            (rw t at u, rw list-text at text-short)
+            let t : take k text ≡ memory_text file m a = ap (λ (j : ℕ). take j text) q ∙ ap (take (length (labels_text (line_in found) (take n list)))) p ∙ front (replicate 11264 0) (labels_text (line_in found) (take n list)) (omega (arith, text_short)) ∙ list_text in
+            (rw t at u, rw list_text at text_short)

@@ -125,22 +125,22 @@ module _ (s : List ℕ) where
   word_starts = (omega arith, omega arith, refl)
 
   module _ (h : length s ≡ 16) where
-    has-16 : read_word s ≡ read_from 16 0 s
+    has_16 : read_word s ≡ read_from 16 0 s
     unfolding read_word
-    has-16 = rw (eq-eqb (length s) 16 h)
+    has_16 = rw (eq-eqb (length s) 16 h)
 
     module _ (v i : ℕ) (b : Wording v i) where
-      pub word-ends : 16 ≤ i → Word.Is v ≡ word (read_word s)
+      pub word_ends : 16 ≤ i → Word.Is v ≡ word (read_word s)
       unfolding read_from
-      word-ends g = let ended : length s ≤ i = omega arith in rw (has-16, b.2, drop_of_length-le s ended)
+      word_ends g = let ended : length s ≤ i = omega arith in rw (has_16, b.2, drop_of_length-le s ended)
 
       module _ (g : i < 16) where
         left : drop i s ≡ get_or s i 0 ∷ drop (i + 1) s
         left = at s i (omega arith)
 
-        pub word-bad : 15 < digit_value (get_or s i 0) → Word.Malformed ≡ word (read_word s)
+        pub word_bad : 15 < digit_value (get_or s i 0) → Word.Malformed ≡ word (read_word s)
         unfolding read_from
-        word-bad d = rw (has-16, b.2, left, le-ltb (digit_value (get_or s i 0)) 16 (omega arith))
+        word_bad d = rw (has_16, b.2, left, le-ltb (digit_value (get_or s i 0)) 16 (omega arith))
 
         module _ (d : ℕ) (e : d ≡ digit_value (get_or s i 0)) (k : d ≤ 15) where
           more : v * 16 + d < 16 ^ (i + 1)

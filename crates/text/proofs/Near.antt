@@ -74,9 +74,9 @@ module _ (s : List ℕ) (a : ℕ) where
 
   module _ (e : ℕ) (h : a + 2 < length s) (q : e ≡ cond (eqb (get_or s (a + 1) 0) 44) (a + 1) (a + 2)) where
     -- an empty field
-    comma-first : get_or s a 0 ≡ 44 → 100 ≤ short_of (field (drop a s))
+    comma_first : get_or s a 0 ≡ 44 → 100 ≤ short_of (field (drop a s))
     unfolding upto
-    comma-first k = rw (at s a (omega arith), eq-eqb _ _ k) (omega (arith, no_bytes [] refl))
+    comma_first k = rw (at s a (omega arith), eq-eqb _ _ k) (omega (arith, no_bytes [] refl))
 
     long : (get_or s a 0 ≡ 44 → ⊥) → (get_or s (a + 1) 0 ≡ 44 → ⊥) → (get_or s (a + 2) 0 ≡ 44 → ⊥) → 100 ≤ short_of (field (drop a s))
     unfolding upto
@@ -85,15 +85,15 @@ module _ (s : List ℕ) (a : ℕ) where
         rw (at s a (omega arith), at s (a + 1) (omega arith), x, at s (a + 2) h, ne_eqb _ _ f, ne_eqb _ _ g, ne_eqb _ _ k)
         (long_field _ 2 (omega arith) (omega arith) (omega arith))
 
-    pub no-comma : (get_or s e 0 ≡ 44 → ⊥) → found 100 a ≡ near s a
-    no-comma n = large (go (eqb (get_or s a 0) 44) refl)
+    pub no_comma : (get_or s e 0 ≡ 44 → ⊥) → found 100 a ≡ near s a
+    no_comma n = large (go (eqb (get_or s a 0) 44) refl)
       where
         by : (get_or s a 0 ≡ 44 → ⊥) → (t : Bool) → eqb (get_or s (a + 1) 0) 44 ≡ t → e ≡ cond t (a + 1) (a + 2) → 100 ≤ short_of (field (drop a s))
         by f true u v = absurd (n (rw v (eqb-true _ _ u)))
         by f false u v = long f (eqb-false _ _ u) (rw v at n)
 
         go : (t : Bool) → eqb (get_or s a 0) 44 ≡ t → 100 ≤ short_of (field (drop a s))
-        go true u = comma-first (eqb-true _ _ u)
+        go true u = comma_first (eqb-true _ _ u)
         go false u = by (eqb-false _ _ u) (eqb (get_or s (a + 1) 0) 44) refl q
 
     module _ (k : get_or s e 0 ≡ 44) (above : a < e) (within : e ≤ a + 2) (x y : ℕ) (dx : Decimal (get_or s a 0) x) (dy : Decimal (get_or s (e - 1) 0) y) where
@@ -116,26 +116,26 @@ module _ (s : List ℕ) (a : ℕ) where
         last : Decimal (get_or (take (e - a) (drop a s)) (length (take (e - a) (drop a s)) - 1) 0) y
         last = rw (size, byte (e - a - 1) (e - 1) (omega arith) (omega arith)) dy
 
-      none-if : ((get_or s a 0 ≡ 44 → ⊥) → 10000 ≡ short_of (take (e - a) (drop a s))) → found 100 a ≡ near s a
-      none-if p = large (go (eqb (get_or s a 0) 44) refl)
+      none_if : ((get_or s a 0 ≡ 44 → ⊥) → 10000 ≡ short_of (take (e - a) (drop a s))) → found 100 a ≡ near s a
+      none_if p = large (go (eqb (get_or s a 0) 44) refl)
         where
           go : (t : Bool) → eqb (get_or s a 0) 44 ≡ t → 100 ≤ short_of (field (drop a s))
-          go true u = comma-first (eqb-true _ _ u)
+          go true u = comma_first (eqb-true _ _ u)
           go false u = let f = eqb-false _ _ u in rw (is_field f) (omega (arith, p f))
 
-      pub near-low : x < e - a - 1 → found 100 a ≡ near s a
-      near-low l = none-if (λ f. first_low _ x (omega (arith, size f)) (first f) (omega (arith, size f)))
+      pub near_low : x < e - a - 1 → found 100 a ≡ near s a
+      near_low l = none_if (λ f. first_low _ x (omega (arith, size f)) (first f) (omega (arith, size f)))
 
       pub near_last : 9 < y → found 100 a ≡ near s a
-      near_last l = none-if (λ f. no_digit _ _ y (omega (arith, size f)) (last f) l)
+      near_last l = none_if (λ f. no_digit _ _ y (omega (arith, size f)) (last f) l)
 
-      pub near-above : y ≤ 9 → 99 < x * 10 * (e - a - 1) + y → found 100 a ≡ near s a
-      near-above g l =
+      pub near_above : y ≤ 9 → 99 < x * 10 * (e - a - 1) + y → found 100 a ≡ near s a
+      near_above g l =
           let m : x ≤ 9 → ⊥ = λ m. omega (arith, times_few (x * 10) (e - a - 1) 90 (omega arith) (omega arith)) in
-          none-if (λ f. no_digit _ 0 x (omega (arith, size f)) (first f) (omega (arith, m)))
+          none_if (λ f. no_digit _ 0 x (omega (arith, size f)) (first f) (omega (arith, m)))
 
-      pub near-yes : e - a - 1 ≤ x → y ≤ 9 → x * 10 * (e - a - 1) + y ≤ 99 → found (x * 10 * (e - a - 1) + y) e ≡ near s a
-      near-yes l g m =
+      pub near_yes : e - a - 1 ≤ x → y ≤ 9 → x * 10 * (e - a - 1) + y ≤ 99 → found (x * 10 * (e - a - 1) + y) e ≡ near s a
+      near_yes l g m =
           let b : x ≤ 9 = few_below (get_or s a 0) (get_or s (e - 1) 0) x y (e - a - 1) (omega arith) (λ z. ap (λ (i : ℕ). get_or s i 0) (omega arith)) dx dy g m in
           let f : get_or s a 0 ≡ 44 → ⊥ = λ f. omega (arith, rw f at (dx.0 (omega arith))) in
           let v : x * 10 * (e - a - 1) + y ≡ short_of (take (e - a) (drop a s)) = rw (size f) at (few_digits x y (take (e - a) (drop a s)) (omega (arith, size f)) (omega (arith, size f)) (first f) (last f) (omega (arith, size f)) b g) in

@@ -47,9 +47,9 @@ module _ (s : List ℕ) (i : ℕ) where
   at_end h = rw (drop_of_length-le s h)
 
   module _ (h : i < length s) where
-    pub at-comma : get_or s i 0 ≡ 44 → upto (drop i s) ≡ 0
+    pub at_comma : get_or s i 0 ≡ 44 → upto (drop i s) ≡ 0
     unfolding upto
-    at-comma e = rw (at s i h, eq-eqb _ _ e)
+    at_comma e = rw (at s i h, eq-eqb _ _ e)
 
     module _ (n : get_or s i 0 ≡ 44 → ⊥) where
       pub one_byte : upto (drop i s) ≡ suc (upto (drop (i + 1) s))
@@ -97,10 +97,10 @@ module _ (v c : ℕ) (t : List ℕ) where
 
   -- one digit more
   module _ (h : digit_value c < 10) where
-    pub rest-one : (i : ℕ) → (i ≡ 0 → v ≡ 0) → (v ≡ 0 → i ≡ 0) → rest_of i v (c ∷ t) ≡ rest_of (suc i) (v * 10 + digit_value c) t
+    pub rest_one : (i : ℕ) → (i ≡ 0 → v ≡ 0) → (v ≡ 0 → i ≡ 0) → rest_of i v (c ∷ t) ≡ rest_of (suc i) (v * 10 + digit_value c) t
     unfolding rest_of read_decimal read_from
-    rest-one zero f g = let z : 0 * 10 + digit_value c ≡ digit_value c = omega arith in rw (f refl, lt-ltb (digit_value c) 10 h, zero_byte c, z)
-    rest-one (suc i) f g =
+    rest_one zero f g = let z : 0 * 10 + digit_value c ≡ digit_value c = omega arith in rw (f refl, lt-ltb (digit_value c) 10 h, zero_byte c, z)
+    rest_one (suc i) f g =
         let n : v ≡ 0 → ⊥ = λ e. omega (arith, g e) in
         rw (ne_eqb v 0 n, lt-ltb (digit_value c) 10 h, ne_eqb (v * 10 + digit_value c) 0 (λ e. n (omega (arith, e))))
 
@@ -153,11 +153,11 @@ module _ (s : List ℕ) (a i : ℕ) (b : Bigger s a i) where
   big_ends e = (rw (b.2, e), omega (arith, b.1, e))
 
   module _ (h : i < length s) (n : get_or s i 0 ≡ 44 → ⊥) where
-    pub big-stops : 10 ≤ digit_value (get_or s i 0) → (k v e : ℕ) → k ≡ 2 → e ≡ i + 1 + upto (drop (i + 1) s) → (numeral_of k v ≡ stays_big (field (drop a s))) × (e ≡ a + upto (drop a s))
-    big-stops g k v e ek ee = (rw (ek, b.2, one_more s i h n, big_bad (get_or s i 0) (field (drop (i + 1) s)) g), omega (arith, b.1, ee, one_byte s i h n))
+    pub big_stops : 10 ≤ digit_value (get_or s i 0) → (k v e : ℕ) → k ≡ 2 → e ≡ i + 1 + upto (drop (i + 1) s) → (numeral_of k v ≡ stays_big (field (drop a s))) × (e ≡ a + upto (drop a s))
+    big_stops g k v e ek ee = (rw (ek, b.2, one_more s i h n, big_bad (get_or s i 0) (field (drop (i + 1) s)) g), omega (arith, b.1, ee, one_byte s i h n))
 
-    pub big-goes-on : digit_value (get_or s i 0) < 10 → Bigger s a (i + 1)
-    big-goes-on g = (omega arith, omega (arith, b.1, one_byte s i h n), b.2 ∙ rw (one_more s i h n) (big_one (get_or s i 0) (field (drop (i + 1) s)) g))
+    pub big_goes_on : digit_value (get_or s i 0) < 10 → Bigger s a (i + 1)
+    big_goes_on g = (omega arith, omega (arith, b.1, one_byte s i h n), b.2 ∙ rw (one_more s i h n) (big_one (get_or s i 0) (field (drop (i + 1) s)) g))
 
 -- ---- the loop
 
@@ -190,24 +190,24 @@ module _ (s : List ℕ) (v i : ℕ) (b : Scanned s v i) where
     rest m e em ee = (em ∙ sym (b.2 ∙ rw (one_more s i h n)), omega (arith, b.1, ee, one_byte s i h n))
 
     module _ (k w e : ℕ) (ee : e ≡ i + 1 + upto (drop (i + 1) s)) where
-      pub scan-bad : 10 ≤ digit_value c → k ≡ 2 → (numeral_of k w ≡ numeral (read_decimal (field s))) × (e ≡ upto s)
-      scan-bad g ek = rest (numeral_of k w) e (rw (ek, rest_bad v c t i g)) ee
+      pub scan_bad : 10 ≤ digit_value c → k ≡ 2 → (numeral_of k w ≡ numeral (read_decimal (field s))) × (e ≡ upto s)
+      scan_bad g ek = rest (numeral_of k w) e (rw (ek, rest_bad v c t i g)) ee
 
-      pub scan-zero : eqb v 0 && ltb 0 i ≡ true → k ≡ 2 → (numeral_of k w ≡ numeral (read_decimal (field s))) × (e ≡ upto s)
-      scan-zero g ek =
+      pub scan_zero : eqb v 0 && ltb 0 i ≡ true → k ≡ 2 → (numeral_of k w ≡ numeral (read_decimal (field s))) × (e ≡ upto s)
+      scan_zero g ek =
           let x = both (eqb v 0) (ltb 0 i) g in
           rest (numeral_of k w) e (rw (ek, rest_zero v c t i (eqb-true v 0 x.0) (ltb-true 0 i x.1))) ee
 
-      pub scan-big : (d : ℕ) → (d ≡ digit_value c) × (digit_value c < 10) → leb (2 ^ 64) (v * 10 + d) ≡ true → numeral_of k w ≡ stays_big t → (numeral_of k w ≡ numeral (read_decimal (field s))) × (e ≡ upto s)
-      scan-big d g f ek =
+      pub scan_big : (d : ℕ) → (d ≡ digit_value c) × (digit_value c < 10) → leb (2 ^ 64) (v * 10 + d) ≡ true → numeral_of k w ≡ stays_big t → (numeral_of k w ≡ numeral (read_decimal (field s))) × (e ≡ upto s)
+      scan_big d g f ek =
           let q : 2 ^ 64 ≤ v * 10 + d = leb-true (2 ^ 64) (v * 10 + d) f in
           let p : v ≡ 0 → i ≡ 0 = λ z. absurd (omega (arith, q, z, g)) in
-          rest (numeral_of k w) e (ek ∙ sym (rw (rest-one v c t g.1 i b.3 p, ← g.0) (turns_big i (v * 10 + d) t q))) ee
+          rest (numeral_of k w) e (ek ∙ sym (rw (rest_one v c t g.1 i b.3 p, ← g.0) (turns_big i (v * 10 + d) t q))) ee
 
-    pub scan-goes-on : (d : ℕ) → (d ≡ digit_value c) × (digit_value c < 10) → eqb v 0 && ltb 0 i ≡ false → leb (2 ^ 64) (v * 10 + d) ≡ false → Scanned s (v * 10 + d) (i + 1)
-    scan-goes-on d g f l =
+    pub scan_goes_on : (d : ℕ) → (d ≡ digit_value c) × (digit_value c < 10) → eqb v 0 && ltb 0 i ≡ false → leb (2 ^ 64) (v * 10 + d) ≡ false → Scanned s (v * 10 + d) (i + 1)
+    scan_goes_on d g f l =
         let j : suc i ≡ i + 1 = omega arith in
-        (omega arith, omega (arith, b.1, one_byte s i h n), b.2 ∙ rw (one_more s i h n, g.0) (ap numeral (rest-one v c t g.1 i b.3 first) ∙ ap (λ (k : ℕ). numeral (rest_of k (v * 10 + digit_value c) t)) j), λ e. absurd (omega arith), leb-false (2 ^ 64) (v * 10 + d) l)
+        (omega arith, omega (arith, b.1, one_byte s i h n), b.2 ∙ rw (one_more s i h n, g.0) (ap numeral (rest_one v c t g.1 i b.3 first) ∙ ap (λ (k : ℕ). numeral (rest_of k (v * 10 + digit_value c) t)) j), λ e. absurd (omega arith), leb-false (2 ^ 64) (v * 10 + d) l)
       where
         first : v ≡ 0 → i ≡ 0
         first z = go (ltb 0 i) refl (rw z at f)
@@ -262,8 +262,8 @@ module _ (s : List ℕ) (a : ℕ) (h : a ≤ length s) where
     there : f ≡ reads (drop a s)
     there = rw part at e
 
-    pub stop-within : a + f.stop ≤ length s
-    stop-within = omega (arith, stopped (drop a s) f there, upto_within (drop a s), length-drop a s)
+    pub stop_within : a + f.stop ≤ length s
+    stop_within = omega (arith, stopped (drop a s) f there, upto_within (drop a s), length-drop a s)
 
     pub field_read : (f.numeral ≡ numeral (first_decimal (fields_from s a))) × (a + f.stop + 1 ≡ next_from s a)
     field_read =

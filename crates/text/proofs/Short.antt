@@ -183,10 +183,10 @@ module _ (x y w u : ℕ) where
   more_values (a ∷ []) l m dx dy dw du z hx hy hw hu = absurd (omega arith)
   more_values (a ∷ b ∷ []) l m dx dy dw du z hx hy hw hu = absurd (omega arith)
   more_values (a ∷ b ∷ c ∷ []) l m dx dy dw du z hx hy hw hu =
-      omega arith ∙ three_values a b y w dy dw (λ e. z (same-zero e)) (omega arith) (omega arith) c u du (omega arith)
+      omega arith ∙ three_values a b y w dy dw (λ e. z (same_zero e)) (omega arith) (omega arith) c u du (omega arith)
     where
-      same-zero : y ≡ 0 → x ≡ 0
-      same-zero e = dx.0 (omega arith) ∙ sym (dy.0 (omega arith)) ∙ e
+      same_zero : y ≡ 0 → x ≡ 0
+      same_zero e = dx.0 (omega arith) ∙ sym (dy.0 (omega arith)) ∙ e
   more_values (a ∷ b ∷ c ∷ d ∷ []) l m dx dy dw du z hx hy hw hu =
       omega arith ∙ four_values a b x y dx dy z (omega arith) (omega arith) c w dw (omega arith) d u du (omega arith)
   more_values (a ∷ b ∷ c ∷ d ∷ e ∷ s) l m dx dy dw du z hx hy hw hu = absurd (omega arith)

@@ -34,8 +34,8 @@ module _ (m : List ℕ) (a : Asm) where
     told : listed m a ≡ refused 2 0 → Lists m a (Refused Value 0) out out
     told e = rw e (refl, refl)
 
-    pub not-closed : a.closed ≡ false → Lists m a (Refused Value 0) out out
-    not-closed c = told (as_chosen false (sound 65536 a) (numbers_good m 0 2039) c refl refl)
+    pub not_closed : a.closed ≡ false → Lists m a (Refused Value 0) out out
+    not_closed c = told (as_chosen false (sound 65536 a) (numbers_good m 0 2039) c refl refl)
 
     pub not_sound : a.closed ≡ true → sound 65536 a ≡ false → Lists m a (Refused Value 0) out out
     not_sound c s = told (as_chosen true false (numbers_good m 0 2039) c s refl)

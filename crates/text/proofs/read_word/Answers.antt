@@ -1,6 +1,6 @@
 use Prim.Native.Nat.{◌+◌, ◌*◌, ◌-◌, ◌^◌, ◌<◌}
 use native.Mathlib.Omega.{arith}
-use Rattle.text.proofs.Answers.{not_16, word-ends, word-bad, word_room, word_more}
+use Rattle.text.proofs.Answers.{not_16, word_ends, word_bad, word_room, word_more}
 use Rattle.text.proofs.read_word.Goals as goal
 
 pub returns-then-s-ne16 : goal.returns-then-s-ne16
@@ -8,7 +8,7 @@ returns-then-s-ne16 c = not_16 _ c.if-s-ne16.true
 
 pub returns-then-d-gt15 : goal.returns-then-d-gt15
 returns-then-d-gt15 c =
-    word-bad _ c.if-s-ne16.false _ _ c.loop-i.invariant c.loop-i-test.true (rw c.digit-d.ensures at c.if-d-gt15.true)
+    word_bad _ c.if-s-ne16.false _ _ c.loop-i.invariant c.loop-i-test.true (rw c.digit-d.ensures at c.if-d-gt15.true)
 
 pub overflow_mul-v : goal.overflow_mul-v
 overflow_mul-v c =
@@ -25,4 +25,4 @@ loop-i-preserved c =
     word_more _ c.if-s-ne16.false _ _ c.loop-i.invariant c.loop-i-test.true c.digit-d.result c.digit-d.ensures c.if-d-gt15.false
 
 pub returns : goal.returns
-returns c = word-ends _ c.if-s-ne16.false _ _ c.loop-i.invariant c.loop-i-test.false
+returns c = word_ends _ c.if-s-ne16.false _ _ c.loop-i.invariant c.loop-i-test.false
