@@ -1,5 +1,5 @@
 -- What straight code does, and a path with jumps. Assumes nothing.
-use mathlib.Core.Path.{◌≡◌, refl, ◌∙◌}
+use mathlib.Core.Path.{◌≡◌, refl, sym, subst, ◌∙◌}
 use mathlib.Core.Bool.{Bool, true, not, ◌&&◌}
 use mathlib.Core.List.{List, [], ◌∷◌, ◌++◌}
 use Prim.Native.Nat.{ℕ, zero, suc, ◌+◌, ◌*◌, ◌%◌, ◌^◌, ◌<◌}
@@ -48,7 +48,7 @@ module _ (Q : Floats) where
       let p : (exec Q i s).pc ≡ next s = apply_pc e s (quiet_flows e q) in
       one_more Q (at_first s.pc (suc (length is)) l) (step_at Q i s w.0 w.1 a c.0)
       (wider Q (λ x m. at_next s.pc (suc (length is)) x (rw p at m))
-      (lead_run (j ∷ is) (exec Q i s) w.2 (and_r (quiet e) _ h) (rw p (omega arith)) (rw p (aligned s a)) (rw (apply_mem e s q, p, apply_mem e s q) c.1)))
+      (lead_run (j ∷ is) (exec Q i s) w.2 (and_r (quiet e) _ h) (rw p (omega arith)) (rw p (aligned s a)) (subst (λ (m : ℕ → ℕ). CodeAt m (exec Q i s).pc (words (j ∷ is))) (sym (apply_mem e s q)) (rw p c.1))))
 
   -- no jump at all
   abbrev pub flow : List Instr → State → Bool

@@ -1,4 +1,3 @@
-use borrow.Author.Tests.{not-true, not-false}
 use mathlib.Core.Path.{sym, ◌∙◌}
 use mathlib.Core.List.{[], ◌∷◌}
 use lib.ListN.{get_or}
@@ -10,12 +9,12 @@ use Rattle.encoder.proofs.Answers.{bad_register, decides, Judged, bad_field, sma
 use Rattle.encoder.proofs.jtype.Goals as goal
 
 pub returns-then-not-registers : goal.returns-then-not-registers
-returns-then-not-registers c = bad_register _ (sym c.registers.ensures ∙ not-true _ c.if-not-registers.true)
+returns-then-not-registers c = bad_register _ (sym c.registers.ensures ∙ c.if-not-registers.true)
 
 pub returns-in_default : goal.returns-in_default
 returns-in_default c =
     let judged : Judged (J (get_or j_ops c.args.op JAL) c.args.rd c.args.imm) c.offset_field.result (twos 21 c.args.imm) = let a = c.args in
-        let p = sym c.registers.ensures ∙ not-false _ c.if-not-registers.false in
+        let p = sym c.registers.ensures ∙ c.if-not-registers.false in
         record {
           passed = p;
           means = decides (offset 21 a.imm) (a.rd ∷ []) c.offset_field.result (twos 21 a.imm) p (offset21 a.imm c.ranges.imm _ c.offset_field.ensures);
@@ -25,7 +24,7 @@ returns-in_default c =
 pub pack-requires : goal.pack-requires
 pack-requires c =
     let judged : Judged (J (get_or j_ops c.args.op JAL) c.args.rd c.args.imm) c.offset_field.result (twos 21 c.args.imm) = let a = c.args in
-        let p = sym c.registers.ensures ∙ not-false _ c.if-not-registers.false in
+        let p = sym c.registers.ensures ∙ c.if-not-registers.false in
         record {
           passed = p;
           means = decides (offset 21 a.imm) (a.rd ∷ []) c.offset_field.result (twos 21 a.imm) p (offset21 a.imm c.ranges.imm _ c.offset_field.ensures);
@@ -35,7 +34,7 @@ pack-requires c =
 pub returns : goal.returns
 returns c =
     let judged : Judged (J (get_or j_ops c.args.op JAL) c.args.rd c.args.imm) c.offset_field.result (twos 21 c.args.imm) = let a = c.args in
-        let p = sym c.registers.ensures ∙ not-false _ c.if-not-registers.false in
+        let p = sym c.registers.ensures ∙ c.if-not-registers.false in
         record {
           passed = p;
           means = decides (offset 21 a.imm) (a.rd ∷ []) c.offset_field.result (twos 21 a.imm) p (offset21 a.imm c.ranges.imm _ c.offset_field.ensures);

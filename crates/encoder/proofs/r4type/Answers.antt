@@ -1,4 +1,3 @@
-use borrow.Author.Tests.{not-true, not-false}
 use mathlib.Core.Path.{◌≡◌, sym, ◌∙◌}
 use mathlib.Core.Bool.{true}
 use mathlib.Core.List.{[], ◌∷◌}
@@ -7,14 +6,14 @@ use Rattle.encoder.proofs.Answers.{bad_register, small, good, word_R4}
 use Rattle.encoder.proofs.r4type.Goals as goal
 
 pub returns-then-not-registers : goal.returns-then-not-registers
-returns-then-not-registers c = bad_register _ (sym c.registers.ensures ∙ not-true _ c.if-not-registers.true)
+returns-then-not-registers c = bad_register _ (sym c.registers.ensures ∙ c.if-not-registers.true)
 
 pub pack-requires : goal.pack-requires
 pack-requires c =
-    let passed : registers_hold (register c.args.rd ∷ register c.args.rs1 ∷ register c.args.rs2 ∷ register c.args.rs3 ∷ []) ≡ true = sym c.registers.ensures ∙ not-false _ c.if-not-registers.false in
+    let passed : registers_hold (register c.args.rd ∷ register c.args.rs1 ∷ register c.args.rs2 ∷ register c.args.rs3 ∷ []) ≡ true = sym c.registers.ensures ∙ c.if-not-registers.false in
     small _ passed _ (word_R4 _ _ c.requires c.base.ensures _ _ _ _)
 
 pub returns : goal.returns
 returns c =
-    let passed : registers_hold (register c.args.rd ∷ register c.args.rs1 ∷ register c.args.rs2 ∷ register c.args.rs3 ∷ []) ≡ true = sym c.registers.ensures ∙ not-false _ c.if-not-registers.false in
+    let passed : registers_hold (register c.args.rd ∷ register c.args.rs1 ∷ register c.args.rs2 ∷ register c.args.rs3 ∷ []) ≡ true = sym c.registers.ensures ∙ c.if-not-registers.false in
     good _ passed _ (c.pack.ensures ∙ word_R4 _ _ c.requires c.base.ensures _ _ _ _) passed
