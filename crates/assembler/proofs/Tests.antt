@@ -56,6 +56,6 @@ not_nan nan e = no e
 not_nan (inf s) e = tt
 not_nan (fin s m d) e = tt
 
-pub is_nan : (x : Float) → eq x x ≡ false → x ≡ nan
+pub nan_of : (x : Float) → eq x x ≡ false → x ≡ nan
 unfolding ne
-is_nan x e = differs_from_itself x (subst (λ (t : Bool). T (not t)) (sym e) tt)
+nan_of x e = differs_from_itself x (subst (λ (t : Bool). T (not t)) (sym e) tt)

@@ -1,6 +1,6 @@
 -- The assembler's state: the record, and the memory that is lent with it.
 use Rattle.std.specs.Prelude.{◌≡◌, Bool, ◌&&◌, List, ℕ, ◌+◌, ◌*◌, ◌%◌, leb, eqb}
-use Rattle.std.specs.Borrow.{Bor}
+use Rattle.std.specs.Borrow.{Bor, MutBor}
 use denote.Triple.Both.{Both}
 use Rattle.refusal.specs.Answer.{Answer, accepted, refused}
 use Rattle.refusal.specs.Number.{number_of}
@@ -35,7 +35,7 @@ outcome d ls js b = record { answer = emit_answer d.answer; state = state d.asm 
 
 -- lent memory at a function's entry and at its exit
 abbrev pub Lent : Type 0
-Lent = Both (Bor (List ℕ)) (Bor (List ℕ))
+Lent = Both (MutBor (List ℕ)) (MutBor (List ℕ))
 
 -- the state that a function is called in, and what it answers and leaves
 abbrev pub before : Asm → (labels jumps buf : Lent) → State
@@ -44,8 +44,12 @@ before a labels jumps buf = state a labels.entry.now jumps.entry.now buf.entry.n
 abbrev pub after : EmitResult → (labels jumps buf : Lent) → Outcome
 after d labels jumps buf = outcome d labels.exit.now jumps.exit.now buf.exit.now
 
+-- the same of memory that is only read
+abbrev pub Read : Type 0
+Read = Both (Bor (List ℕ)) (Bor (List ℕ))
+
 -- f is answered and nothing changes, whatever jump memory holds
-abbrev pub Answered : (State → Outcome) → Asm → EmitResult → (labels buf : Lent) → Type 0
+abbrev pub Answered : (State → Outcome) → Asm → EmitResult → (labels buf : Read) → Type 0
 Answered f asm r labels buf =
     (js : List ℕ)
     → outcome r labels.entry.now js buf.entry.now ≡ f (state asm labels.entry.now js buf.entry.now)

@@ -1,0 +1,9 @@
+use mathlib.Core.Path.{sym, ap, ◌∙◌}
+use lib.Ieee.{to_bits, binary64}
+use Rattle.ast.specs.Constant.{constant_bits}
+use Rattle.assembler.proofs.Tests.{nan_of}
+use Rattle.assembler.proofs.bits_of.Goals as goal
+
+pub returns-else-x : goal.returns-else-x
+unfolding to_bits
+returns-else-x c = sym (ap constant_bits c.in-Float.is ∙ ap (to_bits binary64) (nan_of c.in-Float.x c.if-x.false))
