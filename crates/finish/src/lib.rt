@@ -11,7 +11,7 @@ ghost use Rattle.assembler.specs.Limit.{room_limit, label_limit, jump_limit};
 ghost use Rattle.assembler.specs.Jump.{kind_of, jump_instr};
 ghost use Rattle.assembler.specs.Label.{is_set, place_of};
 ghost use Rattle.assembler.specs.Memory.{jump_at, tag_at, jumps_of};
-ghost use Rattle.assembler.specs.State.{emit_answer, before};
+ghost use Rattle.assembler.specs.State.{emit_answer, state};
 ghost use Rattle.refusal.specs.Answer.{refused};
 ghost use Rattle.refusal.specs.Number.{number_of};
 ghost use Rattle.finish.specs.Finish.{first, label_good, labels_good, jump_number, patched, finish, finish_outcome};
@@ -302,7 +302,7 @@ fn refused_with(r: Refusal, asm: Asm) -> FinishResult
 }
 
 pub fn apply_jumps(buf: &mut [u8], labels: &Labels, jumps: &Jumps, asm: Asm) -> FinishResult
-    ensures { finish_outcome result labels.now jumps.now buf.new ≡ finish (before asm labels jumps buf) }
+    ensures { finish_outcome result labels.now jumps.now buf.new ≡ finish (state asm labels.now jumps.now buf.old) }
 {
     if asm.closed {
         return refused_with(Refusal::Closed, asm);

@@ -94,8 +94,8 @@ fn name_length(row: usize) -> usize
 
 // The table is lent, since an indexed constant is built anew at each use.
 fn put_name(table: &[u8], row: usize, out: &mut [u8], at: usize) -> usize
-    requires { (table.now ≡ names) × (row < 53) × (at + length (name-at row) ≤ length out.old) }
-    ensures { (out.new ≡ sets out.old at (name-at row)) × (result ≡ at + length (name-at row)) }
+    requires { (table.now ≡ names) × (row < 53) × (at + length (name_at row) ≤ length out.old) }
+    ensures { (out.new ≡ sets out.old at (name_at row)) × (result ≡ at + length (name_at row)) }
 {
     let a = 8 * row;
     let k = name_length(row);
@@ -105,7 +105,7 @@ fn put_name(table: &[u8], row: usize, out: &mut [u8], at: usize) -> usize
 }
 
 fn value(z: i32) -> u64
-    ensures { value-text result ≡ integer-bytes z }
+    ensures { value_text result ≡ integer_bytes z }
 {
     let s = encoder::split(z);
     match s {
@@ -115,7 +115,7 @@ fn value(z: i32) -> u64
 }
 
 fn two(a: u32, z: i32) -> Operands
-    ensures { Sound result × (values-text (take result.n result.values) ≡ operands-text (pos a ∷ z ∷ [])) }
+    ensures { Sound result × (values_text (take result.n result.values) ≡ operands_text (pos a ∷ z ∷ [])) }
 {
     let v = value(z);
     Operands {
@@ -125,7 +125,7 @@ fn two(a: u32, z: i32) -> Operands
 }
 
 fn three(a: u32, b: u32, z: i32) -> Operands
-    ensures { Sound result × (values-text (take result.n result.values) ≡ operands-text (pos a ∷ pos b ∷ z ∷ [])) }
+    ensures { Sound result × (values_text (take result.n result.values) ≡ operands_text (pos a ∷ pos b ∷ z ∷ [])) }
 {
     let v = value(z);
     Operands {
@@ -137,7 +137,7 @@ fn three(a: u32, b: u32, z: i32) -> Operands
 // Up to five numbers without a sign.
 fn numbers(n: usize, a: u32, b: u32, c: u32, d: u32, e: u32) -> Operands
     requires { n ≤ 5 }
-    ensures { Sound result × (values-text (take result.n result.values) ≡ operands-text (map pos (take n (a ∷ b ∷ c ∷ d ∷ e ∷ [])))) }
+    ensures { Sound result × (values_text (take result.n result.values) ≡ operands_text (map pos (take n (a ∷ b ∷ c ∷ d ∷ e ∷ [])))) }
 {
     Operands {
         n,
@@ -147,7 +147,7 @@ fn numbers(n: usize, a: u32, b: u32, c: u32, d: u32, e: u32) -> Operands
 
 // Its operands in the order of `rvv!`.
 fn operands_of(i: Instr) -> Operands
-    ensures { Sound result × (values-text (take result.n result.values) ≡ operands-text (shown (instr-of i))) }
+    ensures { Sound result × (values_text (take result.n result.values) ≡ operands_text (shown (instr_of i))) }
 {
     match i {
         Instr::R(_, rd, rs1, rs2) => numbers(3, rd, rs1, rs2, 0, 0),
@@ -167,7 +167,7 @@ fn operands_of(i: Instr) -> Operands
 // ---- how long a line is
 
 fn value_length(v: u64) -> usize
-    ensures { (result ≡ length (value-text v)) × (result ≤ 21) }
+    ensures { (result ≡ length (value_text v)) × (result ≤ 21) }
 {
     if v < 4294967296 {
         return crate::decimal_length(v);
@@ -177,7 +177,7 @@ fn value_length(v: u64) -> usize
 
 fn values_length(s: Operands) -> usize
     requires { Sound s }
-    ensures { (result ≡ length (values-text (take s.n s.values))) × (result ≤ 110) }
+    ensures { (result ≡ length (values_text (take s.n s.values))) × (result ≤ 110) }
 {
     let values = s.values;
     let n = s.n;
@@ -191,13 +191,13 @@ fn values_length(s: Operands) -> usize
 }
 
 fn instr_length(offset: u64, i: Instr) -> usize
-    ensures { (result ≡ length (instr-line offset (instr-of i))) × (result ≤ 140) }
+    ensures { (result ≡ length (instr_line offset (instr_of i))) × (result ≤ 140) }
 {
     crate::decimal_length(offset) + name_length(encoder::row(i)) + values_length(operands_of(i)) + 2
 }
 
 fn line_length(constants: usize, offset: usize, word: u32) -> usize
-    ensures { (result ≡ length (listing-line constants offset word)) × (result ≤ 140) }
+    ensures { (result ≡ length (listing_line constants offset word)) × (result ≤ 140) }
 {
     if offset >= constants {
         return crate::decimal_length(offset as u64) + 15;
@@ -212,8 +212,8 @@ fn line_length(constants: usize, offset: usize, word: u32) -> usize
 // ---- a line where there is room
 
 fn put_value(v: u64, out: &mut [u8], at: usize) -> usize
-    requires { at + length (value-text v) ≤ length out.old }
-    ensures { (out.new ≡ sets out.old at (value-text v)) × (result ≡ at + length (value-text v)) }
+    requires { at + length (value_text v) ≤ length out.old }
+    ensures { (out.new ≡ sets out.old at (value_text v)) × (result ≡ at + length (value_text v)) }
 {
     if v < 4294967296 {
         return crate::put_decimal(v, out, at);
@@ -224,17 +224,17 @@ fn put_value(v: u64, out: &mut [u8], at: usize) -> usize
 
 // A number, and the comma before it.
 fn put_next(v: u64, out: &mut [u8], at: usize) -> usize
-    requires { at + 1 + length (value-text v) ≤ length out.old }
-    ensures { (out.new ≡ sets out.old at (44 ∷ value-text v)) × (result ≡ at + 1 + length (value-text v)) }
+    requires { at + 1 + length (value_text v) ≤ length out.old }
+    ensures { (out.new ≡ sets out.old at (44 ∷ value_text v)) × (result ≡ at + 1 + length (value_text v)) }
 {
     out[at] = 44;
     put_value(v, out, at + 1)
 }
 
 fn put_values(s: Operands, out: &mut [u8], at: usize) -> usize
-    requires { Sound s × (at + length (values-text (take s.n s.values)) ≤ length out.old) }
-    ensures { (out.new ≡ sets out.old at (values-text (take s.n s.values)))
-        × (result ≡ at + length (values-text (take s.n s.values))) }
+    requires { Sound s × (at + length (values_text (take s.n s.values)) ≤ length out.old) }
+    ensures { (out.new ≡ sets out.old at (values_text (take s.n s.values)))
+        × (result ≡ at + length (values_text (take s.n s.values))) }
 {
     let values = s.values;
     let n = s.n;
@@ -248,9 +248,9 @@ fn put_values(s: Operands, out: &mut [u8], at: usize) -> usize
 }
 
 fn put_instr(table: &[u8], offset: u64, i: Instr, out: &mut [u8], at: usize) -> usize
-    requires { (table.now ≡ names) × (at + length (instr-line offset (instr-of i)) ≤ length out.old) }
-    ensures { (out.new ≡ sets out.old at (instr-line offset (instr-of i)))
-        × (result ≡ at + length (instr-line offset (instr-of i))) }
+    requires { (table.now ≡ names) × (at + length (instr_line offset (instr_of i)) ≤ length out.old) }
+    ensures { (out.new ≡ sets out.old at (instr_line offset (instr_of i)))
+        × (result ≡ at + length (instr_line offset (instr_of i))) }
 {
     let e = crate::put_decimal(offset, out, at);
     out[e] = 44;
@@ -261,8 +261,8 @@ fn put_instr(table: &[u8], offset: u64, i: Instr, out: &mut [u8], at: usize) -> 
 }
 
 fn put_data(offset: u64, word: u32, out: &mut [u8], at: usize) -> usize
-    requires { at + length (data-line offset word) ≤ length out.old }
-    ensures { (out.new ≡ sets out.old at (data-line offset word)) × (result ≡ at + length (data-line offset word)) }
+    requires { at + length (data_line offset word) ≤ length out.old }
+    ensures { (out.new ≡ sets out.old at (data_line offset word)) × (result ≡ at + length (data_line offset word)) }
 {
     let e = crate::put_decimal(offset, out, at);
     crate::put_bytes(b",data,", out, e);
@@ -279,9 +279,9 @@ fn put_line(
     out: &mut [u8],
     at: usize,
 ) -> usize
-    requires { (table.now ≡ names) × (at + length (listing-line constants offset word) ≤ length out.old) }
-    ensures { (out.new ≡ sets out.old at (listing-line constants offset word))
-        × (result ≡ at + length (listing-line constants offset word)) }
+    requires { (table.now ≡ names) × (at + length (listing_line constants offset word) ≤ length out.old) }
+    ensures { (out.new ≡ sets out.old at (listing_line constants offset word))
+        × (result ≡ at + length (listing_line constants offset word)) }
 {
     if offset >= constants {
         return put_data(offset as u64, word, out, at);
@@ -297,7 +297,7 @@ fn put_line(
 
 // The word at this offset is a half of a constant that has a mark.
 fn is_hidden(marks: &[u8], constants: usize, offset: usize) -> bool
-    ensures { result ≡ hidden-half (marked marks.now) constants offset }
+    ensures { result ≡ hidden_half (marked marks.now) constants offset }
 {
     if offset < constants {
         return false;
@@ -310,8 +310,8 @@ fn is_hidden(marks: &[u8], constants: usize, offset: usize) -> bool
 }
 
 fn put_hidden(offset: u64, out: &mut [u8], at: usize) -> usize
-    requires { at + length (hidden-line offset) ≤ length out.old }
-    ensures { (out.new ≡ sets out.old at (hidden-line offset)) × (result ≡ at + length (hidden-line offset)) }
+    requires { at + length (hidden_line offset) ≤ length out.old }
+    ensures { (out.new ≡ sets out.old at (hidden_line offset)) × (result ≡ at + length (hidden_line offset)) }
 {
     let e = crate::put_decimal(offset, out, at);
     crate::put_bytes(b",data,--------\n", out, e);

@@ -61,5 +61,5 @@ pub returns-in_default : goal.returns-in_default
 unfolding cut
 returns-in_default c =
     let j = c.j_imm in
-    let r = other_above _ 10 c.in_default.rest in
+    let r = other_above _ 10 c.in_default.in_default-own.rest in
     (rw (get_or-eq_default _ _ r, ← j.ensures.0, back_signed j.result 1048576 j.ensures.1 (omega arith) _ c.signed-in_default.ensures), tt)

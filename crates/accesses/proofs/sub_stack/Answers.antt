@@ -1,0 +1,11 @@
+use native.Mathlib.Omega.{arith}
+use Rattle.accesses.specs.Code.{sub_stack_code}
+use Rattle.accesses.proofs.Stack.{sub_stack_valid}
+use Rattle.accesses.proofs.Lengths.{sub_stack_length}
+use Rattle.accesses.proofs.Placed.{stack_as}
+use Rattle.accesses.proofs.sub_stack.Goals as goal
+
+pub returns : goal.returns
+returns c =
+    let n = c.args.n in
+    stack_as _ _ _ _ c.settle.ensures sub_stack_code n c.stack_refusal-f.ensures (sub_stack_valid n) (omega (arith, sub_stack_length n)) c.at_most.ensures c.sub_stack_plan-p.ensures
