@@ -31,7 +31,7 @@ put_decimal-f-requires c =
 pub bounds-out-f : goal.bounds-out-f
 bounds-out-f c =
     let a = c.args in
-    omega (arith, length_refusal_line a.number a.line, c.requires, simp length-set at c.put_decimal-f.auto.1.0, c.put_decimal-e.kept.1.0, c.put_bytes.kept.1.0)
+    omega (arith, length_refusal_line a.number a.line, c.requires, simp length-set at c.put_decimal-f.auto.out, c.put_decimal-e.auto.out, c.put_bytes.auto.out)
 
 pub returns : goal.returns
 returns c =

@@ -31,7 +31,7 @@ overflow_add-out c =
 pub bounds-out-e-2 : goal.bounds-out-e-2
 bounds-out-e-2 c =
     let a = c.args in
-    omega (arith, length_word_line a.offset a.word, simp length-set at c.put_digits.auto.1.1.1.0)
+    omega (arith, length_word_line a.offset a.word, simp length-set at c.put_digits.auto.out)
 
 pub overflow_add-result : goal.overflow_add-result
 overflow_add-result c =

@@ -17,7 +17,7 @@ loop-i-preserved c =
     let w = c.word_at-w.ensures in
     let n = length_word a.code.now l.i _ (omega arith) w in (
       omega arith,
-      omega (arith, p.auto.1.1.0),
+      omega (arith, p.auto.out),
       omega (arith, p.ensures.1),
       l.invariant.3 ∙ one_word_put l.out _ a.code.now l.at _ l.i _ (omega arith) w p.ensures.0 p.ensures.1,
     )

@@ -21,7 +21,7 @@ loop-i-preserved c =
     let a = c.args in
     let n = length_lines a.constants a.code.now l.i _ (omega arith) w.ensures in (
       omega arith,
-      omega (arith, p.auto.1.1.1.1.1.0),
+      omega (arith, p.auto.out),
       omega (arith, n, p.ensures.1),
       l.invariant.3 ∙ views_put (marked a.marks.now) a.constants a.code.now l.i _ (omega arith) w.ensures l.out _ l.at _ p.ensures.0 p.ensures.1,
     )

@@ -1,0 +1,9 @@
+use native.Mathlib.Omega.{arith}
+use lib.IntN.{ℤ}
+use Rattle.text.specs.Digits.{integer_bytes}
+use Rattle.encoder.proofs.Signs.{handed}
+use Rattle.print.proofs.Operands.{two_text}
+use Rattle.print.proofs.listing.two.Goals as goal
+
+pub returns : goal.returns
+returns c = ((omega arith, omega arith), two_text c.args.a _ _ (omega arith) (handed (λ (z : ℤ). integer_bytes z) _ c.ranges.z c.value-v.ensures))
