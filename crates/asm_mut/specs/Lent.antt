@@ -1,8 +1,8 @@
 -- What a function over the lent record answers, with the record and the memory it leaves.
 use Rattle.std.specs.Prelude.{List, ℕ}
-use Rattle.std.specs.Borrow.{Bor}
+use Rattle.std.specs.Borrow.{MutBor}
 use denote.Triple.Both.{Both}
-use Rattle.assembler.specs.State.{State, Outcome, state, emit_answer, Lent}
+use Rattle.assembler.specs.State.{State, Outcome, state, emit_answer, Lent, Read}
 use Rattle.assembler.specs.declared.Asm.{Asm}
 use Rattle.assembler.specs.declared.Answer.{Answer}
 use Rattle.finish.specs.Finish.{FinishOutcome}
@@ -16,7 +16,7 @@ mut_finish_outcome r a ls js b = record { answer = emit_answer r.answer; tag = r
 
 -- the record that is lent too, at entry and at exit
 abbrev pub Record : Type 0
-Record = Both (Bor Asm) (Bor Asm)
+Record = Both (MutBor Asm) (MutBor Asm)
 
 abbrev pub before_mut : Record → (labels jumps buf : Lent) → State
 before_mut a labels jumps buf = state a.entry.now labels.entry.now jumps.entry.now buf.entry.now
@@ -25,6 +25,6 @@ abbrev pub after_mut : Answer → Record → (labels jumps buf : Lent) → Outco
 after_mut r a labels jumps buf = mut_outcome r a.exit.now labels.exit.now jumps.exit.now buf.exit.now
 
 -- finishing leaves label and jump memory as they are
-abbrev pub finish_after_mut : FinishAnswer → Record → (labels jumps buf : Lent) → FinishOutcome
+abbrev pub finish_after_mut : FinishAnswer → Record → (labels jumps : Read) (buf : Lent) → FinishOutcome
 finish_after_mut r a labels jumps buf =
     mut_finish_outcome r a.exit.now labels.entry.now jumps.entry.now buf.exit.now

@@ -6,7 +6,7 @@
 
 ghost use Rattle.std.specs.Prelude.{◌≡◌, [], ◌∷◌};
 ghost use Rattle.assembler.specs.Item.{raw, label, jump as jump_item};
-ghost use Rattle.assembler.specs.State.{before, after};
+ghost use Rattle.assembler.specs.State.{before, after, state};
 ghost use Rattle.assembler.specs.Plan.{label_fault, jump_fault};
 ghost use Rattle.assembler.specs.Put.{put};
 ghost use Rattle.assembler.specs.Constant.{quad, constant_items, constant_fault};
@@ -253,7 +253,7 @@ pub struct FinishAnswer {
 }
 
 pub fn apply_jumps(asm: &mut Asm, buf: &mut [u8], labels: &Labels, jumps: &Jumps) -> FinishAnswer
-    ensures { finish_after_mut result asm labels jumps buf ≡ finish (before_mut asm labels jumps buf) }
+    ensures { finish_after_mut result asm labels jumps buf ≡ finish (state asm.old labels.now jumps.now buf.old) }
 {
     let f = finish::apply_jumps(buf, labels, jumps, *asm);
     *asm = f.asm;

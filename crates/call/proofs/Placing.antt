@@ -1,5 +1,5 @@
 -- Where a routine's lines, labels and constants stand.
-use mathlib.Core.Path.{◌≡◌, refl, ap, ◌∙◌}
+use mathlib.Core.Path.{◌≡◌, refl, ap, sym, subst, ◌∙◌}
 use mathlib.Core.Bool.{Bool, true, false, cond}
 use mathlib.Core.List.{List, [], ◌∷◌, ◌++◌}
 use mathlib.Core.Option.{Option, some, none}
@@ -132,7 +132,9 @@ constant_place h j zero (b ∷ bs) l = rw (add-zero j, eq-eqb (1024 + j) (1024 +
 constant_place h j (suc k) (b ∷ bs) l =
     let y : j + suc k ≡ suc j + k = omega arith in
     let z : h + 8 * suc k ≡ h + 4 + 4 + 8 * k = omega arith in
-    rw (ne_eqb (1024 + j) (1024 + (j + suc k)) (λ q. omega arith), y, z) (constant_place (h + 4 + 4) (suc j) k bs (omega arith))
+    let r = constant_place (h + 4 + 4) (suc j) k bs (omega arith) in
+    rw (ne_eqb (1024 + j) (1024 + (j + suc k)) (λ q. omega arith), z)
+    (subst (λ (n : ℕ). label_place (constant_label n) (h + 4 + 4) (constants_from (suc j) bs) ≡ some (h + 4 + 4 + 8 * k)) (sym y) r)
 
 pub constant_value : (m at : ℕ → ℕ) (a h j k : ℕ) (bs : List ℕ) → k < length bs → CodeAt m (w64 a) (resolved at h (constants_from j bs)) → load8 m (w64 (a + 8 * k)) ≡ get_or bs k 0
 unfolding constants_from resolved

@@ -1,5 +1,5 @@
 -- What a call that comes back has done (document 01, "Demand 3"): the conclusion of the theorem.
-use Rattle.std.specs.Prelude.{◌≡◌, List, [], ◌∷◌, ℕ, ◌+◌, ◌*◌, ◌^◌, ◌≤◌, ◌<◌, T}
+use Rattle.std.specs.Prelude.{◌≡◌, List, ◌∷◌, ℕ, ◌+◌, ◌*◌, ◌^◌, ◌≤◌, ◌<◌, T}
 use Rattle.isa.specs.Register.{ra, sp, gp, tp, a1, fa0}
 use Rattle.ast.specs.Count.{cell_count}
 use Rattle.ast.specs.Mask.{preserved}

@@ -11,7 +11,6 @@ use lib.Ieee.Fits.{of_int-fits}
 use lib.IntN.{nat_abs}
 use Rattle.refusal.specs.Answer.{Answer, accepted, refused}
 use Rattle.refusal.specs.declared.Refusal.{Refusal}
-use Rattle.refusal.specs.declared.Refusal.TheVariants as Refusal
 use Rattle.ast.specs.Counts.{counts_hold, epilogue_holds, cap_holds}
 use Rattle.ast.specs.Constant.{constant_bits}
 use Rattle.ast.specs.Uses.{uses, registers_fit}

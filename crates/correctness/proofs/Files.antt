@@ -6,7 +6,7 @@ use Prim.Native.Nat.{ℕ}
 use Prim.Native.String.{String}
 use lib.Ieee.{to_bits, of_int, binary64}
 use lib.IntN.{pos}
-use lib.ListN.{length, take, drop, replicate}
+use lib.ListN.{take, drop, replicate}
 use Rattle.isa.specs.Encode.{encode, join, fields}
 use Rattle.refusal.specs.Answer.{accepted}
 use Rattle.ast.specs.declared.Frame.{Frame}

@@ -13,7 +13,6 @@ use lib.ListN.{length, drop, length-append}
 use Rattle.base.proofs.Bools.{T_true, passed}
 use Rattle.refusal.specs.Answer.{Answer, accepted, refused}
 use Rattle.refusal.specs.declared.Refusal.{Refusal}
-use Rattle.refusal.specs.declared.Refusal.TheVariants as Refusal
 use Rattle.ast.specs.Uses.{uses, registers_fit}
 use Rattle.ast.specs.declared.Operand.{Operand}
 use Rattle.ast.specs.declared.Constant.TheVariants.{Float, Bits}

@@ -14,7 +14,6 @@ use Rattle.isa.proofs.Validity.{Valid, Holds_holds}
 use Rattle.refusal.specs.Answer.{Answer, accepted, refused}
 use Rattle.refusal.specs.Number.{number_of}
 use Rattle.refusal.specs.declared.Refusal.{Refusal}
-use Rattle.refusal.specs.declared.Refusal.TheVariants as Refusal
 use Rattle.ast.specs.Uses.{uses, registers_fit, index_holds, saves_hold}
 use Rattle.ast.specs.declared.Operand.{Operand}
 use Rattle.ast.specs.declared.Order.{Order}

@@ -12,7 +12,6 @@ use lib.IntN.{nat_abs}
 use lib.ListN.{length, length-map}
 use Rattle.refusal.specs.Answer.{Answer, accepted, refused}
 use Rattle.refusal.specs.declared.Refusal.{Refusal}
-use Rattle.refusal.specs.declared.Refusal.TheVariants as Refusal
 use Rattle.ast.specs.Counts.{counts_hold}
 use Rattle.ast.specs.Uses.{uses, registers_fit}
 use Rattle.ast.specs.declared.Constant.{Constant}

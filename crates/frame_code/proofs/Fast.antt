@@ -22,7 +22,7 @@ use Rattle.assembler.specs.Resolved.{resolved}
 use Rattle.accesses.specs.Code.{sub_stack_code}
 use Rattle.reading.specs.Size.{frame_size, stack_size}
 use Rattle.ast.specs.Mask.{saved, save_cell}
-use Rattle.frame_code.specs.Items.{code, mv, kept, opening, states_from, save, prologue, saves}
+use Rattle.frame_code.specs.Items.{mv, kept, opening, states_from, save, prologue, saves}
 use Rattle.frame_code.proofs.Land.{In, load8_same, off_above, off_below, not_or, or_not}
 use Rattle.frame_code.proofs.Walk.{resolved_instrs, code_append, Words, Came, run_rm}
 use Rattle.frame_code.proofs.Seg.{Seg, seg_join, seg_wider, seg_same, onward_seg, Lowered, down_to, Begun, begun}

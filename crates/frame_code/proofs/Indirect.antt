@@ -10,7 +10,6 @@ use borrow.Author.Tests.{eqb-true, eqb-false, le-ltb, ne_eqb}
 use lib.Dec.{T, eqb, leb, leb→le}
 use lib.IntN.{pos, sub_ℕ}
 use lib.ListN.{length, length-append, length-map, get_or}
-use Rattle.ast.specs.Count.{cells}
 use Rattle.isa.specs.Instr.{Instr, B, Shift, SLLI, BEQ}
 use Rattle.isa.specs.Encode.{encode}
 use Rattle.machine.specs.Word.{w64, upd, load8}

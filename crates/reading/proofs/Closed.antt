@@ -14,7 +14,7 @@ use Rattle.ast.specs.declared.Frame.TheVariants.{Fast, Indirect}
 use Rattle.ast.specs.declared.Head.{Head}
 use Rattle.reading.proofs.Start.{fast_terms}
 use Rattle.reading.specs.Size.{frame_size, stack_size, whole_size}
-use Rattle.reading.specs.Terms.{table_used, table_cell, start_f, start_cells, end_obs, Region, Within, Whole, Clear, frame, block, table, code, regions, Terms}
+use Rattle.reading.specs.Terms.{table_used, table_cell, start_f, start_cells, end_obs, Region, Within, Whole, Clear, frame, block, table, code, Terms}
 
 -- ---- `indirect,16,2,1,1,256` and `fast,0,2,1,0,0`
 

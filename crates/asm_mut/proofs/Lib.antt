@@ -1,4 +1,0 @@
-pub mod Value
-pub mod Values
-pub mod Shape
-pub mod Wrap
