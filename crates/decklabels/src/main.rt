@@ -5,8 +5,8 @@
 #![tactic(auto)]
 
 use input::{FILE, Input};
-use libc::{STDERR_FILENO, STDOUT_FILENO};
 use print::Text;
+use std::env::{Env, FillError};
 
 // 1,024 lines of at most 11 bytes.
 const TEXT: usize = 11264;
@@ -14,56 +14,68 @@ const TEXT: usize = 11264;
 // Enough for a refusal in words.
 const REASON: usize = 128;
 
-fn print_text(s: &[u8]) {
-    if !io::write_all(STDOUT_FILENO, s) {
-        io::write_all(
-            STDERR_FILENO,
-            b"decklabels: the answer was not written whole\n",
-        );
+fn print_text(rt: &HostRuntime, s: &[u8]) {
+    if rt.stdout().write_all(s).is_err() {
+        let _ = rt
+            .stderr()
+            .write_all(b"decklabels: the answer was not written whole\n");
     }
 }
 
 // What is printed of a file.
-fn print_labels(file: &[u8]) {
+fn print_labels(rt: &HostRuntime, file: &[u8]) {
     let mut out = [0u8; TEXT];
     let mut err = [0u8; REASON];
     let told = stale::deck_labels(file, &mut out);
     let answer = told.answer;
     let text = told.text;
     match text {
-        Text::Length(n) => print_text(&out[..n]),
+        Text::Length(n) => print_text(rt, &out[..n]),
         // It can't be: no answer is longer than TEXT.
         Text::TooLong => {
-            io::write_all(STDERR_FILENO, b"decklabels: the answer is too long\n");
+            let _ = rt
+                .stderr()
+                .write_all(b"decklabels: the answer is too long\n");
         }
     }
     // No reason is longer than REASON.
     if let Text::Length(n) = answer::reason_text(answer, &mut err) {
-        io::write_all(STDERR_FILENO, &err[..n]);
+        let _ = rt.stderr().write_all(&err[..n]);
     }
 }
 
 // The labels of the file on standard input.
-fn print_input() {
+fn print_input(rt: &HostRuntime) {
     let mut file = [0u8; FILE];
-    match input::read(&mut file) {
+    let mut stdin = rt.stdin();
+    match input::read(&mut stdin, &mut file) {
         Input::Read(n) => {
-            print_labels(&file[..n]);
+            print_labels(rt, &file[..n]);
             if n == FILE {
-                input::skip_rest();
+                input::skip_rest(&mut stdin);
             }
         }
         Input::Failed => {
-            io::write_all(STDERR_FILENO, b"decklabels: standard input can't be read\n");
+            let _ = rt
+                .stderr()
+                .write_all(b"decklabels: standard input can't be read\n");
         }
     }
 }
 
-fn main() {
-    // The program's own name is the first.
-    if os::arg_count() > 1 {
-        io::write_all(STDERR_FILENO, b"usage: decklabels < FILE\n");
+// There is an argument behind the program's own name, whatever it is.
+fn has_argument(rt: &impl Env) -> bool {
+    let mut word = [0u8; 1];
+    match rt.arg(1, &mut word) {
+        Err(FillError::NotPresent) => false,
+        _ => true,
+    }
+}
+
+fn main(rt: HostRuntime) {
+    if has_argument(&rt) {
+        let _ = rt.stderr().write_all(b"usage: decklabels < FILE\n");
         return;
     }
-    print_input();
+    print_input(&rt);
 }

@@ -8,9 +8,9 @@ ghost use Rattle.std.specs.Prelude.{◌≡◌};
 ghost use Rattle.decklist.specs.Inner.Arguments.{asked_for};
 
 use input::{FILE, Input};
-use libc::{STDERR_FILENO, STDOUT_FILENO};
 use listing::View;
 use print::Text;
+use std::env::{Env, FillError};
 
 // 16,384 lines of at most 29 bytes.
 const TEXT: usize = 475136;
@@ -28,47 +28,49 @@ enum Asked {
     Unknown,
 }
 
-fn print_text(s: &[u8]) {
-    if !io::write_all(STDOUT_FILENO, s) {
-        io::write_all(
-            STDERR_FILENO,
-            b"decklist: the answer was not written whole\n",
-        );
+fn print_text(rt: &HostRuntime, s: &[u8]) {
+    if rt.stdout().write_all(s).is_err() {
+        let _ = rt
+            .stderr()
+            .write_all(b"decklist: the answer was not written whole\n");
     }
 }
 
 // What is printed of a file.
-fn print_view(file: &[u8], view: View) {
+fn print_view(rt: &HostRuntime, file: &[u8], view: View) {
     let mut out = [0u8; TEXT];
     let mut err = [0u8; REASON];
     let told = listing::deck_view(file, view, &mut out);
     let answer = told.answer;
     let text = told.text;
     match text {
-        Text::Length(n) => print_text(&out[..n]),
+        Text::Length(n) => print_text(rt, &out[..n]),
         // It can't be: no answer is longer than TEXT.
         Text::TooLong => {
-            io::write_all(STDERR_FILENO, b"decklist: the answer is too long\n");
+            let _ = rt.stderr().write_all(b"decklist: the answer is too long\n");
         }
     }
     // No reason is longer than REASON.
     if let Text::Length(n) = answer::reason_text(answer, &mut err) {
-        io::write_all(STDERR_FILENO, &err[..n]);
+        let _ = rt.stderr().write_all(&err[..n]);
     }
 }
 
 // The listing of the file on standard input.
-fn print_input(view: View) {
+fn print_input(rt: &HostRuntime, view: View) {
     let mut file = [0u8; FILE];
-    match input::read(&mut file) {
+    let mut stdin = rt.stdin();
+    match input::read(&mut stdin, &mut file) {
         Input::Read(n) => {
-            print_view(&file[..n], view);
+            print_view(rt, &file[..n], view);
             if n == FILE {
-                input::skip_rest();
+                input::skip_rest(&mut stdin);
             }
         }
         Input::Failed => {
-            io::write_all(STDERR_FILENO, b"decklist: standard input can't be read\n");
+            let _ = rt
+                .stderr()
+                .write_all(b"decklist: standard input can't be read\n");
         }
     }
 }
@@ -89,17 +91,33 @@ fn asked_for(count: usize, word: &[u8]) -> Asked
     Asked::Unknown
 }
 
-fn arguments() -> Asked {
-    let mut word = [0u8; WORD];
-    let n = os::arg(1, &mut word);
-    asked_for(os::arg_count(), &word[..n])
+// How many arguments there are, the program's own name among them. Whether there are more than three isn't asked.
+fn count(rt: &impl Env) -> usize {
+    let mut word = [0u8; 1];
+    for i in 0..3 {
+        if let Err(FillError::NotPresent) = rt.arg(i, &mut word) {
+            return i;
+        }
+    }
+    3
 }
 
-fn main() {
-    match arguments() {
-        Asked::For(view) => print_input(view),
+// An argument longer than WORD counts as empty: neither is known.
+fn arguments(rt: &impl Env) -> Asked {
+    let mut word = [0u8; WORD];
+    match rt.arg(1, &mut word) {
+        Ok(n) => asked_for(count(rt), &word[..n]),
+        Err(_) => asked_for(count(rt), b""),
+    }
+}
+
+fn main(rt: HostRuntime) {
+    match arguments(&rt) {
+        Asked::For(view) => print_input(&rt, view),
         Asked::Unknown => {
-            io::write_all(STDERR_FILENO, b"usage: decklist [attendant] < FILE\n");
+            let _ = rt
+                .stderr()
+                .write_all(b"usage: decklist [attendant] < FILE\n");
         }
     }
 }

@@ -4,7 +4,6 @@
 #![tactic(auto)]
 
 use input::{FILE, Input};
-use libc::{STDERR_FILENO, STDOUT_FILENO};
 use print::Text;
 
 // 16,384 lines of at most 15 bytes.
@@ -13,46 +12,50 @@ const TEXT: usize = 245760;
 // Enough for a refusal in words.
 const REASON: usize = 128;
 
-fn print_text(s: &[u8]) {
-    if !io::write_all(STDOUT_FILENO, s) {
-        io::write_all(
-            STDERR_FILENO,
-            b"deckwords: the answer was not written whole\n",
-        );
+fn print_text(rt: &HostRuntime, s: &[u8]) {
+    if rt.stdout().write_all(s).is_err() {
+        let _ = rt
+            .stderr()
+            .write_all(b"deckwords: the answer was not written whole\n");
     }
 }
 
 // What is printed of a file.
-fn print_answer(file: &[u8]) {
+fn print_answer(rt: &HostRuntime, file: &[u8]) {
     let mut out = [0u8; TEXT];
     let mut err = [0u8; REASON];
     let told = answer::deck_answer(file, &mut out, &mut err);
     let text = told.text;
     let reason = told.reason;
     match text {
-        Text::Length(n) => print_text(&out[..n]),
+        Text::Length(n) => print_text(rt, &out[..n]),
         // It can't be: no answer is longer than TEXT.
         Text::TooLong => {
-            io::write_all(STDERR_FILENO, b"deckwords: the answer is too long\n");
+            let _ = rt
+                .stderr()
+                .write_all(b"deckwords: the answer is too long\n");
         }
     }
     // No reason is longer than REASON.
     if let Text::Length(n) = reason {
-        io::write_all(STDERR_FILENO, &err[..n]);
+        let _ = rt.stderr().write_all(&err[..n]);
     }
 }
 
-fn main() {
+fn main(rt: HostRuntime) {
     let mut file = [0u8; FILE];
-    match input::read(&mut file) {
+    let mut stdin = rt.stdin();
+    match input::read(&mut stdin, &mut file) {
         Input::Read(n) => {
-            print_answer(&file[..n]);
+            print_answer(&rt, &file[..n]);
             if n == FILE {
-                input::skip_rest();
+                input::skip_rest(&mut stdin);
             }
         }
         Input::Failed => {
-            io::write_all(STDERR_FILENO, b"deckwords: standard input can't be read\n");
+            let _ = rt
+                .stderr()
+                .write_all(b"deckwords: standard input can't be read\n");
         }
     }
 }

@@ -1,12 +1,12 @@
 // A file on standard input, for the programs.
-// C's `read` leaves open which bytes come, how many, and whether it fails.
+// A reader leaves open which bytes come, how many, and whether it fails.
 // So what is promised is that the count fits its buffer, and no failure where there is no room.
 #![tactic(auto)]
 
-ghost use Rattle.std.specs.Prelude.{length};
+ghost use Rattle.std.specs.Prelude.{◌≤◌, length};
 ghost use Rattle.input.specs.Input.{Within};
 
-use libc::STDIN_FILENO;
+use std::io;
 
 // One byte more than a deck file may have: 7 at line 1, whatever comes behind.
 pub const FILE: usize = 65537;
@@ -20,35 +20,46 @@ pub enum Input {
     Failed,
 }
 
-// Standard input, to its end or until buf is full.
-pub fn read(buf: &mut [u8]) -> Input
+// What the reader has, to its end or until buf is full.
+pub fn read(reader: &mut impl io::Read, buf: &mut [u8]) -> Input
     ensures { Within (length buf.new) result }
 {
     let mut n = 0;
     while n < buf.len() {
-        let got = libc::read(STDIN_FILENO, &mut buf[n..]);
-        if got < 0 {
-            return Input::Failed;
+        match reader.read(&mut buf[n..]) {
+            Ok(0) => return Input::Read(n),
+            Ok(k) => n += k,
+            Err(_) => return Input::Failed,
         }
-        let k = io::count(got, &buf[n..]);
-        if k == 0 {
-            return Input::Read(n);
-        }
-        n += k;
     }
     Input::Read(n)
 }
 
+// Reads until buf is full, the reader ends or a read fails; how many bytes were read.
+pub fn read_full(reader: &mut impl io::Read, buf: &mut [u8]) -> usize
+    ensures { result ≤ length buf.new }
+{
+    let mut n = 0;
+    while n < buf.len() {
+        match reader.read(&mut buf[n..]) {
+            Ok(0) => return n,
+            Ok(k) => n += k,
+            Err(_) => return n,
+        }
+    }
+    n
+}
+
 // A block of what is left; whether there was one.
-fn skip_block() -> bool {
+fn skip_block(reader: &mut impl io::Read) -> bool {
     let mut buf = [0u8; BLOCK];
-    io::read_full(STDIN_FILENO, &mut buf) > 0
+    read_full(reader, &mut buf) > 0
 }
 
 // The rest of a file too long, so that its writer isn't cut off. After 64 MiB it is. It answers nothing, so there is nothing to promise.
-pub fn skip_rest() {
+pub fn skip_rest(reader: &mut impl io::Read) {
     let mut turns: u32 = 1024;
-    while turns > 0 && skip_block() {
+    while turns > 0 && skip_block(reader) {
         turns -= 1;
     }
 }

@@ -14,14 +14,15 @@ use test_rows::Tally;
 const ROW: usize = 128;
 
 // The whole of standard input, row by row. Nothing says that it ends, so the loop counts its turns.
-fn all() -> Tally {
+fn all(rt: &(impl Print + Input)) -> Tally {
     let mut file = [0u8; ROOM];
     let mut buf = [0u8; ROOM];
     let mut size = 0;
+    let mut list = rt.reader();
     let mut t = test_rows::start();
     for _ in 0..u64::MAX {
         let mut row = [0u8; ROW];
-        let n = io::read_full(0, &mut row);
+        let n = input::read_full(&mut list, &mut row);
         if n == 0 {
             return t;
         }
@@ -29,14 +30,14 @@ fn all() -> Tally {
         let came = judge::row(s, size, &mut file, &mut buf);
         size = came.size;
         let outcome = came.outcome;
-        t = test_rows::counted(t, outcome, s);
+        t = test_rows::counted(rt, t, outcome, s);
     }
     t
 }
 
-fn main() {
-    let t = all();
-    test_rows::say(t.accepted, b" accepted, ");
-    test_rows::say(t.refused, b" refused, ");
-    test_rows::say(t.mismatches, b" mismatches\n");
+fn main(rt: HostRuntime) {
+    let t = all(&rt);
+    test_rows::say(&rt, t.accepted, b" accepted, ");
+    test_rows::say(&rt, t.refused, b" refused, ");
+    test_rows::say(&rt, t.mismatches, b" mismatches\n");
 }

@@ -19,7 +19,7 @@ fn named(names: &[u8], first: u32, form: u32, name: &[u8]) -> bool {
     if at > names.len() - 10 {
         return false;
     }
-    check::same(&names[at..at + 10], name)
+    &names[at..at + 10] == name
 }
 
 // Whole-number arithmetic on registers.
@@ -141,7 +141,7 @@ fn convert(form: u32, a: u32, b: u32, c: u32, d: u32) -> Encoded {
     }
 }
 
-// The number is that of a whole_number form, and the name is its name.
+// The number is that of a whole-number form, and the name is its name.
 fn whole_number(form: u32, name: &[u8]) -> bool {
     match form {
         0x00..=0x09 => named(

@@ -30,10 +30,10 @@ fn expectation(s: &[u8]) -> Expected {
         return Expected::Malformed;
     };
     let kind = &s[49..57];
-    if check::same(kind, b"word    ") {
+    if kind == b"word    ".as_slice() {
         return Expected::Word(n);
     }
-    if check::same(kind, b"refused ") {
+    if kind == b"refused ".as_slice() {
         return Expected::Refused(n);
     }
     Expected::Malformed
@@ -96,23 +96,24 @@ fn outcome(s: &[u8]) -> Outcome {
 }
 
 // The whole of standard input, row by row. Nothing says that it ends, so the loop counts its turns.
-fn replay() -> Tally {
+fn replay(rt: &(impl Print + Input)) -> Tally {
+    let mut list = rt.reader();
     let mut t = test_rows::start();
     for _ in 0..u64::MAX {
         let mut row = [0u8; ROW];
-        let n = io::read_full(0, &mut row);
+        let n = input::read_full(&mut list, &mut row);
         if n == 0 {
             return t;
         }
         let s = &row[..n];
-        t = test_rows::counted(t, outcome(s), s);
+        t = test_rows::counted(rt, t, outcome(s), s);
     }
     t
 }
 
-fn main() {
-    let t = replay();
-    test_rows::say(t.accepted, b" words, ");
-    test_rows::say(t.refused, b" refusals, ");
-    test_rows::say(t.mismatches, b" mismatches\n");
+fn main(rt: HostRuntime) {
+    let t = replay(&rt);
+    test_rows::say(&rt, t.accepted, b" words, ");
+    test_rows::say(&rt, t.refused, b" refusals, ");
+    test_rows::say(&rt, t.mismatches, b" mismatches\n");
 }

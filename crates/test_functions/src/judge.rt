@@ -6,8 +6,6 @@ use refusal::Refusal;
 use test_rows::{Outcome, Tally};
 use unused::Unused;
 
-const STDOUT: i32 = 1;
-
 // Rows and mismatches so far, the row of the family, how many of its answers agreed (the rows accepted), and the case at hand.
 #[derive(Clone, Copy)]
 pub struct State {
@@ -43,22 +41,22 @@ fn byte(w: u32, scale: u32) -> u8 {
 }
 
 // Four bytes of a name, the highest first.
-fn print_name(w: u32) {
+fn print_name(rt: &impl Print, w: u32) {
     let text = [byte(w, 16777216), byte(w, 65536), byte(w, 256), byte(w, 1)];
-    io::write_all(STDOUT, &text);
+    let _ = rt.write_all(&text);
 }
 
 // A family's name, the 16 bytes of its row, and how many of its answers agreed.
-pub(crate) fn print_family(f: Row, agreed: u64) {
+pub(crate) fn print_family(rt: &impl Print, f: Row, agreed: u64) {
     if f.d == 0 {
         return;
     }
-    print_name(f.a);
-    print_name(f.b);
-    print_name(f.c);
-    print_name(f.d);
-    io::write_all(STDOUT, b": ");
-    test_rows::say(agreed, b"\n");
+    print_name(rt, f.a);
+    print_name(rt, f.b);
+    print_name(rt, f.c);
+    print_name(rt, f.d);
+    let _ = rt.write_all(b": ");
+    test_rows::say(rt, agreed, b"\n");
 }
 
 // ---- what a row makes of the case
@@ -213,8 +211,8 @@ fn outcome(c: Case, d: Case, over: bool) -> Outcome {
 }
 
 // The case after a row.
-fn settled(before: State, s: &[u8], d: Case, over: bool) -> State {
-    let tally = test_rows::counted(before.tally, outcome(before.case, d, over), s);
+fn settled(rt: &impl Print, before: State, s: &[u8], d: Case, over: bool) -> State {
+    let tally = test_rows::counted(rt, before.tally, outcome(before.case, d, over), s);
     let family = before.family;
     let case = if over { crate::case::closed(d) } else { d };
     State {
@@ -224,9 +222,9 @@ fn settled(before: State, s: &[u8], d: Case, over: bool) -> State {
     }
 }
 
-fn family(before: State, s: &[u8], r: Row) -> State {
-    let mut tally = test_rows::counted(before.tally, Outcome::Other, s);
-    print_family(before.family, tally.accepted);
+fn family(rt: &impl Print, before: State, s: &[u8], r: Row) -> State {
+    let mut tally = test_rows::counted(rt, before.tally, Outcome::Other, s);
+    print_family(rt, before.family, tally.accepted);
     tally.accepted = 0;
     let case = before.case;
     State {
@@ -237,6 +235,7 @@ fn family(before: State, s: &[u8], r: Row) -> State {
 }
 
 pub(crate) fn row(
+    rt: &impl Print,
     before: State,
     s: &[u8],
     buf: &mut [u8; 65536],
@@ -244,11 +243,11 @@ pub(crate) fn row(
     jumps: &mut Jumps,
 ) -> State {
     let Read::Is(r) = crate::row::of(s) else {
-        return settled(before, s, crate::case::bad(before.case), false);
+        return settled(rt, before, s, crate::case::bad(before.case), false);
     };
     if r.kind == 0x00 {
-        return family(before, s, r);
+        return family(rt, before, s, r);
     }
     let d = next(before.case, r, buf, labels, jumps);
-    settled(before, s, d, ends(r.kind))
+    settled(rt, before, s, d, ends(r.kind))
 }

@@ -100,9 +100,7 @@ fn word_stands(s: &[u8], count: usize, buf: &[u8; ALONE]) -> bool {
         return false;
     }
     let b = &buf[..];
-    check::same(&b[0..count], &s[29..29 + count])
-        && b[count] == 10
-        && test_rows::all(&b[count + 1..], MARK)
+    &b[0..count] == &s[29..29 + count] && b[count] == 10 && test_rows::all(&b[count + 1..], MARK)
 }
 
 fn word_answered(s: &[u8]) -> bool {

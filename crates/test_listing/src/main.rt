@@ -31,16 +31,17 @@ fn more(n: u64, one: bool) -> u64 {
 }
 
 // The whole of standard input, row by row. Nothing says that it ends, so the loop counts its turns.
-fn all() -> Counts {
+fn all(rt: &(impl Print + Input)) -> Counts {
     let mut bytes = [0u8; CODE];
     let mut text = [0u8; ROOM];
     let mut size = 0;
     let mut codes = 0;
     let mut views = 0;
+    let mut list = rt.reader();
     let mut t = test_rows::start();
     for _ in 0..u64::MAX {
         let mut row = [0u8; ROW];
-        let n = io::read_full(0, &mut row);
+        let n = input::read_full(&mut list, &mut row);
         if n == 0 {
             return Counts {
                 tally: t,
@@ -54,7 +55,7 @@ fn all() -> Counts {
         codes = more(codes, came.listed);
         views = more(views, came.viewed);
         let outcome = came.outcome;
-        t = test_rows::counted(t, outcome, s);
+        t = test_rows::counted(rt, t, outcome, s);
     }
     Counts {
         tally: t,
@@ -63,12 +64,12 @@ fn all() -> Counts {
     }
 }
 
-fn main() {
-    let c = all();
+fn main(rt: HostRuntime) {
+    let c = all(&rt);
     let t = c.tally;
-    test_rows::say(t.accepted, b" words, ");
-    test_rows::say(t.refused, b" refusals, ");
-    test_rows::say(c.codes, b" codes, ");
-    test_rows::say(c.views, b" views, ");
-    test_rows::say(t.mismatches, b" mismatches\n");
+    test_rows::say(&rt, t.accepted, b" words, ");
+    test_rows::say(&rt, t.refused, b" refusals, ");
+    test_rows::say(&rt, c.codes, b" codes, ");
+    test_rows::say(&rt, c.views, b" views, ");
+    test_rows::say(&rt, t.mismatches, b" mismatches\n");
 }

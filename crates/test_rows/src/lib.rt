@@ -3,7 +3,7 @@
 #![tactic(auto)]
 
 ghost use Rattle.std.specs.Prelude.{◌≡◌, ◌+◌, ◌*◌, ◌^◌};
-ghost use Rattle.isa.specs.Immediate.{signed as Signed_of};
+ghost use Rattle.isa.specs.Immediate.{signed as signed_of};
 ghost use Rattle.test_rows.specs.Bytes.{word_of, all_of};
 ghost use Rattle.test_rows.specs.Count.{more_of, none_yet, counted_of};
 ghost use Rattle.test_rows.specs.Hex.{digit_of, number_from, column_of};
@@ -70,7 +70,7 @@ pub fn column(s: &[u8], a: usize, e: usize, end: u8) -> Hex
 
 // The signed number whose two's complement in 32 bits is n.
 pub fn signed(n: u32) -> i32
-    ensures { result ≡ Signed_of 32 n }
+    ensures { result ≡ signed_of 32 n }
 {
     if n < 0x80000000 {
         n as i32
@@ -119,8 +119,6 @@ pub fn all(s: &[u8], b: u8) -> bool
 
 // Only the first mismatches are printed.
 const SHOWN: u64 = 10;
-
-const STDOUT: i32 = 1;
 
 // What a row comes to.
 #[derive(Clone, Copy)]
@@ -175,20 +173,20 @@ fn count(t: Tally, o: Outcome) -> Tally
 }
 
 // Prints a number, and what is counted by it. It promises nothing: no contract can say what is written.
-pub fn say(n: u64, what: &[u8]) {
-    io::print_decimal(STDOUT, n);
-    io::write_all(STDOUT, what);
+pub fn say(rt: &impl Print, n: u64, what: &[u8]) {
+    let _ = rt.print(n);
+    let _ = rt.write_all(what);
 }
 
 // One row more. A mismatch is printed: the row's number, and the row.
-pub fn counted(t: Tally, o: Outcome, s: &[u8]) -> Tally
+pub fn counted(rt: &impl Print, t: Tally, o: Outcome, s: &[u8]) -> Tally
     ensures { result ≡ counted_of t o }
 {
     let u = count(t, o);
     if t.mismatches < u.mismatches && t.mismatches < SHOWN {
-        io::write_all(STDOUT, b"row ");
-        say(u.rows, b": ");
-        io::write_all(STDOUT, s);
+        let _ = rt.write_all(b"row ");
+        say(rt, u.rows, b": ");
+        let _ = rt.write_all(s);
     }
     u
 }

@@ -1,10 +1,8 @@
 -- When the encoder's answer is the expected one.
 use Rattle.std.specs.Prelude.{Bool, false, ◌&&◌, eqb}
 use Rattle.encoder.specs.declared.Encoded.{Encoded}
-use Rattle.encoder.specs.declared.Encoded.TheVariants as Encoded
 use Rattle.refusal.specs.Number.{number_of}
 use Rattle.test_encoder.specs.declared.Expected.{Expected}
-use Rattle.test_encoder.specs.declared.Expected.TheVariants as Expected
 
 -- the same word, or the same refusal at place 0
 abbrev pub agreed : Expected → Encoded → Bool
