@@ -1,0 +1,15 @@
+use mathlib.Core.List.{[], ◌∷◌}
+use native.Mathlib.Omega.{arith}
+use Rattle.orders.specs.Wrote.{word}
+use Rattle.orders.proofs.Wrote.{put_then}
+use Rattle.orders.proofs.write.put_two.Goals as goal
+
+pub returns : goal.returns
+returns c =
+    let a = c.args in (
+      omega (arith, c.put_one-next.ensures.0, c.put_one.ensures.0),
+      λ i j p q.
+          put_then a.buf.now a.len (word i ∷ []) (word j ∷ [])
+          (c.put_one-next.ensures.1 i p)
+          (c.put_one.ensures.1 j q),
+    )

@@ -1,0 +1,13 @@
+use Rattle.accesses.specs.Code.{save_float_code}
+use Rattle.orders.specs.Code.{base}
+use Rattle.orders.specs.Wrote.{offset}
+use Prim.Native.Nat.{◌%◌, ◌^◌}
+use Rattle.ast.specs.declared.Order.TheVariants.{Save}
+use Rattle.orders.proofs.Whole.{order_short}
+use Rattle.orders.proofs.Wrote.{roomy_fits}
+use Rattle.orders.proofs.write.write_save.Goals as goal
+
+pub put_access-requires : goal.put_access-requires
+put_access-requires c =
+    let a = c.args in
+    rw (c.base_of.ensures, c.offset_of.ensures) (roomy_fits a.buf.now a.len (save_float_code a.s (base a.p) (offset a.i)) c.is_roomy.ensures c.if-is_roomy.true (order_short (Save a.s a.p (a.i % 2 ^ 29))))
