@@ -8,7 +8,7 @@ use lib.Dec.{eqb}
 use lib.ListN.{length, take, drop, length-drop}
 use lib.Seq.{drop-drop, length-take-le}
 use Rattle.text.specs.Fields.{onto}
-use Rattle.text.specs.Lines.{lines_of, first_length}
+use Rattle.text.specs.Lines.{lines_of, first_length, Ends}
 
 -- f starts with a line of k bytes
 abbrev Starts : List ℕ → ℕ → Type 0
@@ -42,3 +42,7 @@ first_line f a r e h =
     let s = starts (drop a f) (omega (arith, d)) in
     let g : r - a ≡ k = omega (arith, e) in
     (omega (arith, e, s.0), omega (arith, e, s.1, d), rw g (s.2 ∙ ap (λ (l : List ℕ). take k (drop a f) ∷ lines_of l) (drop-drop k a f ∙ ap (λ (n : ℕ). drop n f) (sym e))))
+
+-- so a place that is as far on as that line is long is the line's end
+pub ends_there : (f : List ℕ) (a r : ℕ) → r ≡ a + first_length (lines_of (drop a f)) → Ends f a r
+ends_there f a r e = (e, first_line f a r e)
