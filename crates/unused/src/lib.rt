@@ -33,6 +33,7 @@ fn is_unused(e: u64) -> bool
 }
 
 // Whether every number is one that a finish accepts.
+#[tactic(auto, using(crate::proofs::From::number_good, crate::proofs::From::number_bad, crate::proofs::From::numbers_end))]
 fn numbers_good(labels: &Labels) -> bool
     ensures { result ≡ numbers_good labels.now 0 label_limit }
 {
