@@ -171,6 +171,11 @@ fn marked(text: &[u8; ROOM], from: usize) -> bool {
     test_rows::all(&b[from..], MARK)
 }
 
+// No text stands in the text's memory.
+fn mark(text: &mut [u8; ROOM]) {
+    *text = [MARK; ROOM];
+}
+
 // The answer is the row's, and behind the text nothing was written.
 fn answered(
     asked: Asked,
@@ -180,7 +185,7 @@ fn answered(
     code: &[u8; CODE],
     text: &mut [u8; ROOM],
 ) -> bool {
-    *text = [MARK; ROOM];
+    mark(text);
     let at = crate::row::column(s, 0) as usize;
     let room = crate::row::column(s, 1) as usize;
     let t = handed(asked, code, n, at, text, room);
