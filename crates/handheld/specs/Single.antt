@@ -12,7 +12,7 @@ use Rattle.deck.specs.Judge.{Content, judged}
 use Rattle.deck.specs.Judge as Deck
 use Rattle.assembler.specs.declared.Asm.{Asm}
 use Rattle.assembler.specs.Constant.{constant_fault, constant_items}
-use Rattle.assembler.specs.State.{State, Outcome, Lent, before}
+use Rattle.assembler.specs.State.{State, Outcome, Lent, Read, state, before}
 use Rattle.assembler.specs.Put.{put}
 use Rattle.finish.specs.Finish.{FinishOutcome}
 use Rattle.orders.specs.Emitted.{emitted}
@@ -130,7 +130,10 @@ abbrev pub single_after : (number : ℕ) → (rec labels jumps buf : Lent) → S
 single_after n rec labels jumps buf = single n rec.exit.now labels.exit.now jumps.exit.now buf.exit.now
 
 -- finishing only reads labels and jumps
-abbrev pub finish_after : (number : ℕ) → (rec labels jumps buf : Lent) → SingleOutcome
+abbrev pub finish_before : (rec : Lent) → (labels jumps : Read) → (buf : Lent) → State
+finish_before rec labels jumps buf = state (asm_of rec.entry.now) labels.entry.now jumps.entry.now buf.entry.now
+
+abbrev pub finish_after : (number : ℕ) → (rec : Lent) → (labels jumps : Read) → (buf : Lent) → SingleOutcome
 finish_after n rec labels jumps buf = single n rec.exit.now labels.entry.now jumps.entry.now buf.exit.now
 
 -- what becomes of an order or a constant, and of finishing

@@ -18,7 +18,7 @@ ghost use Rattle.handheld.specs.Numbers.{number, place, frame_number, deck_numbe
 ghost use Rattle.handheld.specs.Numbers.{CodeTold, listing_numbers, DeckListed, view_of};
 ghost use Rattle.handheld.specs.Single.{constant_of, no_such, line_put, constant_put};
 ghost use Rattle.handheld.specs.Single.{asm_of, numbers_of, record_after, order_outcome, finish_outcome, finish_told};
-ghost use Rattle.handheld.specs.Single.{single_before, single_after, finish_after};
+ghost use Rattle.handheld.specs.Single.{single_before, single_after, finish_before, finish_after};
 ghost use Rattle.unused.specs.Unused.{listed as unused_listed};
 ghost use Rattle.handheld.specs.Single.{UnusedTold};
 ghost use Rattle.handheld.specs.Inner.Forms.{field_of, form_says};
@@ -427,8 +427,8 @@ pub extern "C" fn order_finish(
     rec: &mut [u64; 3],
     told: &mut [u32; 2],
 ) -> u32
-    ensures { (finish_after result rec labels jumps buf ≡ finish_outcome rec (finish (single_before rec labels jumps buf)))
-        × (told.new ≡ finish_told (finish (single_before rec labels jumps buf))) }
+    ensures { (finish_after result rec labels jumps buf ≡ finish_outcome rec (finish (finish_before rec labels jumps buf)))
+        × (told.new ≡ finish_told (finish (finish_before rec labels jumps buf))) }
 {
     let f = finish::apply_jumps(buf, labels, jumps, asm_of(rec));
     let a = f.answer;
