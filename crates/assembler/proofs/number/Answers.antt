@@ -31,7 +31,7 @@ pub returns-then-fit : goal.returns-then-fit
 returns-then-fit c =
     let soundly : (t : Bool) → c.both-ok.result ≡ t → let a = c.args in a.known && sound a.n a.asm ≡ t = λ t e. let a = c.args in joined a.known c.is_sound.result (sound a.n a.asm) c.both-ok.result t c.both-ok.ensures c.is_sound.ensures.0 e in
     let roomy : (t : Bool) → c.both-fit.result ≡ t → let a = c.args in a.holds && fits a.n a.asm a.words a.jumps ≡ t = λ t e. let a = c.args in
-        joined a.holds c.has_room.result (fits a.n a.asm a.words a.jumps) c.both-fit.result t c.both-fit.ensures c.has_room.ensures.0 e in
+    joined a.holds c.has_room.result (fits a.n a.asm a.words a.jumps) c.both-fit.result t c.both-fit.ensures c.has_room.ensures.0 e in
     let f = c.if-fault-ne0.false in
     let p = both c.args.holds c.has_room.result (sym c.both-fit.ensures ∙ c.if-fit.true) in
     (v_good _ _ _ _ _ c.if-asm.false c.if-fault-eq1.false c.if-fault-eq3.false (soundly true c.if-ok.true) f c.if-taken.false (roomy true c.if-fit.true), search rules, λ e. (f, p.0, c.has_room.ensures.1 p.1))
@@ -40,7 +40,7 @@ pub returns-then-ok : goal.returns-then-ok
 returns-then-ok c =
     let soundly : (t : Bool) → c.both-ok.result ≡ t → let a = c.args in a.known && sound a.n a.asm ≡ t = λ t e. let a = c.args in joined a.known c.is_sound.result (sound a.n a.asm) c.both-ok.result t c.both-ok.ensures c.is_sound.ensures.0 e in
     let roomy : (t : Bool) → c.both-fit.result ≡ t → let a = c.args in a.holds && fits a.n a.asm a.words a.jumps ≡ t = λ t e. let a = c.args in
-        joined a.holds c.has_room.result (fits a.n a.asm a.words a.jumps) c.both-fit.result t c.both-fit.ensures c.has_room.ensures.0 e in
+    joined a.holds c.has_room.result (fits a.n a.asm a.words a.jumps) c.both-fit.result t c.both-fit.ensures c.has_room.ensures.0 e in
     (v_full _ _ _ _ _ c.if-asm.false c.if-fault-eq1.false c.if-fault-eq3.false (soundly true c.if-ok.true) c.if-fault-ne0.false c.if-taken.false (roomy false c.if-fit.false), search rules, λ e. absurd (omega arith))
 
 pub returns : goal.returns

@@ -14,29 +14,29 @@ returns-then-not-registers c = bad_register _ (sym c.registers.ensures ∙ c.if-
 pub returns-in_default : goal.returns-in_default
 returns-in_default c =
     let judged : Judged (B (get_or b_ops c.args.op BEQ) c.args.rs1 c.args.rs2 c.args.imm) c.offset_field.result (twos 13 c.args.imm) = let a = c.args in
-        let p = sym c.registers.ensures ∙ c.if-not-registers.false in
-        record {
-          passed = p;
-          means = decides (offset 13 a.imm) (a.rs1 ∷ a.rs2 ∷ []) c.offset_field.result (twos 13 a.imm) p (offset13 a.imm c.ranges.imm _ c.offset_field.ensures);
-        } in
+    let p = sym c.registers.ensures ∙ c.if-not-registers.false in
+    record {
+      passed = p;
+      means = decides (offset 13 a.imm) (a.rs1 ∷ a.rs2 ∷ []) c.offset_field.result (twos 13 a.imm) p (offset13 a.imm c.ranges.imm _ c.offset_field.ensures);
+    } in
     bad_field judged c.in_default.is
 
 pub pack-requires : goal.pack-requires
 pack-requires c =
     let judged : Judged (B (get_or b_ops c.args.op BEQ) c.args.rs1 c.args.rs2 c.args.imm) c.offset_field.result (twos 13 c.args.imm) = let a = c.args in
-        let p = sym c.registers.ensures ∙ c.if-not-registers.false in
-        record {
-          passed = p;
-          means = decides (offset 13 a.imm) (a.rs1 ∷ a.rs2 ∷ []) c.offset_field.result (twos 13 a.imm) p (offset13 a.imm c.ranges.imm _ c.offset_field.ensures);
-        } in
+    let p = sym c.registers.ensures ∙ c.if-not-registers.false in
+    record {
+      passed = p;
+      means = decides (offset 13 a.imm) (a.rs1 ∷ a.rs2 ∷ []) c.offset_field.result (twos 13 a.imm) p (offset13 a.imm c.ranges.imm _ c.offset_field.ensures);
+    } in
     small_field judged _ c.in-Bits.is _ (word_B _ _ c.requires c.base.ensures _ _ _ _)
 
 pub returns : goal.returns
 returns c =
     let judged : Judged (B (get_or b_ops c.args.op BEQ) c.args.rs1 c.args.rs2 c.args.imm) c.offset_field.result (twos 13 c.args.imm) = let a = c.args in
-        let p = sym c.registers.ensures ∙ c.if-not-registers.false in
-        record {
-          passed = p;
-          means = decides (offset 13 a.imm) (a.rs1 ∷ a.rs2 ∷ []) c.offset_field.result (twos 13 a.imm) p (offset13 a.imm c.ranges.imm _ c.offset_field.ensures);
-        } in
+    let p = sym c.registers.ensures ∙ c.if-not-registers.false in
+    record {
+      passed = p;
+      means = decides (offset 13 a.imm) (a.rs1 ∷ a.rs2 ∷ []) c.offset_field.result (twos 13 a.imm) p (offset13 a.imm c.ranges.imm _ c.offset_field.ensures);
+    } in
     good_field judged _ c.in-Bits.is _ (λ e. c.pack.ensures ∙ word_B _ _ c.requires c.base.ensures _ _ _ _ e)

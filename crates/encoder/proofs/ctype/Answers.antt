@@ -14,12 +14,12 @@ pub pack-requires : goal.pack-requires
 pack-requires c =
     let passed : registers_hold (register c.args.rd ∷ register c.args.rs1 ∷ []) ≡ true = sym c.registers.ensures ∙ c.if-not-registers.false in
     let rounded : valid (C (get_or c_ops c.args.op FSQRT_D) c.args.rd c.args.rs1 c.args.rm) ≡ true = let o = rounding (c_rounding (get_or c_ops c.args.op FSQRT_D)) c.args.rm in
-        inside o (c.args.rd ∷ c.args.rs1 ∷ []) passed c.requires.1 in
+    inside o (c.args.rd ∷ c.args.rs1 ∷ []) passed c.requires.1 in
     small _ rounded _ (word_C _ _ c.requires.0 c.base.ensures _ _ _)
 
 pub returns : goal.returns
 returns c =
     let passed : registers_hold (register c.args.rd ∷ register c.args.rs1 ∷ []) ≡ true = sym c.registers.ensures ∙ c.if-not-registers.false in
     let rounded : valid (C (get_or c_ops c.args.op FSQRT_D) c.args.rd c.args.rs1 c.args.rm) ≡ true = let o = rounding (c_rounding (get_or c_ops c.args.op FSQRT_D)) c.args.rm in
-        inside o (c.args.rd ∷ c.args.rs1 ∷ []) passed c.requires.1 in
+    inside o (c.args.rd ∷ c.args.rs1 ∷ []) passed c.requires.1 in
     good _ rounded _ (c.pack.ensures ∙ word_C _ _ c.requires.0 c.base.ensures _ _ _) passed

@@ -14,12 +14,12 @@ pub pack-requires : goal.pack-requires
 pack-requires c =
     let passed : registers_hold (register c.args.rd ∷ register c.args.rs1 ∷ register c.args.rs2 ∷ []) ≡ true = sym c.registers.ensures ∙ c.if-not-registers.false in
     let rounded : valid (F (get_or f_ops c.args.op FADD_D) c.args.rd c.args.rs1 c.args.rs2 c.args.rm) ≡ true = let o = rounding (f_rounding (get_or f_ops c.args.op FADD_D)) c.args.rm in
-        inside o (c.args.rd ∷ c.args.rs1 ∷ c.args.rs2 ∷ []) passed c.requires.1 in
+    inside o (c.args.rd ∷ c.args.rs1 ∷ c.args.rs2 ∷ []) passed c.requires.1 in
     small _ rounded _ (word_F _ _ c.requires.0 c.base.ensures _ _ _ _)
 
 pub returns : goal.returns
 returns c =
     let passed : registers_hold (register c.args.rd ∷ register c.args.rs1 ∷ register c.args.rs2 ∷ []) ≡ true = sym c.registers.ensures ∙ c.if-not-registers.false in
     let rounded : valid (F (get_or f_ops c.args.op FADD_D) c.args.rd c.args.rs1 c.args.rs2 c.args.rm) ≡ true = let o = rounding (f_rounding (get_or f_ops c.args.op FADD_D)) c.args.rm in
-        inside o (c.args.rd ∷ c.args.rs1 ∷ c.args.rs2 ∷ []) passed c.requires.1 in
+    inside o (c.args.rd ∷ c.args.rs1 ∷ c.args.rs2 ∷ []) passed c.requires.1 in
     good _ rounded _ (c.pack.ensures ∙ word_F _ _ c.requires.0 c.base.ensures _ _ _ _) passed

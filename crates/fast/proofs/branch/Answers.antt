@@ -32,13 +32,13 @@ returns-then-y-ge1024 c =
 pub overflow_add-b-2 : goal.overflow_add-b-2
 overflow_add-b-2 c =
     let fits : c.near_field-g.result.stop + 1 + c.short_field-h.result.stop ≤ length c.args.s.now = let n = c.near_field-g in
-        stop_fits _ _ 0 n.result n.ensures c.if-x-ge32.false c.short_field-h.result c.short_field-h.ensures in
+    stop_fits _ _ 0 n.result n.ensures c.if-x-ge32.false c.short_field-h.result c.short_field-h.ensures in
     record { fits = omega (arith, fits) }
 
 pub overflow_add-b-3 : goal.overflow_add-b-3
 overflow_add-b-3 c =
     let fits : c.near_field-g.result.stop + 1 + c.short_field-h.result.stop ≤ length c.args.s.now = let n = c.near_field-g in
-        stop_fits _ _ 0 n.result n.ensures c.if-x-ge32.false c.short_field-h.result c.short_field-h.ensures in
+    stop_fits _ _ 0 n.result n.ensures c.if-x-ge32.false c.short_field-h.result c.short_field-h.ensures in
     record { fits = omega (arith, fits) }
 
 pub returns-in_default : goal.returns-in_default

@@ -50,11 +50,11 @@ returns-then-y-ge-NONE c =
 pub overflow_mul-result-2 : goal.overflow_mul-result-2
 overflow_mul-result-2 c =
     let few : c.loop-left.scale * c.last_below-y.result ≤ 134184960 = let a = c.args in
-        product c.loop-left.left c.loop-left.scale c.last_below-y.result c.loop-left.invariant.1 (omega (arith, last_below a.s.now c.loop-left.at c.last_bound.result c.last_below-y.result (is_some _ c.last_below-y.result c.last_below-y.ensures c.if-y-ge-NONE.false), c.last_bound.ensures.1)) in
+    product c.loop-left.left c.loop-left.scale c.last_below-y.result c.loop-left.invariant.1 (omega (arith, last_below a.s.now c.loop-left.at c.last_bound.result c.last_below-y.result (is_some _ c.last_below-y.result c.last_below-y.ensures c.if-y-ge-NONE.false), c.last_bound.ensures.1)) in
     record { fits = omega (arith, few, c.loop-left.invariant.1, c.loop-left.invariant.2, most_of_all c.loop-left.left) }
 
 pub overflow_add-result-2 : goal.overflow_add-result-2
 overflow_add-result-2 c =
     let few : c.loop-left.scale * c.last_below-y.result ≤ 134184960 = let a = c.args in
-        product c.loop-left.left c.loop-left.scale c.last_below-y.result c.loop-left.invariant.1 (omega (arith, last_below a.s.now c.loop-left.at c.last_bound.result c.last_below-y.result (is_some _ c.last_below-y.result c.last_below-y.ensures c.if-y-ge-NONE.false), c.last_bound.ensures.1)) in
+    product c.loop-left.left c.loop-left.scale c.last_below-y.result c.loop-left.invariant.1 (omega (arith, last_below a.s.now c.loop-left.at c.last_bound.result c.last_below-y.result (is_some _ c.last_below-y.result c.last_below-y.ensures c.if-y-ge-NONE.false), c.last_bound.ensures.1)) in
     record { fits = omega (arith, few, c.loop-left.invariant.1, c.loop-left.invariant.2, most_of_all c.loop-left.left, c.requires) }

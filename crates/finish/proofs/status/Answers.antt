@@ -47,7 +47,7 @@ returns-then-reaches c =
     let this : Jump = record { word = c.args.p; label = c.args.l; reg = c.args.r; kind = c.args.k } in
     let good : jump_good c.args.len this ≡ true = good_jump c.args.len this c.if-len-at.false c.if-at-ne0.false c.if-r-ge32.false c.if-i-ge-LABELS.false c.if-k-ge6.false in
     let number : let a = c.args in cond c.reaches.result 0 6 ≡ jump_number a.labels.now a.len this = let a = c.args in
-        wrong_far a.labels.now a.len this good (sym c.is_unset.ensures ∙ c.if-is_unset.false) c.if-k-ge6.false c.if-r-ge32.false _ _ c.label_place-a.ensures c.reaches.ensures in
+    wrong_far a.labels.now a.len this good (sym c.is_unset.ensures ∙ c.if-is_unset.false) c.if-k-ge6.false c.if-r-ge32.false _ _ c.label_place-a.ensures c.reaches.ensures in
     ap (λ (t : Bool). cond t 0 6) (sym c.if-reaches.true) ∙ number
 
 pub returns : goal.returns
@@ -55,5 +55,5 @@ returns c =
     let this : Jump = record { word = c.args.p; label = c.args.l; reg = c.args.r; kind = c.args.k } in
     let good : jump_good c.args.len this ≡ true = good_jump c.args.len this c.if-len-at.false c.if-at-ne0.false c.if-r-ge32.false c.if-i-ge-LABELS.false c.if-k-ge6.false in
     let number : let a = c.args in cond c.reaches.result 0 6 ≡ jump_number a.labels.now a.len this = let a = c.args in
-        wrong_far a.labels.now a.len this good (sym c.is_unset.ensures ∙ c.if-is_unset.false) c.if-k-ge6.false c.if-r-ge32.false _ _ c.label_place-a.ensures c.reaches.ensures in
+    wrong_far a.labels.now a.len this good (sym c.is_unset.ensures ∙ c.if-is_unset.false) c.if-k-ge6.false c.if-r-ge32.false _ _ c.label_place-a.ensures c.reaches.ensures in
     ap (λ (t : Bool). cond t 0 6) (sym c.if-reaches.false) ∙ number

@@ -20,8 +20,8 @@ pub returns-then-ok : goal.returns-then-ok
 returns-then-ok c =
     let first : State = state c.args.asm c.args.labels.now c.args.jumps.now c.args.buf.now in
     let whole : left_of c.precheck-d.ensures ≡ checked (prologue_fast c.args.head) first = let mem = c.sub_words.ensures.0 ∙ ap (λ (k : ℕ). length (sub_stack_code k)) c.size_of-mem.ensures.0 in
-        let stack = c.sub_words-2.ensures.0 ∙ ap (λ (k : ℕ). length (sub_stack_code k)) c.size_of-stack.ensures.0 in
-        checks (prologue_fast c.args.head) first _ _ c.precheck-d.ensures (fast_number c.args.head _ _ first mem stack) in
+    let stack = c.sub_words-2.ensures.0 ∙ ap (λ (k : ℕ). length (sub_stack_code k)) c.size_of-stack.ensures.0 in
+    checks (prologue_fast c.args.head) first _ _ c.precheck-d.ensures (fast_number c.args.head _ _ first mem stack) in
     let s = first in
     let H = c.args.head in
     let few = c.requires.2 in
@@ -46,6 +46,6 @@ pub returns : goal.returns
 returns c =
     let first : State = state c.args.asm c.args.labels.now c.args.jumps.now c.args.buf.now in
     let whole : left_of c.precheck-d.ensures ≡ checked (prologue_fast c.args.head) first = let mem = c.sub_words.ensures.0 ∙ ap (λ (k : ℕ). length (sub_stack_code k)) c.size_of-mem.ensures.0 in
-        let stack = c.sub_words-2.ensures.0 ∙ ap (λ (k : ℕ). length (sub_stack_code k)) c.size_of-stack.ensures.0 in
-        checks (prologue_fast c.args.head) first _ _ c.precheck-d.ensures (fast_number c.args.head _ _ first mem stack) in
+    let stack = c.sub_words-2.ensures.0 ∙ ap (λ (k : ℕ). length (sub_stack_code k)) c.size_of-stack.ensures.0 in
+    checks (prologue_fast c.args.head) first _ _ c.precheck-d.ensures (fast_number c.args.head _ _ first mem stack) in
     refuses 0 (prologue_fast c.args.head) first _ whole (sym c.accepted-ok.ensures ∙ c.if-ok.false)

@@ -20,7 +20,7 @@ pub returns-then-ok : goal.returns-then-ok
 returns-then-ok c =
     let first : State = state c.args.asm c.args.labels.now c.args.jumps.now c.args.buf.now in
     let whole : left_of c.precheck-d.ensures ≡ checked (epilogue_indirect c.args.head) first = checks (epilogue_indirect c.args.head) first _ _ c.precheck-d.ensures
-        (end_number c.args.head first _ _ _ c.end_sets-sets.ensures.0 c.end_goes-goes.ensures c.copy_words-w.ensures.0) in
+    (end_number c.args.head first _ _ _ c.end_sets-sets.ensures.0 c.end_goes-goes.ensures c.copy_words-w.ensures.0) in
     let H = c.args.head in
     let tag = c.args.tag in
     let cs = copies true H.states H.obs in
@@ -37,5 +37,5 @@ pub returns : goal.returns
 returns c =
     let first : State = state c.args.asm c.args.labels.now c.args.jumps.now c.args.buf.now in
     let whole : left_of c.precheck-d.ensures ≡ checked (epilogue_indirect c.args.head) first = checks (epilogue_indirect c.args.head) first _ _ c.precheck-d.ensures
-        (end_number c.args.head first _ _ _ c.end_sets-sets.ensures.0 c.end_goes-goes.ensures c.copy_words-w.ensures.0) in
+    (end_number c.args.head first _ _ _ c.end_sets-sets.ensures.0 c.end_goes-goes.ensures c.copy_words-w.ensures.0) in
     refuses c.args.tag (epilogue_indirect c.args.head) first _ whole (sym c.accepted-ok.ensures ∙ c.if-ok.false)

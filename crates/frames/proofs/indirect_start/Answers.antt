@@ -25,9 +25,9 @@ pub returns-then-ok : goal.returns-then-ok
 returns-then-ok c =
     let first : State = state c.args.asm c.args.labels.now c.args.jumps.now c.args.buf.now in
     let whole : left_of c.precheck-d.ensures ≡ checked (prologue_indirect c.args.head) first = let mem = c.sub_words.ensures.0 ∙ ap (λ (k : ℕ). length (sub_stack_code k)) c.size_of-mem.ensures.0 in
-        let stack = c.allocate_words.ensures.0 ∙ ap (λ (k : ℕ). length (allocate_stack_code k)) c.size_of-stack.ensures.0 in
-        checks (prologue_indirect c.args.head) first _ _ c.precheck-d.ensures
-        (start_number c.args.head first _ _ _ _ _ c.start_sets-sets.ensures.0 c.start_goes-goes.ensures mem c.copy_words.ensures.0 stack) in
+    let stack = c.allocate_words.ensures.0 ∙ ap (λ (k : ℕ). length (allocate_stack_code k)) c.size_of-stack.ensures.0 in
+    checks (prologue_indirect c.args.head) first _ _ c.precheck-d.ensures
+    (start_number c.args.head first _ _ _ _ _ c.start_sets-sets.ensures.0 c.start_goes-goes.ensures mem c.copy_words.ensures.0 stack) in
     let a = c.args in
     let s = first in
     let H = a.head in
@@ -50,7 +50,7 @@ pub returns : goal.returns
 returns c =
     let first : State = state c.args.asm c.args.labels.now c.args.jumps.now c.args.buf.now in
     let whole : left_of c.precheck-d.ensures ≡ checked (prologue_indirect c.args.head) first = let mem = c.sub_words.ensures.0 ∙ ap (λ (k : ℕ). length (sub_stack_code k)) c.size_of-mem.ensures.0 in
-        let stack = c.allocate_words.ensures.0 ∙ ap (λ (k : ℕ). length (allocate_stack_code k)) c.size_of-stack.ensures.0 in
-        checks (prologue_indirect c.args.head) first _ _ c.precheck-d.ensures
-        (start_number c.args.head first _ _ _ _ _ c.start_sets-sets.ensures.0 c.start_goes-goes.ensures mem c.copy_words.ensures.0 stack) in
+    let stack = c.allocate_words.ensures.0 ∙ ap (λ (k : ℕ). length (allocate_stack_code k)) c.size_of-stack.ensures.0 in
+    checks (prologue_indirect c.args.head) first _ _ c.precheck-d.ensures
+    (start_number c.args.head first _ _ _ _ _ c.start_sets-sets.ensures.0 c.start_goes-goes.ensures mem c.copy_words.ensures.0 stack) in
     refuses c.args.tag (prologue_indirect c.args.head) first _ whole (sym c.accepted-ok.ensures ∙ c.if-ok.false)

@@ -32,8 +32,8 @@ unfolding looped
 returns-then-ok c =
     let first : State = state c.args.asm c.args.labels.now c.args.jumps.now c.args.buf.now in
     let whole : left_of c.precheck-d.ensures ≡ checked (looped c.args.out c.args.states c.args.n) first = let a = c.args in
-        checks (looped a.out a.states a.n) first _ _ c.precheck-d.ensures
-        (looped_number a.out a.states a.n _ _ _ first c.label_of-l.ensures.0 c.first_words.ensures.0 (c.li_words.ensures.0 7)) in
+    checks (looped a.out a.states a.n) first _ _ c.precheck-d.ensures
+    (looped_number a.out a.states a.n _ _ _ first c.label_of-l.ensures.0 c.first_words.ensures.0 (c.li_words.ensures.0 7)) in
     let a = c.args in
     let s = first in
     let part = copy_first a.out a.states in
@@ -62,6 +62,6 @@ pub returns : goal.returns
 returns c =
     let first : State = state c.args.asm c.args.labels.now c.args.jumps.now c.args.buf.now in
     let whole : left_of c.precheck-d.ensures ≡ checked (looped c.args.out c.args.states c.args.n) first = let a = c.args in
-        checks (looped a.out a.states a.n) first _ _ c.precheck-d.ensures
-        (looped_number a.out a.states a.n _ _ _ first c.label_of-l.ensures.0 c.first_words.ensures.0 (c.li_words.ensures.0 7)) in
+    checks (looped a.out a.states a.n) first _ _ c.precheck-d.ensures
+    (looped_number a.out a.states a.n _ _ _ first c.label_of-l.ensures.0 c.first_words.ensures.0 (c.li_words.ensures.0 7)) in
     refuses c.args.tag (looped c.args.out c.args.states c.args.n) first _ whole (sym c.accepted-ok.ensures ∙ c.if-ok.false)

@@ -82,7 +82,7 @@ loop-i-preserved c =
       step.0,
       step.1,
       elim c.if-b.branch [
-        then-b w ↦ rw (w.w-is, w.i-is) (added _ _ _ _ _ _ _ _ step.2 l.invariant.2 few (sym e ∙ w.if-b.true) _ w.used_word.ensures)
+        | then-b w ↦ rw (w.w-is, w.i-is) (added _ _ _ _ _ _ _ _ step.2 l.invariant.2 few (sym e ∙ w.if-b.true) _ w.used_word.ensures)
         | else-b w ↦ rw (w.w-is, w.i-is) (passed _ _ _ _ _ _ _ _ step.2 l.invariant.2 (sym e ∙ w.if-b.false))
       ],
     )

@@ -11,13 +11,13 @@ use Rattle.print.proofs.refusal_line.Goals as goal
 pub overflow_add-k : goal.overflow_add-k
 overflow_add-k c =
     let short : (c.decimal_length.result ≤ 3) × (c.decimal_length-2.result ≤ 20) = let a = c.args in
-        (omega (arith, c.decimal_length.ensures.0, decimal_short 2 a.number (omega arith)), omega (arith, c.decimal_length-2.ensures.0, decimal_short 19 a.line (omega arith))) in
+    (omega (arith, c.decimal_length.ensures.0, decimal_short 2 a.number (omega arith)), omega (arith, c.decimal_length-2.ensures.0, decimal_short 19 a.line (omega arith))) in
     omega (arith, short)
 
 pub overflow_add-k-2 : goal.overflow_add-k-2
 overflow_add-k-2 c =
     let short : (c.decimal_length.result ≤ 3) × (c.decimal_length-2.result ≤ 20) = let a = c.args in
-        (omega (arith, c.decimal_length.ensures.0, decimal_short 2 a.number (omega arith)), omega (arith, c.decimal_length-2.ensures.0, decimal_short 19 a.line (omega arith))) in
+    (omega (arith, c.decimal_length.ensures.0, decimal_short 2 a.number (omega arith)), omega (arith, c.decimal_length-2.ensures.0, decimal_short 19 a.line (omega arith))) in
     omega (arith, short)
 
 pub returns-then-out-k : goal.returns-then-out-k

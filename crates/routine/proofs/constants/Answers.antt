@@ -16,8 +16,7 @@ returns-in-Refused c =
 pub loop-k-preserved : goal.loop-k-preserved
 loop-k-preserved c =
     let room : c.args.n ≤ length c.args.places.now = omega (arith, c.requires) in
-    let d = c.append_const-d in
-    (
+    let d = c.append_const-d in (
       omega (arith, c.loop-k-test.true),
       c.buf-1.given ∙ c.loop-k.invariant.1,
       λ line f.

@@ -24,8 +24,8 @@ pub returns-in-Head : goal.returns-in-Head
 returns-in-Head c =
     let at-start : State = let a = c.args in state a.asm a.labels.now a.jumps.now a.buf.now in
     let split : let f = c.args.file.now in (c.line_end-e.result ≤ length f) × (lines_of f ≡ take c.line_end-e.result f ∷ lines_of (drop c.line_end-e.result f)) = let g = c.line_end-e.ensures.1 (omega (arith, c.if-file-eq0.false)) in
-        let z : c.line_end-e.result - 0 ≡ c.line_end-e.result = omega arith in
-        (g.1, g.2 ∙ rw z) in
+    let z : c.line_end-e.result - 0 ≡ c.line_end-e.result = omega arith in
+    (g.1, g.2 ∙ rw z) in
     let first : let f = c.args.file.now in head_run (line_answer c.read_line-j.result) (lines_of (drop c.line_end-e.result f)) at-start ≡ file_run f at-start = file_goes c.args.file.now at-start c.if-file-gt65536.false _ _ split.1 (line_answer c.read_line-j.result) c.read_line-j.ensures in
     c.read_headed.ensures ∙ rw c.in-Head.is at first
 
@@ -33,8 +33,8 @@ pub returns-in-Order : goal.returns-in-Order
 returns-in-Order c =
     let at-start : State = let a = c.args in state a.asm a.labels.now a.jumps.now a.buf.now in
     let split : let f = c.args.file.now in (c.line_end-e.result ≤ length f) × (lines_of f ≡ take c.line_end-e.result f ∷ lines_of (drop c.line_end-e.result f)) = let g = c.line_end-e.ensures.1 (omega (arith, c.if-file-eq0.false)) in
-        let z : c.line_end-e.result - 0 ≡ c.line_end-e.result = omega arith in
-        (g.1, g.2 ∙ rw z) in
+    let z : c.line_end-e.result - 0 ≡ c.line_end-e.result = omega arith in
+    (g.1, g.2 ∙ rw z) in
     let first : let f = c.args.file.now in head_run (line_answer c.read_line-j.result) (lines_of (drop c.line_end-e.result f)) at-start ≡ file_run f at-start = file_goes c.args.file.now at-start c.if-file-gt65536.false _ _ split.1 (line_answer c.read_line-j.result) c.read_line-j.ensures in
     rw c.refused-in-Order.ensures (rw c.in-Order.is at first)
 
@@ -42,8 +42,8 @@ pub returns-in-Constant : goal.returns-in-Constant
 returns-in-Constant c =
     let at-start : State = let a = c.args in state a.asm a.labels.now a.jumps.now a.buf.now in
     let split : let f = c.args.file.now in (c.line_end-e.result ≤ length f) × (lines_of f ≡ take c.line_end-e.result f ∷ lines_of (drop c.line_end-e.result f)) = let g = c.line_end-e.ensures.1 (omega (arith, c.if-file-eq0.false)) in
-        let z : c.line_end-e.result - 0 ≡ c.line_end-e.result = omega arith in
-        (g.1, g.2 ∙ rw z) in
+    let z : c.line_end-e.result - 0 ≡ c.line_end-e.result = omega arith in
+    (g.1, g.2 ∙ rw z) in
     let first : let f = c.args.file.now in head_run (line_answer c.read_line-j.result) (lines_of (drop c.line_end-e.result f)) at-start ≡ file_run f at-start = file_goes c.args.file.now at-start c.if-file-gt65536.false _ _ split.1 (line_answer c.read_line-j.result) c.read_line-j.ensures in
     rw c.refused-in-Constant.ensures (rw c.in-Constant.is at first)
 
@@ -51,7 +51,7 @@ pub returns-in-Refused : goal.returns-in-Refused
 returns-in-Refused c =
     let at-start : State = let a = c.args in state a.asm a.labels.now a.jumps.now a.buf.now in
     let split : let f = c.args.file.now in (c.line_end-e.result ≤ length f) × (lines_of f ≡ take c.line_end-e.result f ∷ lines_of (drop c.line_end-e.result f)) = let g = c.line_end-e.ensures.1 (omega (arith, c.if-file-eq0.false)) in
-        let z : c.line_end-e.result - 0 ≡ c.line_end-e.result = omega arith in
-        (g.1, g.2 ∙ rw z) in
+    let z : c.line_end-e.result - 0 ≡ c.line_end-e.result = omega arith in
+    (g.1, g.2 ∙ rw z) in
     let first : let f = c.args.file.now in head_run (line_answer c.read_line-j.result) (lines_of (drop c.line_end-e.result f)) at-start ≡ file_run f at-start = file_goes c.args.file.now at-start c.if-file-gt65536.false _ _ split.1 (line_answer c.read_line-j.result) c.read_line-j.ensures in
     rw c.refused-in-Refused.ensures (rw c.in-Refused.is at first)

@@ -7,13 +7,13 @@ use Rattle.routine.proofs.routine_in.Goals as goal
 pub returns-in-Refused : goal.returns-in-Refused
 returns-in-Refused c =
     let fresh-run : let a = c.args in let r = c.read_file-r in run_outcome r.result r.new.labels r.new.jumps r.new.buf ≡ file_run a.file.now (fresh a.jumps.now a.buf.now) = let a = c.args in
-        c.read_file-r.ensures ∙ file_fresh a.file.now a.jumps.now a.buf.now _ _ c.clear_labels.ensures c.clear.ensures in
+    c.read_file-r.ensures ∙ file_fresh a.file.now a.jumps.now a.buf.now _ _ c.clear_labels.ensures c.clear.ensures in
     let a = c.args in
     run_refused a.file.now a.jumps.now a.buf.now c.read_file-r.result _ _ _ fresh-run _ _ c.in-Refused.is _ c.clear-in-Refused.ensures
 
 pub returns : goal.returns
 returns c =
     let fresh-run : let a = c.args in let r = c.read_file-r in run_outcome r.result r.new.labels r.new.jumps r.new.buf ≡ file_run a.file.now (fresh a.jumps.now a.buf.now) = let a = c.args in
-        c.read_file-r.ensures ∙ file_fresh a.file.now a.jumps.now a.buf.now _ _ c.clear_labels.ensures c.clear.ensures in
+    c.read_file-r.ensures ∙ file_fresh a.file.now a.jumps.now a.buf.now _ _ c.clear_labels.ensures c.clear.ensures in
     let a = c.args in
     run_accepted a.file.now a.jumps.now a.buf.now c.read_file-r.result _ _ _ fresh-run _ _ _ _ _ c.in_default.is

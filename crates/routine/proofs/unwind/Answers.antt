@@ -8,8 +8,7 @@ pub returns-in-Refused : goal.returns-in-Refused
 returns-in-Refused c =
     let at-start : State = let a = c.args in state a.asm a.labels.now a.jumps.now a.buf.now in
     let d = c.load_used_registers-d in
-    let a = c.args in
-    (
+    let a = c.args in (
       λ cs. sym (reloads_stop a.head a.line cs at-start d.result _ _ _ d.ensures _ _ c.in-Refused.is) ∙ sym (halts d.result _ _ _ a.line _ _ _ c.in-Refused.is),
       λ g. absurd (no_both d.result _ _ c.in-Refused.is g),
     )

@@ -13,7 +13,7 @@ slice_bounds-list-end c =
     list_room a.labels.now a.asm u.result _ _ u.ensures.0 u.ensures.1 c.count-n.ensures
 
 pub slice_bounds-put_labels-end : goal.slice_bounds-put_labels-end
-slice_bounds-put_labels-end c = 
+slice_bounds-put_labels-end c =
     let a = c.args in
     let u = c.unused_labels in
     sym (length-take-le _ _ (list_room a.labels.now a.asm u.result _ _ u.ensures.0 u.ensures.1 c.count-n.ensures))
@@ -31,7 +31,7 @@ slice_bounds-text-end c =
     text_room a.labels.now a.asm u.result _ _ u.ensures.0 u.ensures.1 c.count-n.ensures a.file.now c.set_lines-found.result c.set_lines-found.ensures _ _ c.put_labels-k.ensures.0 c.put_labels-k.ensures.1
 
 pub slice_bounds-put_text-end : goal.slice_bounds-put_text-end
-slice_bounds-put_text-end c = 
+slice_bounds-put_text-end c =
     let a = c.args in
     let u = c.unused_labels in
     sym (length-take-le _ _ (text_room a.labels.now a.asm u.result _ _ u.ensures.0 u.ensures.1 c.count-n.ensures a.file.now c.set_lines-found.result c.set_lines-found.ensures _ _ c.put_labels-k.ensures.0 c.put_labels-k.ensures.1))

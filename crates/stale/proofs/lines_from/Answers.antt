@@ -21,8 +21,8 @@ loop-at-preserved-then-l-ge-OWN c =
     let split : let f = c.args.file.now in (c.loop-at.at < c.line_end-at.result) × (c.line_end-at.result ≤ length f) × (lines_of (drop c.loop-at.at f) ≡ text ∷ rest) = c.line_end-at.ensures.1 c.loop-at-test.true in
     let found : Found all (text ∷ rest) c.loop-at.next c.loop-at.found = subst (λ (ts : List (List ℕ)). Found all ts c.loop-at.next c.loop-at.found) split.2 c.loop-at.invariant.1 in
     let small : let l = c.loop-at in (l.next ≤ l.at + 1) × (l.next ≤ 65536) = let n = c.loop-at.invariant.0 c.loop-at-test.true in
-        let f = c.requires.0 in
-        (n, omega (arith, n, f, c.loop-at-test.true)) in
+    let f = c.requires.0 in
+    (n, omega (arith, n, f, c.loop-at-test.true)) in
     let further : c.loop-at.next + 1 ≤ c.line_end-at.result + 1 = omega (arith, small.0, split.0) in
     let l = c.loop-at in
     (λ h. further, passed_by all text rest l.next l.found found _ c.label_of-l.ensures c.if-l-ge-OWN.true)
@@ -35,8 +35,8 @@ loop-at-preserved-then-found-l-ne0 c =
     let split : let f = c.args.file.now in (c.loop-at.at < c.line_end-at.result) × (c.line_end-at.result ≤ length f) × (lines_of (drop c.loop-at.at f) ≡ text ∷ rest) = c.line_end-at.ensures.1 c.loop-at-test.true in
     let found : Found all (text ∷ rest) c.loop-at.next c.loop-at.found = subst (λ (ts : List (List ℕ)). Found all ts c.loop-at.next c.loop-at.found) split.2 c.loop-at.invariant.1 in
     let small : let l = c.loop-at in (l.next ≤ l.at + 1) × (l.next ≤ 65536) = let n = c.loop-at.invariant.0 c.loop-at-test.true in
-        let f = c.requires.0 in
-        (n, omega (arith, n, f, c.loop-at-test.true)) in
+    let f = c.requires.0 in
+    (n, omega (arith, n, f, c.loop-at-test.true)) in
     let further : c.loop-at.next + 1 ≤ c.line_end-at.result + 1 = omega (arith, small.0, split.0) in
     let l = c.loop-at in
     (λ h. further, set_before all text rest l.next l.found found _ c.label_of-l.ensures c.if-found-l-ne0.true)
@@ -49,8 +49,8 @@ loop-at-preserved c =
     let split : let f = c.args.file.now in (c.loop-at.at < c.line_end-at.result) × (c.line_end-at.result ≤ length f) × (lines_of (drop c.loop-at.at f) ≡ text ∷ rest) = c.line_end-at.ensures.1 c.loop-at-test.true in
     let found : Found all (text ∷ rest) c.loop-at.next c.loop-at.found = subst (λ (ts : List (List ℕ)). Found all ts c.loop-at.next c.loop-at.found) split.2 c.loop-at.invariant.1 in
     let small : let l = c.loop-at in (l.next ≤ l.at + 1) × (l.next ≤ 65536) = let n = c.loop-at.invariant.0 c.loop-at-test.true in
-        let f = c.requires.0 in
-        (n, omega (arith, n, f, c.loop-at-test.true)) in
+    let f = c.requires.0 in
+    (n, omega (arith, n, f, c.loop-at-test.true)) in
     let further : c.loop-at.next + 1 ≤ c.line_end-at.result + 1 = omega (arith, small.0, split.0) in
     let l = c.loop-at in
     (λ h. further, noted_one all text rest l.next l.found found _ c.label_of-l.ensures c.if-l-ge-OWN.false c.if-found-l-ne0.false small.1)

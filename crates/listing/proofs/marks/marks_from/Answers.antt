@@ -19,7 +19,7 @@ loop-at-preserved-then-m-eq-NONE c =
     let rest : List (List ℕ) = lines_of (drop c.line_end-at.result c.args.file.now) in
     let split : let f = c.args.file.now in (c.loop-at.at < c.line_end-at.result) × (c.line_end-at.result ≤ length f) × (lines_of (drop c.loop-at.at f) ≡ text ∷ rest) = c.line_end-at.ensures.1 c.loop-at-test.true in
     let noted : let a = c.args in Noted (from a.file.now a.at) (marks_of (text ∷ rest)) c.loop-at.marks c.loop-at.k = let a = c.args in
-        subst (λ (ts : List (List ℕ)). Noted (from a.file.now a.at) (marks_of ts) c.loop-at.marks c.loop-at.k) split.2 c.loop-at.invariant in
+    subst (λ (ts : List (List ℕ)). Noted (from a.file.now a.at) (marks_of ts) c.loop-at.marks c.loop-at.k) split.2 c.loop-at.invariant in
     let a = c.args in
     passed_by (from a.file.now a.at) c.loop-at.marks c.loop-at.k text rest noted (sym c.mark_of-m.ensures ∙ c.if-m-eq-NONE.true)
 
@@ -29,7 +29,7 @@ loop-at-preserved c =
     let rest : List (List ℕ) = lines_of (drop c.line_end-at.result c.args.file.now) in
     let split : let f = c.args.file.now in (c.loop-at.at < c.line_end-at.result) × (c.line_end-at.result ≤ length f) × (lines_of (drop c.loop-at.at f) ≡ text ∷ rest) = c.line_end-at.ensures.1 c.loop-at-test.true in
     let noted : let a = c.args in Noted (from a.file.now a.at) (marks_of (text ∷ rest)) c.loop-at.marks c.loop-at.k = let a = c.args in
-        subst (λ (ts : List (List ℕ)). Noted (from a.file.now a.at) (marks_of ts) c.loop-at.marks c.loop-at.k) split.2 c.loop-at.invariant in
+    subst (λ (ts : List (List ℕ)). Noted (from a.file.now a.at) (marks_of ts) c.loop-at.marks c.loop-at.k) split.2 c.loop-at.invariant in
     let room : c.loop-at.k < 1008 = let l = c.loop-at in omega (arith, l.invariant.few, c.if-k-eq-CONSTANTS.false) in
     let a = c.args in
     noted_one (from a.file.now a.at) c.loop-at.marks c.loop-at.k text rest noted c.mark_of-m.result c.mark_of-m.ensures c.if-m-eq-NONE.false room

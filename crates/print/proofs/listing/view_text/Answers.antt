@@ -12,7 +12,7 @@ use Rattle.print.proofs.listing.view_text.Goals as goal
 pub returns-then-not-have_room : goal.returns-then-not-have_room
 returns-then-not-have_room c =
     let room : let a = c.args in c.have_room.result ≡ leb (length (views_from (marked a.marks.now) a.constants a.code.now 0)) (length a.out.now) = let a = c.args in
-        c.have_room.ensures ∙ ap (λ (n : ℕ). leb n (length a.out.now)) (sym (views_length (marked a.marks.now) a.constants 0 (words_of a.code.now))) in
+    c.have_room.ensures ∙ ap (λ (n : ℕ). leb n (length a.out.now)) (sym (views_length (marked a.marks.now) a.constants 0 (words_of a.code.now))) in
     let a = c.args in
     let t = views_from (marked a.marks.now) a.constants a.code.now 0 in
     too_long t 0 a.out.now (from_none t a.out.now _ false room c.if-not-have_room.true)
@@ -20,7 +20,7 @@ returns-then-not-have_room c =
 pub returns : goal.returns
 returns c =
     let room : let a = c.args in c.have_room.result ≡ leb (length (views_from (marked a.marks.now) a.constants a.code.now 0)) (length a.out.now) = let a = c.args in
-        c.have_room.ensures ∙ ap (λ (n : ℕ). leb n (length a.out.now)) (sym (views_length (marked a.marks.now) a.constants 0 (words_of a.code.now))) in
+    c.have_room.ensures ∙ ap (λ (n : ℕ). leb n (length a.out.now)) (sym (views_length (marked a.marks.now) a.constants 0 (words_of a.code.now))) in
     let a = c.args in
     let t = views_from (marked a.marks.now) a.constants a.code.now 0 in
     let p = c.put_lines-n in
