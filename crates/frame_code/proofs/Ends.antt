@@ -84,7 +84,7 @@ pub record PrologueDone (Q : Floats) (H : Head) (at : ℕ → ℕ) (s : State) (
   pub s3 : T (indirect H.frame) → t.x 19 ≡ cond (eqb (s.x 11) 0) (s.x 12) (w64 (8 * s.x 12))
   pub s4 : T (indirect H.frame) → t.x 20 ≡ s.x 13
   pub others : (r : ℕ) → T (not (sets H.frame r)) → t.x r ≡ s.x r
-  -- the whole_number registers in their places
+  -- the whole-number registers in their places
   pub places : (i : ℕ) → i < length (kept H.frame) → load8 t.mem (bottom + below_saves H (s.x 11) + 8 * i) ≡ s.x (get_or (kept H.frame) i 0)
   -- the states, the preserved float registers, and all other cells as they were
   pub states : (i : ℕ) → i < H.states → load8 t.mem (w64 (mem_at H s bottom + 8 * i)) ≡ state_value H s H.frame i

@@ -42,7 +42,7 @@ code is = map instr is
 abbrev pub mv : (d s : ℕ) → Instr
 mv d s = R ADD d s x0
 
--- the whole_number registers that a frame keeps, in the order of their places
+-- the whole-number registers that a frame keeps, in the order of their places
 abbrev pub kept : Frame → List ℕ
 kept Fast = ra ∷ s0 ∷ s1 ∷ s5 ∷ []
 kept Indirect = ra ∷ s0 ∷ s1 ∷ s2 ∷ s3 ∷ s4 ∷ s5 ∷ []

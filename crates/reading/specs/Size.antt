@@ -27,7 +27,7 @@ mem_size H a1 = cond (holds_mem H.frame a1) (frame_size H) 0
 abbrev pub stack_size : Head → ℕ
 stack_size H = align16 (8 * H.cap)
 
--- bytes for ra and the other whole_number registers, at the top
+-- bytes for ra and the other whole-number registers, at the top
 abbrev pub save_size : Frame → ℕ
 save_size Fast = 32
 save_size Indirect = 64
