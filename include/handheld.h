@@ -1,4 +1,4 @@
-/* Deck files and single orders as RV64 machine words, and listings of these: libhandheld.a (`rt staticlib handheld`).
+/* Deck files and single orders as RV64 machine words, and listings of these: libhandheld.a (`tools/build handheld`).
 
    Every function is proved to answer and leave what crates/handheld says, for all arguments that
    meet the terms below. The library keeps nothing between calls, allocates nothing and calls nothing
@@ -24,10 +24,6 @@
 
 #include <stddef.h>
 #include <stdint.h>
-
-/* The points of document 02 that are in: bit N is set for point N. So `#if HANDHELD_POINTS >> 10 & 1` holds where
-   there is a deck_view. */
-#define HANDHELD_POINTS (1u << 2 | 1u << 3 | 1u << 5 | 1u << 6 | 1u << 7 | 1u << 10)
 
 #ifdef __cplusplus
 extern "C" {
@@ -74,13 +70,11 @@ enum {
 
 /* A deck file's routine into buf, from its first byte on, with zeros behind it; a refused file leaves
    zeros. Where it has constants and the code before them does not end at a multiple of 8, one nop
-   (0x00000013, never run) stands between. It is copied to a multiple of 8. Answers the number. It takes some
-   0.9 microseconds a call more than deck_emit_in, since it clears jump memory of its own. */
+   (0x00000013, never run) stands between. It is copied to a multiple of 8. Answers the number. */
 uint32_t deck_emit(const uint8_t *file, size_t file_length, uint8_t *buf, size_t buf_length,
                    uint32_t told[DECK_TOLD]);
 
-/* The same in lent label and jump memory, whatever they hold; they are left as the routine made them. The times
-   against the Rust in docs/PERFORMANCE.md are this function's. */
+/* The same in lent label and jump memory, whatever they hold; they are left as the routine made them. */
 uint32_t deck_emit_in(const uint8_t *file, size_t file_length, uint8_t *buf, size_t buf_length,
                       uint64_t labels[DECK_LABELS], uint32_t jumps[DECK_JUMPS], uint32_t told[DECK_TOLD]);
 

@@ -3,7 +3,7 @@
 
    tools/handheld builds and tries this. By hand, from the root of the repository:
 
-       rt staticlib handheld
+       tools/build handheld
        cc -Iinclude examples/c/main.c target/staticlib/libhandheld.a -o target/handheld_c
        target/handheld_c examples/free_bays.deck */
 #include <inttypes.h>

@@ -3,7 +3,7 @@
 //!
 //! tools/handheld builds and tries this. By hand, from the root of the repository:
 //!
-//!     rt staticlib handheld
+//!     tools/build handheld
 //!     rustc --edition 2021 -L target/staticlib -l static=handheld examples/rust/main.rs -o target/handheld_rust
 //!     target/handheld_rust examples/free_bays.deck
 

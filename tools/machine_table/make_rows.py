@@ -399,7 +399,7 @@ def ask(text, function, modes, shape="w64 ({})"):
     rd, *sources = text.replace(",", "").split()[1:]
     operands = [str((plain_x if r[0] == "x" else plain_f)(int(r[1:]))) for r in sources]
     for field, m, mode in modes:
-        call = " ".join([f"Q .{function}", mode, *operands])
+        call = " ".join([f"Q.{function}", mode, *operands])
         ASKED[rd[0]].append((text + field, m, shape.format(call)))
 
 
@@ -407,13 +407,13 @@ FIXED = [("", 3, "0")]
 DYNAMIC = [("", 3, "3")]
 FREE = [(f", {name}", (k + 2) % 5, str(k)) for k, name in enumerate(MODES)] + [("", m, str(m)) for m in range(5)]
 ask("fadd.d f5, f12, f13", "add", FREE)
-for text, function in [("fsub.d f5, f12, f13", "sub"), ("fmul.d f5, f12, f13", "mul"), ("fdiv.d f5, f12, f13", "div"), ("fsqrt.d f5, f12", "sqrt"), ("fmadd.d f5, f12, f13, f14", "mul-add"), ("fmsub.d f5, f12, f13, f14", "mul-sub"), ("fnmsub.d f5, f12, f13, f14", "neg-mul-add"), ("fnmadd.d f5, f12, f13, f14", "neg-mul-sub"), ("fcvt.d.l f5, x12", "of-l")]:
+for text, function in [("fsub.d f5, f12, f13", "sub"), ("fmul.d f5, f12, f13", "mul"), ("fdiv.d f5, f12, f13", "div"), ("fsqrt.d f5, f12", "sqrt"), ("fmadd.d f5, f12, f13, f14", "mul_add"), ("fmsub.d f5, f12, f13, f14", "mul_sub"), ("fnmsub.d f5, f12, f13, f14", "neg_mul_add"), ("fnmadd.d f5, f12, f13, f14", "neg_mul_sub"), ("fcvt.d.l f5, x12", "of_l")]:
     ask(text, function, DYNAMIC)
-ask("fcvt.d.w f5, x12", "of-w", FIXED)
+ask("fcvt.d.w f5, x12", "of_w", FIXED)
 ask("fmin.d f5, f12, f13", "min", DYNAMIC)
 ask("fmax.d f5, f12, f13", "max", DYNAMIC)
-ask("fcvt.w.d x5, f12", "to-w", DYNAMIC, "sext 32 ({})")
-ask("fcvt.l.d x5, f12", "to-l", FREE)
+ask("fcvt.w.d x5, f12", "to_w", DYNAMIC, "sext 32 ({})")
+ask("fcvt.l.d x5, f12", "to_l", FREE)
 for text, function in [("fle.d x5, f12, f13", "le"), ("flt.d x5, f12, f13", "lt"), ("feq.d x5, f12, f13", "eq")]:
     ask(text, function, DYNAMIC, "bit ({})")
 
@@ -503,11 +503,11 @@ def row(t, w, out):
 
 HEAD = """\
 -- What single instructions do on an outside machine (qemu-riscv64). Made by tools/machine_table/make_rows.py: not to be edited.
-use mathlib.Core.List.{List, [], _∷_}
+use mathlib.Core.List.{List, [], ◌∷◌}
 use Prim.Native.Nat.{ℕ}
-use Rattle·machine·specs.specs.Word.{w64, sext}
-use Rattle·machine·specs.specs.Floats.{Floats}
-use Rattle·machine·specs.specs.Effect.{bit}
+use Rattle.machine.specs.Word.{w64, sext}
+use Rattle.machine.specs.Floats.{Floats}
+use Rattle.machine.specs.Effect.{bit}
 
 -- The floats of the test, `binary64`, round to nearest even in every mode, so a row whose result is a float that was rounded has mode 0.
 
@@ -520,7 +520,7 @@ pub data Change : Type 0 where
 -- A word at a pc, the rounding mode, the registers and the float registers that are given, the cell (an address and its eight bytes),
 -- and what the machine made of it: its pc then, and all that changed.
 pub data Row : Type 0 where
-  row : (word pc rm : ℕ) → (xs fs : List (ℕ × ℕ)) → (cell : ℕ × ℕ) → (pc′ : ℕ) → List Change → Row
+  row : (word pc rm : ℕ) → (xs fs : List (ℕ × ℕ)) → (cell : ℕ × ℕ) → (pc' : ℕ) → List Change → Row
 """
 
 
@@ -562,7 +562,7 @@ def main():
     text += "    ∷ []\n"
     for kind, name in [("f", "f5"), ("x", "x5")]:
         text += f"\n-- A word, the state's mode, and what {name} is then for any `Floats`: by the Manual, not by the outside machine.\n"
-        text += f"unfoldable pub asked-{kind} : List (ℕ × ℕ × (Floats → ℕ))\nasked-{kind} =\n"
+        text += f"unfoldable pub asked_{kind} : List (ℕ × ℕ × (Floats → ℕ))\nasked_{kind} =\n"
         for k, (t, m, result) in enumerate(ASKED[kind]):
             text += f"    -- {t}\n    {'∷ ' if k else ''}({next(rest):#010x}, {m}, λ Q. {result})\n"
         text += "    ∷ []\n"
