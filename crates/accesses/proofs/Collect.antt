@@ -7,7 +7,7 @@ use native.Mathlib.Nat.{min-eq_left, mod-eq_of_lt}
 use native.Mathlib.Omega.{arith}
 use native.Mathlib.Numerals.{add-one}
 use borrow.Author.Tests.{lt-ltb, le-ltb}
-use lib.Dec.{eqb, ltb, leb}
+use lib.Dec.{eqb, ltb}
 use lib.ListN.{length, take, length-set, length-append, length-map}
 use lib.Seq.{take-suc-set, append_snoc}
 use lib.IntN.{ℤ, pos, negsuc}

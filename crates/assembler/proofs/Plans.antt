@@ -14,7 +14,6 @@ use Rattle.assembler.specs.State.{State, sound, fits}
 use Rattle.assembler.specs.Put.{words, targets, labels, twice, numbers_sound, numbers_fit, place, placed, ranked, verdict, put_number, settled, put}
 use Rattle.assembler.specs.Plan.{rank, earlier, fault_number, tail_items, tail_fault, plan_words, plan_items, plan_fault, all_labels, sets_fault}
 use Rattle.assembler.specs.declared.Fault.{Fault}
-use Rattle.assembler.specs.declared.Fault.TheVariants as Fault
 use Rattle.assembler.specs.declared.Plan.{Plan}
 use Rattle.assembler.specs.declared.Tail.{Tail}
 use Rattle.assembler.proofs.Items.{targets_append, targets_raw, targets_instrs}

@@ -12,11 +12,8 @@ use Rattle.assembler.specs.declared.Tail.{Tail}
 use Rattle.assembler.specs.declared.Tail.TheVariants.{Nothing, One, Pair}
 use Rattle.assembler.specs.declared.Plan.{Plan}
 use Rattle.assembler.specs.declared.Fault.{Fault}
-use Rattle.assembler.specs.declared.Fault.TheVariants as Fault
 use Rattle.assembler.specs.declared.Sets.{Sets}
-use Rattle.assembler.specs.declared.Sets.TheVariants as Sets
 use Rattle.assembler.specs.declared.Goes.{Goes}
-use Rattle.assembler.specs.declared.Goes.TheVariants as Goes
 
 -- ---- faults
 

@@ -1,7 +1,7 @@
 -- What an order uses, as the code has it.
 use mathlib.Core.Path.{◌≡◌, refl, sym, ap, ◌∙◌}
 use mathlib.Core.Bool.{Bool, true, false, ◌&&◌, cond}
-use mathlib.Core.List.{List, [], ◌∷◌}
+use mathlib.Core.List.{[], ◌∷◌}
 use Prim.Native.Nat.{ℕ, ◌≤◌, ◌<◌}
 use borrow.Author.Tests.{eq-eqb, ne_eqb, lt-ltb, le-ltb}
 use lib.Dec.{eqb, ltb}
@@ -16,7 +16,7 @@ use Rattle.ast.specs.declared.Operand.{Operand}
 use Rattle.ast.specs.declared.Operand.TheVariants.{Nothing}
 use Rattle.ast.specs.declared.View.{View}
 use Rattle.ast.specs.Mask.{free}
-use Rattle.ast.specs.Uses.{Uses, uses, unary_writes, registers_fit, operand_within, index_holds, operand_open, saves_hold, padded}
+use Rattle.ast.specs.Uses.{uses, unary_writes, registers_fit, operand_within, index_holds, operand_open, saves_hold, padded}
 
 module _ (d s : ℕ) where
   pub same_written : d ≡ s → padded (record { registers = d ∷ s ∷ []; writes = []; operand = Nothing }) ≡ padded (uses (Unary Fmov d s))

@@ -1,5 +1,5 @@
 -- The numbers of jumps add up to the jump count. Assumes nothing.
-use mathlib.Core.Path.{◌≡◌, refl, sym, ap, subst, ◌∙◌}
+use mathlib.Core.Path.{◌≡◌, refl, ap, ◌∙◌}
 use mathlib.Core.Bool.{Bool, true, false, cond}
 use mathlib.Core.List.{List, [], ◌∷◌}
 use Prim.Native.Nat.{ℕ, zero, suc, ◌+◌, ◌*◌, ◌≤◌, ◌<◌}
@@ -18,7 +18,6 @@ use Rattle.assembler.proofs.Numbers.{fits_each}
 use Rattle.finish.specs.Finish.{finish_number, about, finished, FinishOutcome, finish}
 use Rattle.finish.specs.Counted.{total, Since, start, placing, finishing, Adds}
 use Rattle.finish.proofs.All.{passed}
-use Rattle.finish.proofs.Both.{moved}
 
 total_jump : (m : List ℕ) (l : ℕ) → l < length m → total (set m l (one_more (get_or m l 0))) ≡ total m + 1
 unfolding total

@@ -7,7 +7,7 @@ use borrow.Author.Tests.{lt-ltb, le-ltb, eqb-false}
 use lib.ListN.{length}
 use Rattle.refusal.specs.Answer.{refused}
 use Rattle.assembler.specs.Memory.{jump_at, tag_at}
-use Rattle.assembler.specs.State.{State, state, emit_answer, sound}
+use Rattle.assembler.specs.State.{State, emit_answer, sound}
 use Rattle.finish.specs.Finish.{FinishOutcome, labels_good, jump_number, first_with, finish_number, about, ended, finish, finish_outcome}
 use Rattle.finish.specs.declared.FinishResult.{FinishResult}
 use Rattle.finish.proofs.First.{none}

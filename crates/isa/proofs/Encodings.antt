@@ -1,5 +1,4 @@
 -- The laws of the encoding, as stated. Assumes nothing.
-use mathlib.Core.Path.{◌≡◌}
 use lib.Dec.{T}
 use Rattle.base.proofs.Bools.{T_true, true_T}
 use Rattle.isa.specs.Instr.{Instr, valid}

@@ -17,7 +17,6 @@ use Rattle.text.specs.Fields.{onto}
 use Rattle.text.specs.declared.Number.{Number}
 use Rattle.text.specs.declared.Number.TheVariants.{Value, TooBig}
 use Rattle.text.specs.declared.Numeral.{Numeral}
-use Rattle.text.specs.declared.Numeral.TheVariants as Numeral
 use Rattle.text.specs.declared.Integer.TheVariants as Integer
 use Rattle.text.specs.declared.Word.TheVariants as Word
 use Rattle.text.proofs.Steps.{at, off}

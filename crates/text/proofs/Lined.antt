@@ -9,7 +9,7 @@ use borrow.Author.Tests.{eq-eqb, ne_eqb, ltb-true, ltb-false}
 use lib.Dec.{ltb}
 use lib.ListN.{length, get_or, take, drop, length-drop, drop_of_length-le}
 use lib.Seq.{length-take-le}
-use Rattle.text.specs.Lines.{lines_of, first_length, Ends}
+use Rattle.text.specs.Lines.{lines_of, Ends}
 use Rattle.text.proofs.Steps.{at}
 
 -- the file's end

@@ -3,13 +3,9 @@ use Rattle.std.specs.Prelude.{Bool, true, false, cond, ◌&&◌, not, List, [], 
 use Rattle.std.proofs.Math.Option.{Option, some, none, map}
 use Rattle.text.specs.Fields.{onto}
 use Rattle.text.specs.declared.Number.{Number}
-use Rattle.text.specs.declared.Number.TheVariants as Number
 use Rattle.text.specs.declared.Numeral.{Numeral}
-use Rattle.text.specs.declared.Numeral.TheVariants as Numeral
 use Rattle.text.specs.declared.Integer.{Integer}
-use Rattle.text.specs.declared.Integer.TheVariants as Integer
 use Rattle.text.specs.declared.Word.{Word}
-use Rattle.text.specs.declared.Word.TheVariants as Word
 
 -- ---- numbers
 

@@ -1,8 +1,8 @@
 use mathlib.Core.Path.{◌≡◌, sym, ap, ap₂, ◌∙◌}
 use Prim.Native.Nat.{ℕ}
 use mathlib.Core.List.{List}
-use Rattle.assembler.specs.State.{State, state, sound}
-use Rattle.assembler.specs.Put.{numbers_sound, numbers_fit, verdict, settled}
+use Rattle.assembler.specs.State.{State, state}
+use Rattle.assembler.specs.Put.{verdict, settled}
 use Rattle.assembler.specs.Plan.{earlier, fault_number, labels_of, goes_to, sets_fault}
 use Rattle.assembler.proofs.Plans.{whole_number}
 use Rattle.assembler.proofs.Steps.{settled_yes, settled_refused}

@@ -3,7 +3,7 @@ use mathlib.Core.List.{[], ◌∷◌}
 use Rattle.assembler.specs.Item.{jump}
 use Rattle.assembler.specs.Plan.{jump_fault}
 use Rattle.assembler.specs.State.{State, state}
-use Rattle.assembler.specs.Put.{labels, place, placed, put_number}
+use Rattle.assembler.specs.Put.{place, placed, put_number}
 use Rattle.assembler.proofs.Numbers.{jump_number}
 use Rattle.assembler.proofs.Steps.{put_refused, put_done}
 use Rattle.assembler.proofs.jump.Goals as goal

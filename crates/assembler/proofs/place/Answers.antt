@@ -1,10 +1,9 @@
-use mathlib.Core.Path.{◌≡◌, sym, ap, ap₂, ◌∙◌}
-use mathlib.Core.Bool.{true}
+use mathlib.Core.Path.{◌≡◌, sym, ap₂, ◌∙◌}
 use lib.ListN.{length}
 use borrow.Author.Rules.{rules}
 use Rattle.assembler.specs.Plan.{earlier, plan_fault, plan_items, goes_to}
 use Rattle.assembler.specs.State.{State, state}
-use Rattle.assembler.specs.Put.{numbers_fit, put_number}
+use Rattle.assembler.specs.Put.{put_number}
 use Rattle.assembler.proofs.Steps.{put_refused, put_done, plan_told, plan_placed}
 use Rattle.assembler.proofs.place.Goals as goal
 

@@ -1,8 +1,6 @@
 use native.Mathlib.Omega.{arith}
 use mathlib.Core.Path.{sym, ap, ◌∙◌}
-use Prim.Native.Nat.{◌-◌}
 use mathlib.Core.Bool.{not}
-use Rattle.finish.specs.Finish.{first}
 use Rattle.finish.proofs.First.{first_here, first_later, first_end}
 use Rattle.finish.proofs.first_from.Invariants.{bad}
 use Rattle.finish.proofs.first_from.Goals as goal

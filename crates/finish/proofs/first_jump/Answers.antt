@@ -1,9 +1,8 @@
 use native.Mathlib.Omega.{arith}
 use mathlib.Core.Path.{sym, ap, ◌∙◌}
 use borrow.Author.Tests.{eq-eqb, ne_eqb}
-use Prim.Native.Nat.{ℕ, ◌-◌}
+use Prim.Native.Nat.{ℕ}
 use lib.Dec.{eqb}
-use Rattle.finish.specs.Finish.{first}
 use Rattle.finish.proofs.First.{first_here, first_later, first_end}
 use Rattle.finish.proofs.first_jump.Invariants.{test}
 use Rattle.finish.proofs.first_jump.Goals as goal

@@ -1,7 +1,6 @@
 use native.Mathlib.Omega.{arith}
 use mathlib.Core.Path.{◌∙◌}
-use Prim.Native.Nat.{◌+◌, ◌-◌}
-use Rattle.finish.specs.Finish.{first}
+use Prim.Native.Nat.{◌+◌}
 use Rattle.finish.proofs.First.{first_past, first_within}
 use Rattle.finish.proofs.Unset.{block_good}
 use Rattle.finish.proofs.first_label.Invariants.{bad}

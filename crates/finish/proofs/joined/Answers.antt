@@ -1,4 +1,3 @@
-use Prim.Native.Nat.{◌-◌}
 use native.Mathlib.Omega.{arith}
 use Rattle.finish.proofs.Unset.{one_more}
 use Rattle.finish.proofs.joined.Goals as goal

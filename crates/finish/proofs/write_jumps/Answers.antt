@@ -1,10 +1,9 @@
 use native.Mathlib.Omega.{arith}
 use mathlib.Core.Path.{sym, ap, ◌∙◌}
-use Prim.Native.Nat.{◌-◌, ◌<◌}
+use Prim.Native.Nat.{◌<◌}
 use lib.ListN.{length, get_or}
 use Rattle.assembler.specs.Memory.{jump_at}
 use Rattle.assembler.proofs.Writes.{length_written}
-use Rattle.finish.specs.Finish.{patched}
 use Rattle.finish.proofs.Wrong.{Right, right, at_first, place_small}
 use Rattle.finish.proofs.Patched.{patched_step, patched_end, one_word}
 use Rattle.finish.proofs.write_jumps.Goals as goal

@@ -1,4 +1,3 @@
-use Prim.Native.Nat.{◌-◌}
 use lib.ListN.{get_or}
 use Rattle.text.proofs.Once.{is_digit, at_end, at_comma, big_ends, big_stops, big_goes_on}
 use Rattle.text.proofs.big_number.Goals as goal

@@ -1,6 +1,5 @@
 use native.Mathlib.Omega.{arith}
 use mathlib.Core.Path.{sym, ◌∙◌}
-use Prim.Native.Nat.{◌-◌}
 use Rattle.text.proofs.Steps.{ends_here, ends_later, ends_behind}
 use Rattle.text.proofs.field_end_bytewise.Goals as goal
 

@@ -1,4 +1,3 @@
-use Prim.Native.Nat.{◌-◌}
 use Rattle.text.proofs.Lined.{ends_behind, ends_here, ends_later}
 use Rattle.text.proofs.line_end_bytewise.Goals as goal
 

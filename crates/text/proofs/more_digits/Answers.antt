@@ -1,4 +1,3 @@
-use Prim.Native.Nat.{◌-◌}
 use native.Mathlib.Omega.{arith}
 use Rattle.text.proofs.Short.{long_number, no_digit, zero_led, more_values}
 use Rattle.text.proofs.more_digits.Goals as goal

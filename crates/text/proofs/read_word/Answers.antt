@@ -1,4 +1,4 @@
-use Prim.Native.Nat.{◌+◌, ◌*◌, ◌-◌, ◌^◌, ◌<◌}
+use Prim.Native.Nat.{◌+◌, ◌*◌, ◌^◌, ◌<◌}
 use native.Mathlib.Omega.{arith}
 use Rattle.text.proofs.Answers.{not_16, word_ends, word_bad, word_room, word_more}
 use Rattle.text.proofs.read_word.Goals as goal

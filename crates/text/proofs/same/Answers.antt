@@ -1,9 +1,6 @@
 use native.Mathlib.Omega.{arith}
 use mathlib.Core.Path.{sym, ◌∙◌}
-use Prim.Native.Nat.{◌-◌}
-use lib.ListN.{length}
 use borrow.Author.Rules.{rules}
-use Rattle.text.specs.Readers.{same}
 use Rattle.text.proofs.Steps.{same_at, differ_at, same_end, same_length}
 use Rattle.text.proofs.same.Goals as goal
 

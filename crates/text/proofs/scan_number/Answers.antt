@@ -1,5 +1,5 @@
 use mathlib.Core.Path.{◌≡◌, sym, ◌∙◌}
-use Prim.Native.Nat.{ℕ, ◌-◌, ◌<◌}
+use Prim.Native.Nat.{ℕ, ◌<◌}
 use lib.ListN.{get_or}
 use Rattle.text.specs.Readers.{digit_value}
 use Rattle.text.proofs.Once.{is_digit, at_end, at_comma, scan_starts, scan_ends, scan_bad, scan_zero, scan_big, scan_goes_on}

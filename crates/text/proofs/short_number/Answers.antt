@@ -1,4 +1,3 @@
-use Prim.Native.Nat.{◌-◌}
 use native.Mathlib.Omega.{arith}
 use Rattle.text.proofs.Short.{no_bytes, no_digit, first_low, few_digits}
 use Rattle.text.proofs.short_number.Goals as goal

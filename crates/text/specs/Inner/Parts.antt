@@ -3,7 +3,6 @@ use Rattle.std.specs.Prelude.{◌≡◌, cond, List, ℕ, zero, suc, ◌+◌, �
 use Rattle.text.specs.Readers.{digit_value, read_from, numeral}
 use Rattle.text.specs.declared.Number.TheVariants as Number
 use Rattle.text.specs.declared.Numeral.{Numeral}
-use Rattle.text.specs.declared.Numeral.TheVariants as Numeral
 
 -- the four lowest bytes of x are those of f from i on
 abbrev pub four_are : List ℕ → ℕ → ℕ → Type 0

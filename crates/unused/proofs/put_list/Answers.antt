@@ -1,7 +1,6 @@
 use mathlib.Core.Path.{sym, ◌∙◌}
-use Prim.Native.Nat.{◌-◌, ◌≤◌}
+use Prim.Native.Nat.{◌≤◌}
 use native.Mathlib.Omega.{arith}
-use Rattle.unused.specs.Unused.{is_unused}
 use Rattle.unused.proofs.From.{none_written, one_written, same_written, room_left}
 use Rattle.unused.proofs.put_list.Invariants.{unused-at}
 use Rattle.unused.proofs.put_list.Goals as goal

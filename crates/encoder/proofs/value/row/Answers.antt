@@ -1,8 +1,8 @@
 use mathlib.Core.Path.{sym, ap, ◌∙◌}
 use native.Mathlib.Omega.{arith}
 use Rattle.encoder.specs.Table.{bare}
-use Rattle.encoder.proofs.Answers.{row_R, row_F, row_C, row_M, row_R4, row_I, row_Shift, row_S, row_B, row_U}
-use Rattle.encoder.proofs.Values.{is_R, is_F, is_C, is_M, is_R4, is_I, is_Shift, is_S, is_B, is_U}
+use Rattle.encoder.proofs.Answers.{row_F, row_C, row_M, row_R4, row_I, row_Shift, row_S, row_B, row_U}
+use Rattle.encoder.proofs.Values.{is_F, is_C, is_M, is_R4, is_I, is_Shift, is_S, is_B, is_U}
 use Rattle.encoder.proofs.value.row.Goals as goal
 
 pub returns-in-F : goal.returns-in-F
