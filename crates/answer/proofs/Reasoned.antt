@@ -17,7 +17,6 @@ use Rattle.routine.specs.Answer.{routine_answer}
 use Rattle.print.specs.Text.{Puts}
 use Rattle.print.specs.Reason.{reason_line}
 use Rattle.print.specs.declared.Text.{Text}
-use Rattle.print.specs.declared.Text.TheVariants as Text
 use Rattle.print.proofs.Fitting.{fits}
 use Rattle.print.proofs.Sentences.{reason_short}
 use Rattle.answer.specs.Answer.{reason_of, deck_reason}

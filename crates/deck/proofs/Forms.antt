@@ -12,7 +12,6 @@ use lib.IntN.{ℤ, pos, negsuc, nat_abs}
 use Rattle.base.proofs.Bools.{both, and_true}
 use Rattle.refusal.specs.Answer.{Answer, accepted, refused}
 use Rattle.refusal.specs.declared.Refusal.{Refusal}
-use Rattle.refusal.specs.declared.Refusal.TheVariants as Refusal
 use Rattle.ast.specs.Count.{cells}
 use Rattle.ast.specs.Counts.{frame_holds, prologue_holds, result_holds, epilogue_holds, cap_holds, counts_hold}
 use Rattle.ast.specs.Uses.{registers_fit}
@@ -20,7 +19,6 @@ use Rattle.ast.specs.declared.Frame.{Frame}
 use Rattle.ast.specs.declared.Frame.TheVariants.{Fast, Indirect}
 use Rattle.ast.specs.declared.Head.{Head}
 use Rattle.ast.specs.declared.Order.{Order}
-use Rattle.ast.specs.declared.Order.TheVariants as Order
 use Rattle.text.specs.Readers.{sized}
 use Rattle.text.specs.declared.Number.TheVariants.{Value, TooBig}
 use Rattle.form.specs.Text.{DeckLine}
@@ -28,7 +26,7 @@ use Rattle.form.specs.Text as Text
 use Rattle.form.specs.Grammar.{said}
 use Rattle.form.specs.Form.{is_negative, cut, formed, form_of}
 use Rattle.form.specs.declared.Form.{Form}
-use Rattle.deck.specs.Judge.{Content, head, order, demand, judged, is_head, line_judged}
+use Rattle.deck.specs.Judge.{Content, head, demand, judged, is_head, line_judged}
 use Rattle.deck.specs.Inner.Forms.{below, value, register, signed, head_of, form_judged, form_is_head}
 use Rattle.deck.specs.Inner.Parts.{are_below}
 use Rattle.deck.proofs.Ranges.{grouped}

@@ -14,13 +14,10 @@ use Rattle.ast.specs.Uses.{uses, registers_fit}
 use Rattle.ast.specs.declared.Head.{Head}
 use Rattle.ast.specs.declared.Order.{Order}
 use Rattle.ast.specs.declared.Operand.{Operand}
-use Rattle.ast.specs.declared.Operand.TheVariants as Operand
 use Rattle.ast.specs.declared.Constant.{Constant}
-use Rattle.ast.specs.declared.Constant.TheVariants as Constant
 use Rattle.form.specs.Text.{DeckLine}
 use Rattle.form.specs.Text as Text
 use Rattle.deck.specs.declared.Judged.{Judged}
-use Rattle.deck.specs.declared.Judged.TheVariants as Judged
 
 -- what an accepted line says
 pub data Content : Type 0 where

@@ -11,7 +11,6 @@ use lib.Ieee.{of_int, binary64}
 use lib.IntN.{nat_abs}
 use Rattle.refusal.specs.Answer.{Answer, accepted}
 use Rattle.refusal.specs.declared.Refusal.{Refusal}
-use Rattle.refusal.specs.declared.Refusal.TheVariants as Refusal
 use Rattle.ast.specs.declared.Place.{Place}
 use Rattle.ast.specs.declared.Place.TheVariants.{Mem, Stack, Param}
 use Rattle.ast.specs.declared.Unary as U
@@ -21,7 +20,6 @@ use Rattle.ast.specs.declared.Fused as Fu
 use Rattle.ast.specs.Counts.{counts_hold}
 use Rattle.ast.specs.Uses.{uses, registers_fit}
 use Rattle.ast.specs.declared.Operand.{Operand}
-use Rattle.ast.specs.declared.Operand.TheVariants as Operand
 use Rattle.ast.specs.declared.Constant.TheVariants as Constant
 use Rattle.ast.specs.declared.Order.{Order}
 use Rattle.ast.specs.declared.Order.TheVariants.{Unary, Scratched, Binary, Fused, Ifelse, LoadConst, Load, Save, BranchIf, SetLabel}

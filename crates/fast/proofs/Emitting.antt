@@ -22,7 +22,6 @@ use Rattle.assembler.specs.declared.EmitResult.{EmitResult}
 use Rattle.assembler.specs.declared.Answer.TheVariants.{Accepted, Refused}
 use Rattle.assembler.specs.State.{State, Outcome, state, emit_answer, outcome, sound, fits}
 use Rattle.assembler.specs.Put.{labels, twice, words, jumps, targets, with_word, with_jump, with_label, place, placed, numbers_sound, numbers_fit, ranked, verdict, put_number, settled, put}
-use Rattle.orders.specs.Code.{code}
 use Rattle.orders.specs.Emitted.{items, emitted}
 use Rattle.orders.specs.Fault.{fault}
 use Rattle.fast.specs.Inner.Fast.{taken, not_mine, asm_of, left}

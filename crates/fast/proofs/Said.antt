@@ -14,22 +14,18 @@ use Rattle.base.proofs.Tested.{tested}
 use Rattle.refusal.specs.Answer.{Answer, accepted}
 use Rattle.refusal.specs.declared.Refusal.{Refusal}
 use Rattle.refusal.specs.declared.Refusal.TheVariants.{Register, Count, Label}
-use Rattle.refusal.specs.declared.Refusal.TheVariants as Refusal
 use Rattle.text.specs.Readers.{sized}
 use Rattle.ast.specs.declared.Unary as U
 use Rattle.ast.specs.declared.Scratched as S
 use Rattle.ast.specs.declared.Binary as Bin
 use Rattle.ast.specs.declared.Fused as Fu
 use Rattle.ast.specs.declared.Constant.{Constant}
-use Rattle.ast.specs.declared.Constant.TheVariants as Constant
 use Rattle.ast.specs.declared.Order.{Order}
-use Rattle.ast.specs.declared.Order.TheVariants as Order
 use Rattle.form.specs.Inner.Syntax.{number, place, flag, Values, sorts}
 use Rattle.form.specs.Inner.Read.{read_values}
 use Rattle.form.specs.Form.{is_negative}
 use Rattle.form.specs.Inner.Parts.{shaped, shaped'}
 use Rattle.form.specs.declared.Kind.{Kind}
-use Rattle.form.specs.declared.Kind.TheVariants as Kind
 use Rattle.deck.specs.Judge.{Content, demand, order, constant}
 use Rattle.deck.specs.Inner.Forms.{below as is_below, value, register, exact, signed, form_judged}
 use Rattle.deck.proofs.Forms.{below_sized, value_sized, form_line_judged}

@@ -4,14 +4,12 @@ use mathlib.Core.List.{List, ◌++◌}
 use mathlib.Core.Option.{Option, some, none, map, some-injective, none-ne-some}
 use Prim.Native.Nat.{ℕ}
 use Rattle.ast.specs.declared.Order.{Order}
-use Rattle.ast.specs.declared.Order.TheVariants as Order
 use Rattle.text.specs.Fields.{commas, parted}
 use Rattle.form.specs.Text.{DeckLine, head, order, float, bits, line_fields, text, Fits}
 use Rattle.form.specs.Grammar.{said, Grammar}
 use Rattle.form.specs.Inner.Syntax.{Values, name, sorts, Syntax, line_of, line}
 use Rattle.form.specs.Inner.Read.{read}
 use Rattle.form.specs.declared.Kind.{Kind}
-use Rattle.form.specs.declared.Kind.TheVariants as Kind
 use Rattle.form.proofs.SyntaxText.{fields, All, SyntaxFits, syntax_text}
 use Rattle.form.proofs.Inverse.{read_text, text_read}
 

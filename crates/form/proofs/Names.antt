@@ -11,7 +11,6 @@ use lib.ListN.{length, length-drop, get_or, drop}
 use lib.Pow.{are_bytes}
 use lib.Seq.{drop-length, drop-cons}
 use Rattle.ast.specs.declared.Frame.{Frame}
-use Rattle.ast.specs.declared.Frame.TheVariants as Frame
 use Rattle.ast.specs.declared.Unary as U
 use Rattle.ast.specs.declared.Unary.TheVariants as Unary
 use Rattle.ast.specs.declared.Scratched as S
@@ -32,7 +31,6 @@ use Rattle.form.specs.Inner.Names.{unary_number, scratched_number, binary_number
 use Rattle.form.specs.Inner.Names.{unary_at, scratched_at, binary_at, fused_at, frame_at, kind_code, coded, kind_at}
 use Rattle.form.specs.Inner.Names.{name_word, name_place, row_at, entry, code_at}
 use Rattle.form.specs.declared.Kind.{Kind}
-use Rattle.form.specs.declared.Kind.TheVariants as Kind
 
 -- ---- each operation: its number is one digit, and tells it
 

@@ -14,7 +14,6 @@ use Rattle.text.specs.Readers.{sized, numeral, read_integer, read_word, integer,
 use Rattle.text.specs.Fields.{commas}
 use Rattle.text.specs.declared.Number.{Number}
 use Rattle.text.specs.declared.Numeral.{Numeral}
-use Rattle.text.specs.declared.Numeral.TheVariants as Numeral
 use Rattle.text.specs.declared.Integer.TheVariants as Integer
 use Rattle.text.specs.declared.Word.TheVariants as Word
 use Rattle.text.proofs.Answers.{field_is, no_field, next_is}
@@ -32,16 +31,11 @@ use Rattle.form.specs.Grammar.{said}
 use Rattle.form.specs.Form.{formed, form_of}
 use Rattle.form.specs.Inner.Parts.{only, placed, flagged, named, shaped, shaped', behind, numbers, read_numbers, zeros, of_numbers, first_of}
 use Rattle.form.specs.declared.Kind.{Kind}
-use Rattle.form.specs.declared.Kind.TheVariants as Kind
 use Rattle.form.specs.declared.Form.{Form}
-use Rattle.form.specs.declared.Form.TheVariants as Form
 use Rattle.form.specs.declared.Numbers.{Numbers}
-use Rattle.form.specs.declared.Numbers.TheVariants as Numbers
 use Rattle.form.specs.declared.Named.TheVariants as Named
 use Rattle.form.specs.declared.Where.{Where}
-use Rattle.form.specs.declared.Where.TheVariants as Where
 use Rattle.form.specs.declared.Flag.{Flag}
-use Rattle.form.specs.declared.Flag.TheVariants as Flag
 use Rattle.form.proofs.Inverse.{field_read, field_free}
 
 -- ---- the first field and the others

@@ -3,11 +3,9 @@ use Rattle.std.specs.Prelude.{Bool, true, false, List, ℕ, ℤ, pos, negsuc, na
 use Rattle.std.proofs.Math.Option.{Option, some, none}
 use Rattle.text.specs.Readers.{sized}
 use Rattle.ast.specs.declared.Order.{Order}
-use Rattle.ast.specs.declared.Order.TheVariants as Order
 use Rattle.form.specs.Text.{DeckLine, head, order, float, bits}
 use Rattle.form.specs.Grammar.{said}
 use Rattle.form.specs.declared.Form.{Form}
-use Rattle.form.specs.declared.Form.TheVariants as Form
 
 -- a minus
 abbrev pub is_negative : ℤ → Bool

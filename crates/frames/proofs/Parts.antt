@@ -12,7 +12,7 @@ use Rattle.refusal.specs.Answer.{accepted}
 use Rattle.assembler.specs.Limit.{label_limit}
 use Rattle.assembler.specs.Item.{Item, instr, raw, jump, label}
 use Rattle.assembler.specs.State.{State, Outcome}
-use Rattle.assembler.specs.Put.{words, jumps, targets, labels, place, placed, with_word, with_label, verdict, put_number, settled, put}
+use Rattle.assembler.specs.Put.{words, jumps, targets, place, placed, with_word, with_label, verdict, put_number, settled, put}
 use Rattle.assembler.specs.Plan.{label_fault, plan_fault, plan_items}
 use Rattle.assembler.specs.declared.Plan.{Plan}
 use Rattle.assembler.specs.declared.Tail.TheVariants.{One}

@@ -9,7 +9,6 @@ use Rattle.reading.specs.Program.{Program}
 use Rattle.call.specs.Layout.{constants_offset, routine_words}
 use Rattle.routine.specs.Routine.{program_of}
 use Rattle.listing.specs.declared.CodeAnswer.{CodeAnswer}
-use Rattle.listing.specs.declared.CodeAnswer.TheVariants as CodeAnswer
 use Rattle.listing.specs.declared.CodeListing.{CodeListing}
 
 -- ---- code

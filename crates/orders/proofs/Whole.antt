@@ -15,7 +15,7 @@ use Rattle.refusal.specs.Answer.{Answer, accepted, refused}
 use Rattle.assembler.specs.Bytes.{room, written}
 use Rattle.assembler.specs.Item.{Item, instr, raw, label}
 use Rattle.assembler.specs.State.{State, Outcome, state, sound, fits}
-use Rattle.assembler.specs.Put.{words, targets, labels, twice, numbers_sound, numbers_fit, place, placed, ranked, verdict, put_number, settled, put}
+use Rattle.assembler.specs.Put.{targets, twice, numbers_sound, numbers_fit, place, placed, ranked, verdict, put_number, settled, put}
 use Rattle.assembler.specs.Plan.{earlier, fault_number, label_fault, jump_fault, tail_items, tail_fault, plan_items, plan_fault, no_words}
 use Rattle.assembler.specs.Resolved.{resolved}
 use Rattle.assembler.specs.declared.Asm.{Asm}

@@ -1,9 +1,9 @@
 -- No listing of at most 65,536 bytes is longer than 475,136 bytes: 16,384 lines of 29. Assumes nothing.
-use mathlib.Core.Path.{◌≡◌, refl, ap}
+use mathlib.Core.Path.{◌≡◌, refl}
 use mathlib.Core.Bool.{Bool, true, false, cond}
 use mathlib.Core.List.{List, [], ◌∷◌}
 use mathlib.Core.Option.{Option, some, none}
-use Prim.Native.Nat.{ℕ, suc, ◌+◌, ◌*◌, ◌-◌, ◌^◌, ◌<◌, ◌≤◌}
+use Prim.Native.Nat.{ℕ, suc, ◌+◌, ◌*◌, ◌^◌, ◌<◌, ◌≤◌}
 use native.Mathlib.Omega.{arith}
 use lib.Dec.{ltb}
 use lib.IntN.{ℤ, pos, negsuc}
@@ -14,7 +14,7 @@ use Rattle.isa.specs.Decode.{decode}
 use Rattle.isa.proofs.Validity.{Holds, Valid}
 use Rattle.isa.proofs.Laws.{encode_decode, rounding_small}
 use Rattle.text.specs.Ascii.{bytes}
-use Rattle.text.specs.Digits.{decimal, integer_bytes}
+use Rattle.text.specs.Digits.{integer_bytes}
 use Rattle.print.specs.Text.{words_of}
 use Rattle.print.specs.Listing.{name, shown, operands_text, instr_line, data_line, line_of, listing_line, listing_lines}
 use Rattle.print.proofs.Counts.{decimal_short}

@@ -11,7 +11,6 @@ use lib.ListN.{length}
 use lib.Seq.{sets}
 use Rattle.print.specs.Text.{Puts, length_in}
 use Rattle.print.specs.declared.Text.{Text}
-use Rattle.print.specs.declared.Text.TheVariants as Text
 
 pub too_long : (text : List ℕ) (at : ℕ) (buf : List ℕ) → leb (at + length text) (length buf) ≡ false → Puts text at buf Text.TooLong buf
 too_long text at buf e = (simp e, simp e)

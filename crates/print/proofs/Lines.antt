@@ -8,7 +8,7 @@ use lib.ListN.{length, drop, get_or, set, length-append, length-drop}
 use lib.Seq.{sets, drop-cons}
 use Rattle.text.specs.Ascii.{bytes}
 use Rattle.text.specs.Digits.{decimal, digits}
-use Rattle.print.specs.Text.{le_word, words_of, hex, word_line, word_lines, refusal_line}
+use Rattle.print.specs.Text.{words_of, hex, word_line, word_lines, refusal_line}
 use Rattle.print.specs.Inner.Text.{word_in}
 use Rattle.text.proofs.Numerals.{length_digits}
 use Rattle.print.proofs.Stores.{sets_append}

@@ -8,7 +8,7 @@ use native.Mathlib.Omega.{arith}
 use borrow.Author.Tests.{lt-ltb, le-ltb}
 use lib.IntN.{ℤ, pos, negsuc}
 use lib.Dec.{ltb}
-use lib.ListN.{drop_of_length-le, length, get_or, take, drop, set, length-append}
+use lib.ListN.{drop_of_length-le, length, get_or, take, drop, length-append}
 use lib.Seq.{sets, get_or-take, drop-cons, length-take-le}
 use Rattle.encoder.specs.Sign.{sign_of}
 use Rattle.encoder.specs.declared.Sign.TheVariants.{NonNeg, Neg}

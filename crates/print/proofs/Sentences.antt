@@ -14,7 +14,6 @@ use Rattle.text.specs.Digits.{decimal}
 use Rattle.print.specs.Text.{Puts}
 use Rattle.print.specs.Reason.{sentences, refusal_text, reason_front, reason_line}
 use Rattle.print.specs.declared.Text.{Text}
-use Rattle.print.specs.declared.Text.TheVariants as Text
 use Rattle.print.proofs.Counts.{decimal_short}
 use Rattle.print.proofs.Fitting.{fits}
 use Rattle.print.proofs.Stores.{sets_append}

@@ -17,7 +17,7 @@ use Rattle.assembler.specs.Label.{is_set}
 use Rattle.assembler.specs.Memory.{Jump, jump_at, tag_at, jumps_of}
 use Rattle.assembler.proofs.Tags.{tags_of}
 use Rattle.assembler.specs.State.{State}
-use Rattle.assembler.specs.Put.{jumps, targets, labels, times}
+use Rattle.assembler.specs.Put.{targets, times}
 use Rattle.assembler.specs.Resolved.{label_place, jumps_in}
 use Rattle.assembler.specs.declared.JumpKind.{JumpKind}
 use Rattle.assembler.specs.declared.JumpKind.TheVariants.{Auipc, Ld, Jalr, Fld, Beq, Bne}

@@ -10,7 +10,6 @@ use lib.IntN.{nat_abs}
 use Rattle.base.proofs.Bools.{both}
 use Rattle.refusal.specs.Answer.{Answer, accepted, refused}
 use Rattle.refusal.specs.declared.Refusal.{Refusal}
-use Rattle.refusal.specs.declared.Refusal.TheVariants as Refusal
 use Rattle.ast.specs.Counts.{counts_hold, epilogue_holds, cap_holds}
 use Rattle.ast.specs.Uses.{uses, registers_fit}
 use Rattle.ast.specs.declared.Head.{Head}

@@ -12,7 +12,6 @@ use lib.Seq.{sets, drop-cons}
 use Rattle.text.specs.Digits.{decimal}
 use Rattle.print.specs.Text.{refusal_line, Puts}
 use Rattle.print.specs.declared.Text.{Text}
-use Rattle.print.specs.declared.Text.TheVariants as Text
 use Rattle.print.proofs.Counts.{decimal_short}
 use Rattle.print.proofs.Lines.{framed, length_refusal_line}
 use Rattle.print.proofs.Stores.{sets_append}

@@ -14,7 +14,6 @@ use Rattle.ast.specs.declared.Constant.TheVariants as Constant
 use Rattle.text.specs.declared.Number.{Number}
 use Rattle.text.specs.declared.Number.TheVariants.{Value, TooBig}
 use Rattle.form.specs.declared.Form.{Form}
-use Rattle.form.specs.declared.Form.TheVariants as Form
 use Rattle.deck.specs.Judge.{Content, head, order, constant, demand}
 
 -- ---- fields

@@ -4,7 +4,7 @@ use native.Mathlib.Omega.{arith}
 use Rattle.text.specs.Readers.{fields_from}
 use Rattle.fast.specs.Inner.Packed.{number}
 use Rattle.fast.specs.Inner.Fields.{operands, numbers_packed, registers_of, bound_of}
-use Rattle.fast.proofs.Fields.{stops_within, goes_on, no_register, ends, ends_badly, none_behind, product, most_of_all, bound_fits, is_some, last_below}
+use Rattle.fast.proofs.Fields.{stops_within, goes_on, no_register, ends_badly, none_behind, product, most_of_all, bound_fits, is_some, last_below}
 use Rattle.fast.proofs.numbers.Goals as goal
 
 pub returns-then-x-ge32 : goal.returns-then-x-ge32

@@ -14,7 +14,6 @@ use Rattle.ast.specs.declared.Frame.{Frame}
 use Rattle.ast.specs.declared.Frame.TheVariants.{Fast, Indirect}
 use Rattle.form.specs.Inner.Syntax.{names}
 use Rattle.form.specs.declared.Kind.{Kind}
-use Rattle.form.specs.declared.Kind.TheVariants as Kind
 
 -- ---- operations within a shape
 

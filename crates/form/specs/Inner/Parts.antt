@@ -3,23 +3,16 @@ use Rattle.std.specs.Prelude.{Bool, List, [], ◌∷◌, ℕ, zero, suc, replica
 use Rattle.std.proofs.Math.Option.{Option, some, none, map}
 use Rattle.text.specs.Readers.{sized}
 use Rattle.text.specs.declared.Number.{Number}
-use Rattle.text.specs.declared.Number.TheVariants as Number
 use Rattle.form.specs.Inner.Syntax.{Sort, number, Value, Values, sorts, line_of}
 use Rattle.form.specs.Inner.Read.{read_field, read_values}
 use Rattle.form.specs.Form.{cut}
 use Rattle.ast.specs.declared.Place.{Place}
 use Rattle.form.specs.declared.Kind.{Kind}
-use Rattle.form.specs.declared.Kind.TheVariants as Kind
 use Rattle.form.specs.declared.Form.{Form}
-use Rattle.form.specs.declared.Form.TheVariants as Form
 use Rattle.form.specs.declared.Named.{Named}
-use Rattle.form.specs.declared.Named.TheVariants as Named
 use Rattle.form.specs.declared.Where.{Where}
-use Rattle.form.specs.declared.Where.TheVariants as Where
 use Rattle.form.specs.declared.Flag.{Flag}
-use Rattle.form.specs.declared.Flag.TheVariants as Flag
 use Rattle.form.specs.declared.Numbers.{Numbers}
-use Rattle.form.specs.declared.Numbers.TheVariants as Numbers
 
 -- a line of kind k with these fields behind the name
 abbrev pub shaped' : (k : Kind) → Option (Values (sorts k)) → Form

@@ -2,7 +2,6 @@
 use Rattle.std.specs.Prelude.{Bool, true, false, cond, List, [], ◌∷◌, ℕ, ◌-◌, eqb, length, get_or, take}
 use Rattle.std.proofs.Math.Option.{Option, some, none, map}
 use Rattle.ast.specs.declared.Place.{Place}
-use Rattle.ast.specs.declared.Place.TheVariants as Place
 use Rattle.text.specs.Readers.{read_decimal, read_integer, read_word, split, same}
 use Rattle.form.specs.Text.{DeckLine, place_name, flag_name}
 use Rattle.form.specs.Inner.Syntax.{Sort, number, integer, word, place, flag, Value, Values, names, sorts, Syntax, line}

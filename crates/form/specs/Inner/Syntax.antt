@@ -11,7 +11,6 @@ use Rattle.text.specs.Ascii.{bytes}
 use Rattle.form.specs.Text.{DeckLine, head, order, float, bits}
 use Rattle.form.specs.Text.{frame_name, unary_name, scratched_name, binary_name, fused_name}
 use Rattle.form.specs.declared.Kind.{Kind}
-use Rattle.form.specs.declared.Kind.TheVariants as Kind
 
 -- ---- kinds
 

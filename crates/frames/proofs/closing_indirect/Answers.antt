@@ -9,7 +9,7 @@ use Rattle.accesses.specs.Code.{add_stack_code}
 use Rattle.accesses.proofs.Collect.{answered, collected}
 use Rattle.accesses.proofs.Numbers.{answered_at}
 use Rattle.ast.specs.declared.Frame.TheVariants.{Indirect}
-use Rattle.frame_code.specs.Items.{closing, mv}
+use Rattle.frame_code.specs.Items.{closing}
 use Rattle.frames.proofs.closing_indirect.Goals as goal
 
 pub returns : goal.returns

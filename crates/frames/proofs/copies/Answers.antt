@@ -6,7 +6,6 @@ use Rattle.assembler.specs.Put.{jumps, targets, put}
 use Rattle.assembler.specs.State.{state}
 use Rattle.frame_code.specs.Items.{times_over}
 use Rattle.frame_code.specs.Inner.Copies.{copy_first, copy_each}
-use Rattle.frames.specs.Inner.Whole.{looped}
 use Rattle.accesses.proofs.Placed.{plan_code}
 use Rattle.frames.proofs.Parts.{jumps_code, untagged}
 use Rattle.frames.proofs.Sizes.{none_are, few_are, many_are}

@@ -2,10 +2,9 @@ use native.Mathlib.Omega.{arith}
 use mathlib.Core.Path.{refl, sym, ◌∙◌, ◌≡◌}
 use mathlib.Core.List.{[], ◌∷◌, ◌++◌}
 use Rattle.assembler.specs.Item.{jump, label}
-use Rattle.assembler.specs.Put.{jumps}
 use Rattle.assembler.specs.State.{state, State}
 use Rattle.assembler.specs.declared.JumpKind.TheVariants.{Beq}
-use Rattle.frame_code.specs.Items.{code, mv, opening, at_main, at_self}
+use Rattle.frame_code.specs.Items.{code, opening, at_main, at_self}
 use Rattle.accesses.proofs.Placed.{plan_code}
 use Rattle.frames.proofs.Parts.{label_set, plan_jump, refuses, opens, closes, front_piece, piece, left_of, checked, checks}
 use Rattle.ast.specs.declared.Frame.TheVariants.{Indirect}

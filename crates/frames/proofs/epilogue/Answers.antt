@@ -1,6 +1,5 @@
 use native.Mathlib.Omega.{arith}
 use mathlib.Core.Path.{sym, ◌∙◌}
-use Rattle.ast.specs.Counts.{epilogue_holds}
 use Rattle.assembler.specs.State.{State, state}
 use Rattle.frame_code.specs.Items.{epilogue}
 use Rattle.frames.proofs.Parts.{faulted}

@@ -8,7 +8,7 @@ use Rattle.accesses.specs.Code.{add_stack_code}
 use Rattle.accesses.proofs.Collect.{answered, collected}
 use Rattle.accesses.proofs.Numbers.{answered_at, back_small}
 use Rattle.ast.specs.declared.Frame.TheVariants.{Fast}
-use Rattle.frame_code.specs.Items.{closing, mv}
+use Rattle.frame_code.specs.Items.{closing}
 use native.Mathlib.Omega.{arith}
 use Prim.Native.Nat.{◌*◌}
 use Rattle.frames.proofs.fast_end_plan.Goals as goal

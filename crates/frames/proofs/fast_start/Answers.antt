@@ -3,7 +3,6 @@ use mathlib.Core.Path.{sym, ap, ◌∙◌, ◌≡◌}
 use mathlib.Core.List.{[], ◌∷◌, ◌++◌}
 use Prim.Native.Nat.{ℕ}
 use lib.ListN.{length}
-use Rattle.assembler.specs.Put.{jumps}
 use Rattle.assembler.specs.State.{state, State}
 use Rattle.frame_code.specs.Items.{code, mv, opening, states_from, prologue_fast}
 use Rattle.accesses.proofs.Placed.{plan_code}

@@ -2,9 +2,7 @@ use mathlib.Core.Bool.{true}
 use native.Mathlib.Omega.{arith}
 use mathlib.Core.Path.{refl, sym, ◌∙◌, ◌≡◌}
 use mathlib.Core.List.{[], ◌∷◌, ◌++◌}
-use Prim.Native.Nat.{◌+◌}
 use Rattle.assembler.specs.Item.{jump, label}
-use Rattle.assembler.specs.Put.{jumps}
 use Rattle.assembler.specs.State.{state, State}
 use Rattle.assembler.specs.declared.JumpKind.TheVariants.{Beq}
 use Rattle.frame_code.specs.Items.{code, closing, epilogue_indirect, at_done}

@@ -6,7 +6,6 @@ use Prim.Native.Nat.{ℕ}
 use lib.IntN.{ℤ, pos}
 use lib.ListN.{length}
 use Rattle.assembler.specs.Item.{label}
-use Rattle.assembler.specs.Put.{jumps}
 use Rattle.assembler.specs.State.{State, state}
 use Rattle.frame_code.specs.Items.{code, mv, prologue_indirect, at_main}
 use Rattle.frame_code.specs.Inner.Copies.{copies}

@@ -3,7 +3,6 @@ use mathlib.Core.List.{[], ◌∷◌, ◌++◌, map}
 use lib.IntN.{ℤ, pos}
 use Rattle.isa.specs.Instr.{I, ADDI}
 use Rattle.assembler.specs.Item.{label}
-use Rattle.assembler.specs.Put.{jumps}
 use Rattle.frame_code.specs.Items.{code, reload, reloads, at_success, at_epilogue}
 use Rattle.accesses.proofs.Placed.{plan_code}
 use Rattle.frames.proofs.Parts.{refuses, opens, closes, piece, left_of, checked, checks}

@@ -1,12 +1,11 @@
 use native.Mathlib.Omega.{arith}
 use mathlib.Core.Path.{refl, sym, ap, ◌∙◌, ◌≡◌}
 use mathlib.Core.List.{[], ◌∷◌, ◌++◌}
-use Prim.Native.Nat.{◌+◌, ◌≤◌}
+use Prim.Native.Nat.{◌≤◌}
 use lib.IntN.{ℤ, pos}
 use lib.ListN.{length-append, length}
 use Rattle.isa.specs.Instr.{I, ADDI}
 use Rattle.assembler.specs.Item.{jump, label}
-use Rattle.assembler.specs.Put.{jumps}
 use Rattle.assembler.specs.State.{state, State}
 use Rattle.assembler.specs.declared.JumpKind.TheVariants.{Bne}
 use Rattle.frame_code.specs.Items.{code, count_down}

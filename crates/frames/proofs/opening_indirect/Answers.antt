@@ -8,7 +8,7 @@ use Rattle.accesses.specs.Code.{sub_stack_code}
 use Rattle.accesses.proofs.Collect.{answered, collected}
 use Rattle.accesses.proofs.Numbers.{answered_at}
 use Rattle.ast.specs.declared.Frame.TheVariants.{Indirect}
-use Rattle.frame_code.specs.Items.{opening, mv}
+use Rattle.frame_code.specs.Items.{opening}
 use Rattle.frames.proofs.opening_indirect.Goals as goal
 
 pub returns : goal.returns

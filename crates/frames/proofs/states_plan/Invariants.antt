@@ -1,4 +1,4 @@
-use mathlib.Core.Path.{◌≡◌, ap}
+use mathlib.Core.Path.{◌≡◌}
 use mathlib.Core.List.{◌∷◌, map}
 use Prim.Native.Nat.{◌-◌, ◌≤◌}
 use Rattle.accesses.specs.Plans.{answer_of, pushes_from, plan_of}

@@ -4,7 +4,6 @@ use Rattle.isa.specs.Instr.{Instr}
 use native.Mathlib.Omega.{arith}
 use mathlib.Core.Path.{sym, ◌∙◌, ◌≡◌}
 use mathlib.Core.List.{◌++◌, List}
-use Rattle.assembler.specs.Put.{jumps}
 use Rattle.assembler.specs.State.{state, State}
 use Rattle.frame_code.specs.Items.{code, times_over}
 use Rattle.frame_code.specs.Inner.Copies.{copy_first, copy_each}

@@ -2,7 +2,6 @@ use borrow.Author.Rules.{rules}
 use borrow.Author.Tests.{lt-ltb}
 use native.Mathlib.Omega.{arith}
 use mathlib.Core.Path.{◌≡◌, sym, ap, ◌∙◌, subst}
-use mathlib.Core.Logic.{⊎_elim}
 use mathlib.Core.Bool.{cond, true, false}
 use mathlib.Core.List.{List, ◌∷◌}
 use Prim.Native.Nat.{ℕ, zero, suc, ◌+◌, ◌-◌, ◌^◌, ◌/◌, ◌≤◌, ◌<◌}
@@ -11,7 +10,6 @@ use lib.ListN.{length, set}
 use Rattle.isa.specs.Instr.{Instr}
 use Rattle.encoder.specs.declared.Encoded.TheVariants.{Word}
 use Rattle.assembler.specs.Plan.{pushed}
-use Rattle.assembler.specs.declared.Fault.TheVariants as Fault
 use Rattle.assembler.specs.declared.Plan.{Plan}
 use Rattle.accesses.specs.Plans.{answer_of}
 use Rattle.ast.specs.Mask.{chosen, is_preserved}

@@ -1,5 +1,5 @@
 use mathlib.Core.Path.{◌∙◌}
-use mathlib.Core.Bool.{true, false}
+use mathlib.Core.Bool.{true}
 use Rattle.text.specs.Digits.{decimal}
 use Rattle.print.proofs.Counts.{as_decimal}
 use Rattle.print.proofs.Fitting.{fits, tested}

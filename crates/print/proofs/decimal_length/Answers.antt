@@ -1,5 +1,4 @@
 use native.Mathlib.Omega.{arith}
-use Rattle.text.specs.Digits.{above}
 use Rattle.print.proofs.Counts.{length_decimal, above_small, above_more}
 use Rattle.print.proofs.decimal_length.Goals as goal
 

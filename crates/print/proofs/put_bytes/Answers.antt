@@ -1,4 +1,3 @@
-use Prim.Native.Nat.{◌-◌}
 use native.Mathlib.Omega.{arith}
 use Rattle.print.proofs.Stores.{put_next}
 use Rattle.print.proofs.put_bytes.Goals as goal

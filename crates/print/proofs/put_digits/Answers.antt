@@ -1,4 +1,4 @@
-use Prim.Native.Nat.{◌+◌, ◌-◌}
+use Prim.Native.Nat.{◌+◌}
 use native.Mathlib.Omega.{arith}
 use Rattle.print.proofs.Stores.{digit_none, digit_step}
 use Rattle.print.proofs.put_digits.Goals as goal

@@ -1,7 +1,5 @@
 use mathlib.Core.Path.{sym, ◌∙◌}
-use Prim.Native.Nat.{◌-◌}
 use native.Mathlib.Omega.{arith}
-use lib.ListN.{length}
 use Rattle.print.proofs.Lines.{one_word_put, no_word_put, length_word, length_no_word}
 use Rattle.print.proofs.put_words.Goals as goal
 

@@ -63,7 +63,9 @@ loop-at-preserved-then-l c =
     let now-state : State = let l = c.loop-at in state l.asm l.labels l.jumps l.buf in
     let few : length kept ≡ c.loop-at.k = places_length c.args.file.now c.loop-at.places c.loop-at.k (omega (arith, c.loop-at.invariant)) in
     let step : outcome c.take_line-l.result.done c.take_line-l.new.labels c.take_line-l.new.jumps c.take_line-l.new.buf ≡ line_run c.args.head (c.loop-at.n + 1) (length kept) said now-state = c.take_line-l.ensures.0 ∙ line_same c.args.head (c.loop-at.n + 1) said (sym few) (c.line-t.ensures.1 c.if-t-lt-NOT_MINE.false) in
-    let onward : let a = c.args in lines_run a.head 1 [] (lines_of (drop a.at a.file.now)) (state a.asm a.labels.now a.jumps.now a.buf.now) ≡ lines_run a.head (c.loop-at.n + 1) (kept ++ waiting said) rest (state c.take_line-l.result.done.asm c.take_line-l.new.labels c.take_line-l.new.jumps c.take_line-l.new.buf) = c.loop-at.invariant.5 ∙ line_goes c.args.head c.loop-at.n kept _ rest text split.2 now-state c.take_line-l.result.done _ _ _ step c.in_default.is in
+    let onward : let a = c.args in lines_run a.head 1 [] (lines_of (drop a.at a.file.now)) (state a.asm a.labels.now a.jumps.now a.buf.now)
+    ≡ lines_run a.head (c.loop-at.n + 1) (kept ++ waiting said) rest (state c.take_line-l.result.done.asm c.take_line-l.new.labels c.take_line-l.new.jumps c.take_line-l.new.buf)
+    = c.loop-at.invariant.5 ∙ line_goes c.args.head c.loop-at.n kept _ rest text split.2 now-state c.take_line-l.result.done _ _ _ step c.in_default.is in
     let same : length c.take_line-l.new.buf ≡ length c.args.buf.now = c.buf-in-loop-at-1.given ∙ c.buf-1.given ∙ c.loop-at.invariant.4 in
     let has-place : c.loop-at.k < 1008 = omega (arith, few, constant_room c.args.head (c.loop-at.n + 1) (length kept) said now-state c.take_line-l.result.done _ _ _ step c.in_default.is (sym waits ∙ c.if-l.true)) in
     let f = c.args.file.now in (
@@ -87,7 +89,9 @@ loop-at-preserved c =
     let now-state : State = let l = c.loop-at in state l.asm l.labels l.jumps l.buf in
     let few : length kept ≡ c.loop-at.k = places_length c.args.file.now c.loop-at.places c.loop-at.k (omega (arith, c.loop-at.invariant)) in
     let step : outcome c.take_line-l.result.done c.take_line-l.new.labels c.take_line-l.new.jumps c.take_line-l.new.buf ≡ line_run c.args.head (c.loop-at.n + 1) (length kept) said now-state = c.take_line-l.ensures.0 ∙ line_same c.args.head (c.loop-at.n + 1) said (sym few) (c.line-t.ensures.1 c.if-t-lt-NOT_MINE.false) in
-    let onward : let a = c.args in lines_run a.head 1 [] (lines_of (drop a.at a.file.now)) (state a.asm a.labels.now a.jumps.now a.buf.now) ≡ lines_run a.head (c.loop-at.n + 1) (kept ++ waiting said) rest (state c.take_line-l.result.done.asm c.take_line-l.new.labels c.take_line-l.new.jumps c.take_line-l.new.buf) = c.loop-at.invariant.5 ∙ line_goes c.args.head c.loop-at.n kept _ rest text split.2 now-state c.take_line-l.result.done _ _ _ step c.in_default.is in
+    let onward : let a = c.args in lines_run a.head 1 [] (lines_of (drop a.at a.file.now)) (state a.asm a.labels.now a.jumps.now a.buf.now)
+    ≡ lines_run a.head (c.loop-at.n + 1) (kept ++ waiting said) rest (state c.take_line-l.result.done.asm c.take_line-l.new.labels c.take_line-l.new.jumps c.take_line-l.new.buf)
+    = c.loop-at.invariant.5 ∙ line_goes c.args.head c.loop-at.n kept _ rest text split.2 now-state c.take_line-l.result.done _ _ _ step c.in_default.is in
     let same : length c.take_line-l.new.buf ≡ length c.args.buf.now = c.buf-in-loop-at-1.given ∙ c.buf-1.given ∙ c.loop-at.invariant.4 in (
       split.1,
       omega (arith, split, c.loop-at.invariant),

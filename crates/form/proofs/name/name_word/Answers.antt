@@ -1,4 +1,4 @@
-use Prim.Native.Nat.{◌-◌, ◌<◌}
+use Prim.Native.Nat.{◌<◌}
 use native.Mathlib.Omega.{arith}
 use Rattle.form.proofs.Names.{spelled_small}
 use Rattle.form.proofs.name.name_word.Goals as goal

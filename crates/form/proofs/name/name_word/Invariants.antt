@@ -1,4 +1,3 @@
-use Prim.Native.Nat.{◌-◌}
 use Rattle.form.proofs.Names.{Spelled}
 use Rattle.form.proofs.name.name_word.Given as goal
 

@@ -1,5 +1,4 @@
 use mathlib.Core.Path.{sym, ◌∙◌}
-use Prim.Native.Nat.{◌-◌}
 use native.Mathlib.Omega.{arith}
 use Rattle.print.proofs.Listings.{no_first, first_here, first_behind}
 use Rattle.print.proofs.listing.first_foreign.Goals as goal
