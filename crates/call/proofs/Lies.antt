@@ -34,7 +34,7 @@ pub record Lies (H : Head) (len : ℕ) (s : State) : Type 0 where
   pub rooms : Rooms (base H s) (cell_count H)
   pub bases_aligned : (q : Place) → 0 < cell_count H q → base H s q % 8 ≡ 0
   pub off_code : (q : Place) (x : ℕ) → Inside (base H s q) (cell_count H q) x → s.pc ≤ x → x < s.pc + len → ⊥
-  -- the places of ra and other whole_number registers are no cells
+  -- the places of ra and other whole-number registers are no cells
   pub off_places : (q : Place) (x : ℕ) → Inside (base H s q) (cell_count H q) x → bottom H s + below_saves H (s.x 11) ≤ x → x < bottom H s + frame_bytes H s → ⊥
   -- a cell in the frame, or in one of the blocks
   pub mem_in : T (holds_mem H.frame (s.x 11)) → (x : ℕ) → Inside (base H s Mem) (cell_count H Mem) x → Within (frame H s) x
