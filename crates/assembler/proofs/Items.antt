@@ -7,8 +7,8 @@ use lib.ListN.{length, length-append}
 use Rattle.isa.specs.Instr.{Instr}
 use Rattle.isa.specs.Encode.{encode}
 use Rattle.assembler.specs.Item.{Item, instr, raw, jump, label}
-use Rattle.assembler.specs.Bytes.{written}
 use Rattle.assembler.specs.State.{State}
+use Rattle.assembler.specs.Inner.State.{with_words}
 use Rattle.assembler.specs.Put.{words, jumps, targets, labels, with_word, place, placed}
 use Rattle.assembler.specs.Plan.{tail_items}
 use Rattle.assembler.specs.Resolved.{resolved}
@@ -69,15 +69,6 @@ pub labels_raw : (ws : List ℕ) → labels (map raw ws) ≡ []
 unfolding labels
 labels_raw [] = refl
 labels_raw (w ∷ ws) = labels_raw ws
-
-abbrev pub with_words : List ℕ → State → State
-with_words ws s =
-    record {
-      asm = record { len = s.asm.len + 4 * length ws; jumps = s.asm.jumps; closed = s.asm.closed };
-      labels = s.labels;
-      jumps = s.jumps;
-      buf = written s.buf s.asm.len ws;
-    }
 
 pub placed_raw : (tag : ℕ) (ws : List ℕ) (s : State) → placed tag (map raw ws) s ≡ with_words ws s
 unfolding placed place with_word

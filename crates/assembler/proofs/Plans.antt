@@ -1,19 +1,19 @@
 -- What `place` does with a plan, in terms of the instructions whose words it has. Assumes nothing.
 use mathlib.Core.Path.{◌≡◌, refl, sym, ap, ◌∙◌}
-use mathlib.Core.Bool.{Bool, true, false, ◌&&◌, cond}
+use mathlib.Core.Bool.{Bool, true, false, cond}
 use mathlib.Core.List.{List, [], ◌∷◌, ◌++◌, map}
 use Prim.Native.Nat.{ℕ, ◌≤◌}
 use native.Mathlib.Omega.{arith}
 use borrow.Author.Tests.{le-ltb, ne_eqb, ltb-true, eqb-true, eqb-false}
 use lib.Dec.{ltb, eqb}
-use lib.ListN.{length}
+use Rattle.std.specs.Prelude.{Option, Some, None}
 use Rattle.isa.specs.Instr.{Instr}
 use Rattle.isa.specs.Encode.{encode}
 use Rattle.assembler.specs.Item.{Item, instr, raw}
-use Rattle.assembler.specs.State.{State, sound, fits}
-use Rattle.assembler.specs.Put.{words, targets, labels, twice, numbers_sound, numbers_fit, place, placed, ranked, verdict, put_number, settled, put}
+use Rattle.assembler.specs.State.{State}
+use Rattle.assembler.specs.Put.{words, targets, labels, place, placed, ranked, verdict, put_number, settled, put}
 use Rattle.assembler.specs.Plan.{rank, earlier, fault_number, tail_items, tail_fault, plan_words, plan_items, plan_fault, all_labels, sets_fault}
-use Rattle.assembler.specs.declared.Fault.{Fault}
+use Rattle.refusal.specs.declared.Refusal.{Refusal}
 use Rattle.assembler.specs.declared.Plan.{Plan}
 use Rattle.assembler.specs.declared.Tail.{Tail}
 use Rattle.assembler.proofs.Items.{targets_append, targets_raw, targets_instrs}
@@ -72,51 +72,43 @@ module _ (t : List Item) where
   unfolding put
   put_same tag fault is s = rw (words_same is, targets_same is, labels_same is, placed_same tag is s)
 
-rank_small : (f : Fault) → rank (fault_number f) ≤ 12
-rank_small Fault.Nothing = omega arith
-rank_small Fault.Register = omega arith
-rank_small Fault.Value = omega arith
-rank_small Fault.Label = omega arith
-rank_small Fault.Count = omega arith
-rank_small Fault.Base = omega arith
-rank_small Fault.Unsaved = omega arith
+rank_small : (f : Option Refusal) → rank (fault_number f) ≤ 12
+rank_small None = omega arith
+rank_small (Some Refusal.Register) = omega arith
+rank_small (Some Refusal.Value) = omega arith
+rank_small (Some Refusal.Label) = omega arith
+rank_small (Some Refusal.Twice) = omega arith
+rank_small (Some Refusal.Unset) = omega arith
+rank_small (Some Refusal.Far) = omega arith
+rank_small (Some Refusal.Full) = omega arith
+rank_small (Some Refusal.Closed) = omega arith
+rank_small (Some Refusal.Count) = omega arith
+rank_small (Some Refusal.Base) = omega arith
+rank_small (Some Refusal.Unsaved) = omega arith
+rank_small (Some Refusal.Line) = omega arith
 
 -- a fault and none
-pub earlier_none : (f : Fault) → earlier (fault_number f) 0 ≡ fault_number f
+pub earlier_none : (f : Option Refusal) → earlier (fault_number f) 0 ≡ fault_number f
 earlier_none f = rw (le-ltb 12 (rank (fault_number f)) (rank_small f))
 
-fault_zero : (f : Fault) (b : ℕ) → earlier (fault_number f) b ≡ 0 → fault_number f ≡ 0
+fault_zero : (f : Option Refusal) (b : ℕ) → earlier (fault_number f) b ≡ 0 → fault_number f ≡ 0
 fault_zero f b e = by (ltb (rank b) (rank (fault_number f))) refl e
   where
     by : (t : Bool) → ltb (rank b) (rank (fault_number f)) ≡ t → cond t b (fault_number f) ≡ 0 → fault_number f ≡ 0
     by false q e = e
     by true q e = absurd (omega (arith, ltb-true (rank b) (rank (fault_number f)) q, ap rank e, rank_small f))
 
--- a label too high is a fault
-high_fault : (f : Fault) → earlier (fault_number f) 2 ≡ 0 → ⊥
-high_fault Fault.Nothing e = omega arith
-high_fault Fault.Register e = omega arith
-high_fault Fault.Value e = omega arith
-high_fault Fault.Label e = omega arith
-high_fault Fault.Count e = omega arith
-high_fault Fault.Base e = omega arith
-high_fault Fault.Unsaved e = omega arith
+-- the fault of a whole, by what was asked of it
+pub whole_fault : (x : Option Refusal) (ls : List ℕ) (f l n : ℕ) → f ≡ earlier (fault_number x) l → l ≡ sets_fault ls → f ≡ n → earlier (fault_number x) (sets_fault ls) ≡ n
+whole_fault x ls f l n e g h = rw (← g) (sym e ∙ h)
 
--- whether labels are taken matters only where they are labels
-module _ (f : Fault) (ls : List ℕ) (c s t u r : Bool) where
-  pub asked : (sets_fault ls ≡ 0 → t ≡ u) → ranked (earlier (fault_number f) (sets_fault ls)) c s t r ≡ ranked (earlier (fault_number f) (sets_fault ls)) c s u r
-  asked h = by (all_labels ls) h
-    where
-      by : (b : Bool) → (◌≡◌ {A = ℕ} (cond b 0 2) 0 → t ≡ u) → ranked (earlier (fault_number f) (cond b 0 2)) c s t r ≡ ranked (earlier (fault_number f) (cond b 0 2)) c s u r
-      by true h = rw (h refl)
-      by false h = fault_first (earlier (fault_number f) 2) c s t u r r (high_fault f)
-
--- the number of a whole, by what was asked of it
-pub whole_number : (x : Fault) (ls ts : List ℕ) (w : ℕ) (s : State) (k f : ℕ) (known t holds : Bool) (j : ℕ) → f ≡ earlier (fault_number x) (sets_fault ls)
-    → known ≡ numbers_sound s.labels ts → (sets_fault ls ≡ 0 → t ≡ twice s.labels ls) → holds ≡ numbers_fit s.labels ts → j ≡ length ts
-    → k ≡ ranked f s.asm.closed (known && sound (length s.buf) s.asm) t (holds && fits (length s.buf) s.asm w j)
-    → k ≡ verdict (earlier (fault_number x) (sets_fault ls)) ls ts w s
-whole_number x ls ts w s k f known t holds j e g a h i q = q ∙ rw (e, g, h, i) (asked x ls _ _ t (twice s.labels ls) _ a)
+-- where there is none, all labels are labels
+pub none_asked : (x : Option Refusal) (ls : List ℕ) → earlier (fault_number x) (sets_fault ls) ≡ 0 → all_labels ls ≡ true
+none_asked x ls e = by (all_labels ls) refl e
+  where
+    by : (b : Bool) → all_labels ls ≡ b → earlier (fault_number x) (cond b 0 2) ≡ 0 → all_labels ls ≡ true
+    by true p q = p
+    by false p q = absurd (let z = fault_zero x 2 q in let w = rw z at q in omega (arith, w))
 
 -- A plan that stands for a fault and, where there is none, for instructions.
 module _ (p : Plan) (is : List Instr) (t : Tail) (tag : ℕ) (s : State) (w : fault_number p.fault ≡ 0 → plan_words p ≡ map encode is) where

@@ -1,18 +1,20 @@
 -- Tests and what they say. Assumes nothing.
-use mathlib.Core.Path.{◌≡◌, refl, sym, subst, ◌∙◌}
-use mathlib.Core.Bool.{Bool, true, false, not, ◌&&◌, ◌||◌, cond, or-false}
+use mathlib.Core.Path.{◌≡◌, refl, sym}
+use mathlib.Core.Bool.{Bool, true, false, ◌||◌, cond, or-true}
 use mathlib.Core.List.{List, [], ◌∷◌}
 use Prim.Native.Nat.{ℕ, zero, suc, ◌<◌, ◌≤◌}
 use native.Mathlib.Omega.{arith}
-use borrow.Author.Tests.{ltb-true}
-use lib.Dec.{T, ltb, eqb}
-use lib.Ieee.{Float, nan, inf, fin, eq, ne, is_nan}
-use lib.Ieee.Compare.{differs_from_itself}
+use borrow.Author.Tests.{eqb-true, eqb-false}
+use lib.Dec.{ltb, eqb}
+use lib.Ieee.{Float, nan, inf, fin, is_nan}
 use lib.ListN.{length, get_or}
+use Rattle.refusal.specs.declared.Refusal.{Refusal}
+use Rattle.refusal.specs.Number.{number_of}
 use Rattle.assembler.specs.Label.{is_set}
 use Rattle.assembler.specs.Put.{twice}
+use Rattle.std.specs.List.{list_any}
 use Rattle.base.specs.Tests.{member}
-use Rattle.assembler.specs.Plan.{rank, earlier, all_labels, sets_fault}
+use Rattle.assembler.specs.Plan.{rank, earlier}
 
 pub no : {A : Type 0} → false ≡ true → A
 no e = let z : ◌≡◌ {A = ℕ} 0 1 = cc in absurd (omega arith)
@@ -31,31 +33,50 @@ earlier_small a b n h k = by (ltb (rank b) (rank a))
     by true = k
     by false = h
 
--- labels that are all below 2,039
-pub label_below : (l : ℕ) (ls : List ℕ) → sets_fault (l ∷ ls) ≡ 0 → (l < 2039) × (sets_fault ls ≡ 0)
-label_below l ls e = by (ltb l 2039) (all_labels ls) refl e
+-- every refusal has a number
+pub number_some : (r : Refusal) → 1 ≤ number_of r
+number_some Refusal.Register = omega arith
+number_some Refusal.Value = omega arith
+number_some Refusal.Label = omega arith
+number_some Refusal.Twice = omega arith
+number_some Refusal.Unset = omega arith
+number_some Refusal.Far = omega arith
+number_some Refusal.Full = omega arith
+number_some Refusal.Closed = omega arith
+number_some Refusal.Count = omega arith
+number_some Refusal.Base = omega arith
+number_some Refusal.Unsaved = omega arith
+number_some Refusal.Line = omega arith
+
+-- ---- labels set, or named twice
+
+member_any : (l : ℕ) (ls : List ℕ) → list_any (λ k. eqb k l) ls ≡ member l ls
+member_any l [] = refl
+member_any l (k ∷ ls) = by (eqb k l) (eqb l k) refl refl (member_any l ls)
   where
-    by : (b c : Bool) → ltb l 2039 ≡ b → ◌≡◌ {A = ℕ} (cond (b && c) 0 2) 0 → (l < 2039) × (◌≡◌ {A = ℕ} (cond c 0 2) 0)
-    by true true p q = (ltb-true l 2039 p, refl)
-    by true false p q = absurd (omega arith)
-    by false c p q = absurd (omega arith)
+    by : (t u : Bool) → eqb k l ≡ t → eqb l k ≡ u → list_any (λ k. eqb k l) ls ≡ member l ls → (eqb k l || list_any (λ k. eqb k l) ls) ≡ (eqb l k || member l ls)
+    by true true p q e = rw (p, q)
+    by true false p q e = absurd (eqb-false l k q (sym (eqb-true k l p)))
+    by false true p q e = absurd (eqb-false k l p (sym (eqb-true l k q)))
+    by false false p q e = rw (p, q) e
 
--- one label more, of which is known whether it comes again behind
-pub taken_more : (m : List ℕ) (l : ℕ) (ls : List ℕ) (g y r : Bool) → g ≡ member l ls → y ≡ twice m ls → r ≡ is_set (get_or m l 0) || (g || y) → r ≡ twice m (l ∷ ls)
-unfolding twice
-taken_more m l ls g y r e f h = h ∙ rw (e, f)
+module _ (m rest : List ℕ) (l : ℕ) (behind : List ℕ) (e : rest ≡ l ∷ behind) where
+  pub twice_set : is_set (get_or m l 0) ≡ true → twice m rest ≡ true
+  unfolding twice
+  twice_set h = rw (e, h)
 
-pub member_one : (l k : ℕ) → eqb l k ≡ member l (k ∷ [])
-member_one l k = rw or-false
+  pub twice_again : list_any (λ k. eqb k l) behind ≡ true → twice m rest ≡ true
+  unfolding twice
+  twice_again h = rw (e, ← member_any l behind, h) (or-true (is_set (get_or m l 0)))
+
+  pub twice_next : is_set (get_or m l 0) ≡ false → list_any (λ k. eqb k l) behind ≡ false → twice m rest ≡ twice m behind
+  unfolding twice
+  twice_next h g = rw (e, h, ← member_any l behind, g)
 
 -- ---- floats
 
-pub not_nan : (x : Float) → eq x x ≡ true → T (not (is_nan x))
-unfolding eq is_nan
-not_nan nan e = no e
-not_nan (inf s) e = tt
-not_nan (fin s m d) e = tt
-
-pub nan_of : (x : Float) → eq x x ≡ false → x ≡ nan
-unfolding ne
-nan_of x e = differs_from_itself x (subst (λ (t : Bool). T (not t)) (sym e) tt)
+pub nan_of : (x : Float) → is_nan x ≡ true → x ≡ nan
+unfolding is_nan
+nan_of nan e = refl
+nan_of (inf s) e = no e
+nan_of (fin s m d) e = no e

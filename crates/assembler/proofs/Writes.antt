@@ -9,7 +9,8 @@ use native.Mathlib.Omega.{arith}
 use borrow.Author.Tests.{le-leb, lt-leb}
 use lib.Dec.{leb}
 use lib.ListN.{length, set, take, drop, get_or}
-use lib.Seq.{sets, sets-eq, length-sets, take-suc, length-take-le}
+use borrow.Rule.Slice.PartMut.{put_mid}
+use lib.Seq.{drop-drop, sets, sets-eq, length-sets, take-suc, length-take-le}
 use Rattle.assembler.specs.Bytes.{le_bytes, bytes, written, room}
 
 pub length_written : (b : List ℕ) (at : ℕ) (ws : List ℕ) → length (written b at ws) ≡ length b
@@ -69,6 +70,12 @@ written_is b at ws h =
     let e : length (bytes ws) ≡ 4 * length ws = length_bytes ws in
     sets-eq (bytes ws) b at (omega arith) ∙ ap (λ (k : ℕ). take at b ++ bytes ws ++ drop (at + k) b) e
     ∙ append_assoc (take at b) (bytes ws) (drop (at + 4 * length ws) b)
+
+-- a part that `copy_from_slice` wrote
+pub part_is : (b : List ℕ) (at k : ℕ) (xs : List ℕ) → k ≡ length xs → at + k ≤ length b → put_mid at k b xs ≡ sets b at xs
+part_is b at k xs e h =
+    rw (e, drop-drop (length xs) at b)
+    (sym (sets-eq xs b at (omega arith) ∙ append_assoc (take at b) xs (drop (at + length xs) b)))
 
 -- ---- by the test of the room
 

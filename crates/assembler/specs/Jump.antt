@@ -1,5 +1,7 @@
 -- The six kinds of jump (document 01, "What changes shape"): their numbers in jump memory, and the instruction that finishing writes.
-use Rattle.std.specs.Prelude.{[], ◌∷◌, ℕ, ◌+◌, ℤ, pos, get_or}
+use Rattle.std.specs.Prelude.{[], ◌∷◌, ℕ, ◌+◌, ℤ, pos, get_or, cond, ltb, Result, Ok, Err}
+use Rattle.refusal.specs.declared.Refusal.{Refusal}
+use Rattle.refusal.specs.declared.Refusal.TheVariants.{Value}
 use Rattle.isa.specs.Register.{zero, t0, t2, s2}
 use Rattle.isa.specs.Immediate.{twos, hi, lo}
 use Rattle.isa.specs.Instr.{Instr, I, B, U, LD, JALR, FLD, BEQ, BNE, AUIPC}
@@ -27,3 +29,7 @@ jump_instr Bne r z = B BNE t2 zero z
 -- the kind with a number below 6
 abbrev pub kind_of : ℕ → JumpKind
 kind_of n = get_or (Auipc ∷ Ld ∷ Jalr ∷ Fld ∷ Beq ∷ Bne ∷ []) n Bne
+
+-- a number of jump memory as a kind, if it is one's
+abbrev pub kind_said : ℕ → Result JumpKind Refusal
+kind_said n = cond (ltb n 6) (Ok (kind_of n)) (Err Value)

@@ -1,5 +1,5 @@
 -- An order as its words and the jumps behind them, and the refusal of an operand, if one is refused.
-use Rattle.std.specs.Prelude.{Bool, true, ◌&&◌, cond, List, [], ◌∷◌, ◌++◌, map, ℕ, ◌+◌, min, ltb, get_or, take, set, replicate}
+use Rattle.std.specs.Prelude.{Bool, true, ◌&&◌, cond, List, [], ◌∷◌, ◌++◌, map, ℕ, ◌+◌, min, ltb, get_or, take, set, replicate, Option, Some, None}
 use Rattle.refusal.specs.Number.{number_of}
 use Rattle.refusal.specs.declared.Refusal.{Refusal}
 use Rattle.refusal.specs.declared.Refusal.TheVariants.{Register, Value, Label, Twice, Unset, Far, Full, Closed, Count, Base, Unsaved, Line}
@@ -11,9 +11,6 @@ use Rattle.assembler.specs.declared.JumpKind.TheVariants.{Auipc}
 use Rattle.assembler.specs.declared.Tail.{Tail}
 use Rattle.assembler.specs.declared.Tail.TheVariants.{Nothing, One, Pair}
 use Rattle.assembler.specs.declared.Plan.{Plan}
-use Rattle.assembler.specs.declared.Fault.{Fault}
-use Rattle.assembler.specs.declared.Sets.{Sets}
-use Rattle.assembler.specs.declared.Goes.{Goes}
 
 -- ---- faults
 
@@ -28,33 +25,28 @@ rank n = get_or ranks n 13
 abbrev pub earlier : ℕ → ℕ → ℕ
 earlier a b = cond (ltb (rank b) (rank a)) b a
 
--- document 01's number of an operand's fault, 0 for none
-abbrev pub fault_number : Fault → ℕ
-fault_number Fault.Nothing = 0
-fault_number Fault.Register = number_of Register
-fault_number Fault.Value = number_of Value
-fault_number Fault.Label = number_of Label
-fault_number Fault.Count = number_of Count
-fault_number Fault.Base = number_of Base
-fault_number Fault.Unsaved = number_of Unsaved
+-- document 01's number of a fault, 0 for none
+abbrev pub fault_number : Option Refusal → ℕ
+fault_number None = 0
+fault_number (Some r) = number_of r
 
-abbrev pub first_of : Fault → Fault → Fault
+abbrev pub first_of : Option Refusal → Option Refusal → Option Refusal
 first_of a b = cond (ltb (rank (fault_number b)) (rank (fault_number a))) b a
 
 -- A refused instruction's: the encoder refuses registers and values; a number that isn't an operand's counts as a value.
-abbrev pub refusal_fault : Refusal → Fault
-refusal_fault Register = Fault.Register
-refusal_fault Value = Fault.Value
-refusal_fault Label = Fault.Label
-refusal_fault Twice = Fault.Value
-refusal_fault Unset = Fault.Value
-refusal_fault Far = Fault.Value
-refusal_fault Full = Fault.Value
-refusal_fault Closed = Fault.Value
-refusal_fault Count = Fault.Count
-refusal_fault Base = Fault.Base
-refusal_fault Unsaved = Fault.Unsaved
-refusal_fault Line = Fault.Value
+abbrev pub refusal_fault : Refusal → Option Refusal
+refusal_fault Register = Some Register
+refusal_fault Value = Some Value
+refusal_fault Label = Some Label
+refusal_fault Twice = Some Value
+refusal_fault Unset = Some Value
+refusal_fault Far = Some Value
+refusal_fault Full = Some Value
+refusal_fault Closed = Some Value
+refusal_fault Count = Some Count
+refusal_fault Base = Some Base
+refusal_fault Unsaved = Some Unsaved
+refusal_fault Line = Some Value
 
 -- a label's: 2 above 2,038
 abbrev pub label_fault : ℕ → ℕ
@@ -87,30 +79,19 @@ abbrev pub plan_fault : Plan → Tail → ℕ
 plan_fault p t = earlier (fault_number p.fault) (tail_fault t)
 
 abbrev pub no_words : Plan
-no_words = record { n = 0; fault = Fault.Nothing; w = replicate 12 0 }
+no_words = record { n = 0; fault = None; w = replicate 12 0 }
 
 -- with a fault more
-abbrev pub faulty : Plan → Fault → Plan
+abbrev pub faulty : Plan → Option Refusal → Plan
 faulty p f = record { n = p.n; fault = first_of p.fault f; w = p.w }
 
 -- One instruction more; a 13th word is a fault.
 unfoldable pub pushed : Plan → Encoded → Plan
 pushed p (Word x) =
-    cond (ltb p.n 12) (record { n = p.n + 1; fault = p.fault; w = set p.w p.n x }) (faulty p Fault.Value)
+    cond (ltb p.n 12) (record { n = p.n + 1; fault = p.fault; w = set p.w p.n x }) (faulty p (Some Value))
 pushed p (Refused r place) = faulty p (refusal_fault r)
 
--- ---- labels that a whole would set, and those that its jumps go to
-
-abbrev pub labels_of : Sets → List ℕ
-labels_of Sets.Nothing = []
-labels_of (Sets.One a) = a ∷ []
-labels_of (Sets.Two a b) = a ∷ b ∷ []
-labels_of (Sets.Three a b c) = a ∷ b ∷ c ∷ []
-
-abbrev pub goes_to : Goes → List ℕ
-goes_to Goes.Nowhere = []
-goes_to (Goes.One a) = a ∷ []
-goes_to (Goes.Two a b) = a ∷ b ∷ []
+-- ---- labels that a whole would set
 
 abbrev pub all_labels : List ℕ → Bool
 all_labels [] = true

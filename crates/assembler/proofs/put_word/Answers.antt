@@ -1,15 +1,14 @@
-use native.Mathlib.Omega.{arith}
-use mathlib.Core.Path.{◌≡◌}
-use Prim.Native.Nat.{suc, ◌+◌}
-use mathlib.Core.List.{flat_map}
+use borrow.Author.Rules.{rules}
+use mathlib.Core.Path.{◌≡◌, refl}
+use Prim.Native.Nat.{◌+◌, ◌-◌}
+use mathlib.Core.List.{[], ◌∷◌, flat_map}
 use Rattle.assembler.specs.Bytes.{bytes, written}
+use Rattle.assembler.proofs.Writes.{part_is}
 use Rattle.assembler.proofs.put_word.Goals as goal
 
 pub returns : goal.returns
 unfolding written bytes flat_map
 returns c =
-    let at = c.args.at in
-    let e1 : at + 1 ≡ suc at = omega arith in
-    let e2 : at + 2 ≡ suc (suc at) = omega arith in
-    let e3 : at + 3 ≡ suc (suc (suc at)) = omega arith in
-    rw (e1, e2, e3)
+    let w = c.args in
+    let e : c.copy_from_slice.new.self ≡ bytes (w.w ∷ []) = rw (c.copy_from_slice.ensures.after, c.to_le_bytes.ensures) refl in
+    rw e (part_is w.buf.now w.at (w.at + 4 - w.at) (bytes (w.w ∷ [])) (search rules) (search rules))

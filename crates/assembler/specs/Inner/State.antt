@@ -1,13 +1,19 @@
 -- What private functions promise of the state.
-use Rattle.std.specs.Prelude.{◌≡◌, ℕ, ◌+◌, ◌*◌, ◌≤◌}
+use Rattle.std.specs.Prelude.{List, ℕ, ◌+◌, ◌*◌, ◌≤◌, length}
 use Rattle.assembler.specs.Limit.{room_limit, jump_limit}
+use Rattle.assembler.specs.Bytes.{written}
 use Rattle.assembler.specs.declared.Asm.{Asm}
-use Rattle.assembler.specs.State.{Lent, State, state, before}
+use Rattle.assembler.specs.State.{State}
 
--- by f the state becomes one with the record a
-abbrev pub Steps : (State → State) → Asm → Asm → (labels jumps buf : Lent) → Type 0
-Steps f asm a labels jumps buf =
-    state a labels.exit.now jumps.exit.now buf.exit.now ≡ f (before asm labels jumps buf)
+-- words behind the others
+abbrev pub with_words : List ℕ → State → State
+with_words ws s =
+    record {
+      asm = record { len = s.asm.len + 4 * length ws; jumps = s.asm.jumps; closed = s.asm.closed };
+      labels = s.labels;
+      jumps = s.jumps;
+      buf = written s.buf s.asm.len ws;
+    }
 
 -- so many words and jumps more have room
 abbrev pub Fits : ℕ → Asm → ℕ → ℕ → Type 0
