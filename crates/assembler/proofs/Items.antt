@@ -61,10 +61,6 @@ unfolding targets
 targets_raw [] = refl
 targets_raw (w ∷ ws) = targets_raw ws
 
-pub jumps_raw : (ws : List ℕ) → jumps (map raw ws) ≡ 0
-unfolding jumps
-jumps_raw ws = ap length (targets_raw ws)
-
 pub labels_raw : (ws : List ℕ) → labels (map raw ws) ≡ []
 unfolding labels
 labels_raw [] = refl

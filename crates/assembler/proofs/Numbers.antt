@@ -1,20 +1,16 @@
 -- The numbers of jumps made to labels. Assumes nothing.
-use mathlib.Core.Path.{◌≡◌, refl, sym, ap, ap₂, ◌∙◌}
-use mathlib.Core.Bool.{Bool, true, false, ◌&&◌, cond}
+use mathlib.Core.Path.{◌≡◌, refl, ap, ◌∙◌}
+use mathlib.Core.Bool.{Bool, true, false, cond}
 use mathlib.Core.List.{List, [], ◌∷◌, ◌++◌}
 use Prim.Native.Nat.{ℕ, zero, suc, ◌+◌, ◌<◌, ◌≤◌}
 use native.Mathlib.Omega.{arith}
-use borrow.Author.Tests.{lt-ltb, le-leb, ltb-true, leb-true, eq-eqb, eqb-true, eqb-false}
+use borrow.Author.Tests.{lt-ltb, le-leb, ltb-true, leb-true, eq-eqb, eqb-true}
 use lib.Dec.{eqb}
-use lib.ListN.{length, get_or, set}
+use lib.ListN.{get_or, set}
 use Rattle.base.specs.Tests.{all}
-use Rattle.base.proofs.Bools.{both, join, and_true}
+use Rattle.base.proofs.Bools.{both, join}
 use Rattle.assembler.specs.Label.{made, one_more}
-use Rattle.assembler.specs.Item.{jump}
-use Rattle.assembler.specs.Plan.{jump_fault}
-use Rattle.assembler.specs.State.{State, sound, fits}
-use Rattle.assembler.specs.declared.JumpKind.{JumpKind}
-use Rattle.assembler.specs.Put.{words, targets, labels, twice, times, number_holds, numbers_sound, numbers_fit, ranked, put_number}
+use Rattle.assembler.specs.Put.{times, number_holds, numbers_sound, numbers_fit}
 
 once : (l : ℕ) → ◌≡◌ {A = ℕ} (cond (eqb l l) 1 0) 1
 once l = rw (eq-eqb l l refl)
@@ -32,13 +28,6 @@ module _ (p : ℕ → Bool) where
   pub all_is : (ts : List ℕ) → ((l : ℕ) → 0 < times l ts → p l ≡ true) → all p ts ≡ true
   all_is [] h = refl
   all_is (t ∷ ts) h = join (p t) (all p ts) (h t (omega (arith, once t))) (all_is ts (λ l k. h l (omega arith)))
-
-  -- of one label, of two
-  pub all_one : (a : ℕ) (r : Bool) → r ≡ p a → r ≡ all p (a ∷ [])
-  all_one a r e = e ∙ and_true (p a)
-
-  pub all_two : (a b : ℕ) (x y r : Bool) → x ≡ p a → y ≡ p b → r ≡ x && y → r ≡ all p (a ∷ b ∷ [])
-  all_two a b x y r e f g = g ∙ ap₂ (λ (u v : Bool). u && v) e (all_one b y f)
 
 module _ (m : List ℕ) (n l : ℕ) where
   pub holds_room : number_holds m n l ≡ true → (l < 2039) × (made (get_or m l 0) + n ≤ 4096)
@@ -74,27 +63,6 @@ module _ (m xs ys : List ℕ) (e : numbers_fit m (xs ++ ys) ≡ true) where
 
 -- ---- the jumps of a tail
 
--- how often each of one, or of two
-pub times_one : (l : ℕ) → 1 ≡ times l (l ∷ [])
-times_one l = omega (arith, once l)
-
-times_same : (a b : ℕ) → times a (a ∷ b ∷ []) ≡ times b (a ∷ b ∷ [])
-times_same a b = by (eqb a b) (eqb b a) refl refl
-  where
-    by : (t u : Bool) → eqb a b ≡ t → eqb b a ≡ u → times a (a ∷ b ∷ []) ≡ times b (a ∷ b ∷ [])
-    by true true p q = rw (p, q, eq-eqb a a refl, eq-eqb b b refl)
-    by true false p q = absurd (eqb-false b a q (sym (eqb-true a b p)))
-    by false true p q = absurd (eqb-false a b p (sym (eqb-true b a q)))
-    by false false p q = rw (p, q, eq-eqb a a refl, eq-eqb b b refl)
-
-pub one_is : (m : List ℕ) (l : ℕ) (r : Bool) → r ≡ number_holds m 1 l → r ≡ numbers_fit m (l ∷ [])
-one_is m l r e = all_one (λ (i : ℕ). number_holds m (times i (l ∷ [])) i) l r (e ∙ ap (λ (i : ℕ). number_holds m i l) (times_one l))
-
-pub two_are : (m : List ℕ) (a b n : ℕ) (x y r : Bool) → n ≡ times a (a ∷ b ∷ []) → x ≡ number_holds m n a → y ≡ number_holds m n b → r ≡ x && y → r ≡ numbers_fit m (a ∷ b ∷ [])
-two_are m a b n x y r e f g h =
-    all_two (λ (i : ℕ). number_holds m (times i (a ∷ b ∷ [])) i) a b x y r
-    (f ∙ ap (λ (i : ℕ). number_holds m i a) e) (g ∙ ap (λ (i : ℕ). number_holds m i b) (e ∙ times_same a b)) h
-
 pub one_fits : (m : List ℕ) (l : ℕ) → numbers_fit m (l ∷ []) ≡ true → (l < 2039) × (made (get_or m l 0) < 4096)
 one_fits m l e = let p = fits_each m (l ∷ []) e l (omega (arith, once l)) in (p.0, omega (arith, p.1, once l))
 
@@ -109,14 +77,3 @@ set_at (y ∷ m) (suc l) x = set_at m l x
 
 pub second_fits : (m : List ℕ) (l : ℕ) → made (get_or m l 0) + 2 ≤ 4096 → made (get_or (set m l (one_more (get_or m l 0))) l 0) < 4096
 second_fits m l h = omega (arith, set_at m l (one_more (get_or m l 0)))
-
--- ---- a jump alone
-
-pub jump_number : (k : JumpKind) (l r : ℕ) (s : State) (n f : ℕ) (known holds : Bool) → f ≡ jump_fault r → known ≡ number_holds s.labels 0 l → holds ≡ number_holds s.labels 1 l
-    → n ≡ ranked f s.asm.closed (known && sound (length s.buf) s.asm) false (holds && fits (length s.buf) s.asm 1 1) → n ≡ put_number (jump_fault r) (jump k l r ∷ []) s
-unfolding words targets labels twice
-jump_number k l r s n f known holds e g h q =
-    let m = s.labels in
-    let x = all_one (number_holds m 0) l known g in
-    let y = one_is m l holds h in
-    q ∙ rw (e, x, y)

@@ -98,10 +98,6 @@ fault_zero f b e = by (ltb (rank b) (rank (fault_number f))) refl e
     by false q e = e
     by true q e = absurd (omega (arith, ltb-true (rank b) (rank (fault_number f)) q, ap rank e, rank_small f))
 
--- the fault of a whole, by what was asked of it
-pub whole_fault : (x : Option Refusal) (ls : List ℕ) (f l n : ℕ) → f ≡ earlier (fault_number x) l → l ≡ sets_fault ls → f ≡ n → earlier (fault_number x) (sets_fault ls) ≡ n
-whole_fault x ls f l n e g h = rw (← g) (sym e ∙ h)
-
 -- where there is none, all labels are labels
 pub none_asked : (x : Option Refusal) (ls : List ℕ) → earlier (fault_number x) (sets_fault ls) ≡ 0 → all_labels ls ≡ true
 none_asked x ls e = by (all_labels ls) refl e

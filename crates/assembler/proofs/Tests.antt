@@ -1,37 +1,22 @@
 -- Tests and what they say. Assumes nothing.
 use mathlib.Core.Path.{◌≡◌, refl, sym}
-use mathlib.Core.Bool.{Bool, true, false, ◌||◌, cond, or-true}
+use mathlib.Core.Bool.{Bool, true, false, ◌||◌, or-true}
 use mathlib.Core.List.{List, [], ◌∷◌}
-use Prim.Native.Nat.{ℕ, zero, suc, ◌<◌, ◌≤◌}
+use Prim.Native.Nat.{ℕ, ◌≤◌}
 use native.Mathlib.Omega.{arith}
 use borrow.Author.Tests.{eqb-true, eqb-false}
-use lib.Dec.{ltb, eqb}
+use lib.Dec.{eqb}
 use lib.Ieee.{Float, nan, inf, fin, is_nan}
-use lib.ListN.{length, get_or}
+use lib.ListN.{get_or}
 use Rattle.refusal.specs.declared.Refusal.{Refusal}
 use Rattle.refusal.specs.Number.{number_of}
 use Rattle.assembler.specs.Label.{is_set}
 use Rattle.assembler.specs.Put.{twice}
 use Rattle.std.specs.List.{list_any}
 use Rattle.base.specs.Tests.{member}
-use Rattle.assembler.specs.Plan.{rank, earlier}
 
 pub no : {A : Type 0} → false ≡ true → A
 no e = let z : ◌≡◌ {A = ℕ} 0 1 = cc in absurd (omega arith)
-
--- what is given back past the end matters only there
-pub get_d_any : (l : List ℕ) (n d e : ℕ) → n < length l → get_or l n d ≡ get_or l n e
-get_d_any [] n d e h = absurd (omega arith)
-get_d_any (x ∷ l) zero d e h = refl
-get_d_any (x ∷ l) (suc n) d e h = get_d_any l n d e (omega arith)
-
--- of two faults of document 01's one is first
-pub earlier_small : (a b n : ℕ) → a ≤ n → b ≤ n → earlier a b ≤ n
-earlier_small a b n h k = by (ltb (rank b) (rank a))
-  where
-    by : (t : Bool) → cond t b a ≤ n
-    by true = k
-    by false = h
 
 -- every refusal has a number
 pub number_some : (r : Refusal) → 1 ≤ number_of r

@@ -1,17 +1,14 @@
 -- Words written into a buffer. Assumes nothing.
 use mathlib.Core.Path.{◌≡◌, refl, sym, ap, ◌∙◌}
-use mathlib.Core.Bool.{cond}
 use mathlib.Core.List.{List, [], ◌∷◌, ◌++◌, append_assoc, flat_map}
 use Prim.Native.Nat.{ℕ, suc, ◌+◌, ◌*◌, ◌<◌, ◌≤◌}
 use native.Mathlib.Nat.{add-zero}
 use native.Mathlib.Numerals.{add-one}
 use native.Mathlib.Omega.{arith}
-use borrow.Author.Tests.{le-leb, lt-leb}
-use lib.Dec.{leb}
 use lib.ListN.{length, set, take, drop, get_or}
 use borrow.Rule.Slice.PartMut.{put_mid}
 use lib.Seq.{drop-drop, sets, sets-eq, length-sets, take-suc, length-take-le}
-use Rattle.assembler.specs.Bytes.{le_bytes, bytes, written, room}
+use Rattle.assembler.specs.Bytes.{le_bytes, bytes, written}
 
 pub length_written : (b : List ℕ) (at : ℕ) (ws : List ℕ) → length (written b at ws) ≡ length b
 unfolding written
@@ -76,12 +73,3 @@ pub part_is : (b : List ℕ) (at k : ℕ) (xs : List ℕ) → k ≡ length xs �
 part_is b at k xs e h =
     rw (e, drop-drop (length xs) at b)
     (sym (sets-eq xs b at (omega arith) ∙ append_assoc (take at b) xs (drop (at + length xs) b)))
-
--- ---- by the test of the room
-
-module _ (b : List ℕ) (at : ℕ) (ws : List ℕ) (m : ℕ) where
-  pub kept : room (length b) < at + m → b ≡ cond (leb (at + m) (room (length b))) (written b at ws) b
-  kept h = rw (lt-leb (at + m) (room (length b)) h)
-
-  pub laid : (e : List ℕ) → at + m ≤ room (length b) → e ≡ written b at ws → e ≡ cond (leb (at + m) (room (length b))) (written b at ws) b
-  laid e h q = rw (le-leb (at + m) (room (length b)) h) q

@@ -11,7 +11,7 @@ ghost use Rattle.assembler.specs.Bytes.{written, fitted};
 ghost use Rattle.assembler.specs.Label.{is_set, with_place, made};
 ghost use Rattle.assembler.specs.State.{sound, fits, before, after};
 ghost use Rattle.assembler.specs.Inner.State.{Fits, with_words};
-ghost use Rattle.assembler.specs.Put.{targets, twice, times, number_holds, numbers_sound, numbers_fit, prechecked, with_jump, with_label, placed, put};
+ghost use Rattle.assembler.specs.Put.{targets, twice, times, number_holds, numbers_sound, numbers_fit, verdict, prechecked, with_jump, with_label, placed, put};
 ghost use Rattle.assembler.specs.Plan.{rank, earlier, fault_number, first_of, refusal_fault, label_fault, jump_fault};
 ghost use Rattle.assembler.specs.Plan.{tail_items, tail_fault, plan_items, plan_fault, no_words, faulty, pushed};
 ghost use Rattle.assembler.specs.Plan.{all_labels, sets_fault};
@@ -289,8 +289,7 @@ fn tail_fault(t: Tail) -> Option<Refusal>
 {
     match t {
         Tail::Nothing => None,
-        Tail::One(_, _, r) => jump_fault(r),
-        Tail::Pair(_, _, r) => jump_fault(r),
+        Tail::One(_, _, r) | Tail::Pair(_, _, r) => jump_fault(r),
     }
 }
 
@@ -386,7 +385,42 @@ impl Assembler<'_> {
         numbers_fit(self.labels, goes) && self.has_room(words, goes.len())
     }
 
-    // Whether a whole that sets these labels, has a jump to each of `goes`, and so many words, is refused. Nothing changes.
+    // What a whole that sets these labels, has a jump to each of `goes`, and so many words, is refused for.
+    #[tactic(auto, unfolding(crate::specs::Put::ranked), using(crate::proofs::Tests::number_some))]
+    fn refusal(
+        &self,
+        fault: Option<Refusal>,
+        sets: &[u32],
+        goes: &[u32],
+        words: usize,
+    ) -> Option<Refusal>
+        ensures { fault_number result ≡ verdict (earlier (fault_number fault) (sets_fault sets.now)) sets.now goes.now words (before self.now) }
+    {
+        if self.asm.closed {
+            return Some(Refusal::Closed);
+        }
+        let good = self.is_good(goes);
+        let first = first_fault(fault, sets_fault(sets));
+        if let Some(why) = first {
+            return if good || is_early(why) {
+                first
+            } else {
+                Some(Refusal::Value)
+            };
+        }
+        if !good {
+            return Some(Refusal::Value);
+        }
+        if taken(self.labels, sets) {
+            return Some(Refusal::Twice);
+        }
+        if self.is_roomy(goes, words) {
+            return None;
+        }
+        Some(Refusal::Full)
+    }
+
+    // Such a whole is refused, or it has room; nothing changes.
     pub fn check_whole(
         &self,
         fault: Option<Refusal>,
@@ -398,42 +432,10 @@ impl Assembler<'_> {
         ensures room { OnOk result (Fits (length self.now.buf.now) self.now.asm words (length goes.now) × (numbers_fit self.now.labels.now goes.now ≡ true)) }
         ensures labels { OnOk result (all_labels sets.now ≡ true) }
     {
-        if self.asm.closed {
-            return Err(Refused {
-                why: Refusal::Closed,
-                place: 0,
-            });
+        match self.refusal(fault, sets, goes, words) {
+            None => Ok(()),
+            Some(why) => Err(Refused { why, place: 0 }),
         }
-        let good = self.is_good(goes);
-        let first = first_fault(fault, sets_fault(sets));
-        if let Some(why) = first {
-            if good || is_early(why) {
-                return Err(Refused { why, place: 0 });
-            }
-            return Err(Refused {
-                why: Refusal::Value,
-                place: 0,
-            });
-        }
-        if !good {
-            return Err(Refused {
-                why: Refusal::Value,
-                place: 0,
-            });
-        }
-        if taken(self.labels, sets) {
-            return Err(Refused {
-                why: Refusal::Twice,
-                place: 0,
-            });
-        }
-        if !self.is_roomy(goes, words) {
-            return Err(Refused {
-                why: Refusal::Full,
-                place: 0,
-            });
-        }
-        Ok(())
     }
 
     // The same of a tail behind so many words.
@@ -474,8 +476,7 @@ impl Assembler<'_> {
     // A zero word, the jump's five numbers, and one jump more to its label.
     #[tactic(auto, unfolding(crate::specs::Put::with_jump))]
     fn reserve(&mut self, k: JumpKind, l: u32, r: u32, tag: u32)
-        requires { (self.old.asm.len + 4 ≤ length self.old.buf.now) × (self.old.asm.len ≤ room_limit) × (self.old.asm.jumps < jump_limit)
-            × (l < label_limit) × (made (get_or self.old.labels.now l 0) < jump_limit) }
+        requires { Fits (length self.old.buf.now) self.old.asm 1 1 × (l < label_limit) × (made (get_or self.old.labels.now l 0) < jump_limit) }
         ensures { before self.new ≡ with_jump (kind_number k) l r tag (before self.old) }
     {
         note(
