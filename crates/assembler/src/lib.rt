@@ -688,7 +688,7 @@ pub fn push(p: Plan, e: Encoded) -> Plan
     ensures { result ≡ pushed p e }
 {
     match e {
-        Encoded::Word(x) => {
+        Ok(x) => {
             let n = p.n;
             if n < 12 {
                 let mut next = p;
@@ -698,7 +698,7 @@ pub fn push(p: Plan, e: Encoded) -> Plan
             }
             with_fault(p, Fault::Value)
         }
-        Encoded::Refused(r, _) => with_fault(p, fault_for(r)),
+        Err(e) => with_fault(p, fault_for(e.why)),
     }
 }
 

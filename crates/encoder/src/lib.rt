@@ -349,9 +349,9 @@ pub fn split(z: i32) -> Sign
     ensures { result ≡ sign_of z }
 {
     if z >= 0 {
-        Sign::NonNeg(z as u32)
+        Sign::NonNeg(z.unsigned_abs())
     } else {
-        Sign::Neg((-1 - z) as u32)
+        Sign::Neg(z.unsigned_abs() - 1)
     }
 }
 
@@ -396,7 +396,7 @@ fn unsigned_field(imm: i32, limit: u32) -> Encoded
 pub fn hi(x: u32) -> i32
     ensures { result ≡ pos (hi_part x) }
 {
-    ((x / 2048 + 1) / 2 % 1048576) as i32
+    ((x / 2048 + 1) / 2 % 1048576).cast_signed()
 }
 
 pub fn lo(x: u32) -> i32
@@ -404,11 +404,10 @@ pub fn lo(x: u32) -> i32
 {
     let l = x % 4096;
     if l < 2048 {
-        return l as i32;
+        l.cast_signed()
+    } else {
+        l.cast_signed() - 4096
     }
-    let m = 4095 - l;
-    let s = m as i32;
-    -1 - s
 }
 
 // ---- formats
