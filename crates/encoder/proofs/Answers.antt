@@ -18,7 +18,9 @@ use Rattle.base.proofs.Bools.{both, T_true, true_T}
 use Rattle.isa.proofs.Laws.{encode_small}
 use Rattle.isa.proofs.Words.{encode_R, encode_F, encode_C, encode_M, encode_R4, encode_I, encode_Shift, encode_S, encode_B, encode_U, encode_J}
 use Rattle.refusal.specs.Answer.{Answer, accepted, refused}
-use Rattle.encoder.specs.Answer.{encoded, AcceptedValid}
+use Rattle.std.specs.Prelude.{Ok, Err}
+use Rattle.std.specs.Result.{is_ok, result_unwrap_or}
+use Rattle.encoder.specs.Answer.{Encoded, word_answer, encoded, AcceptedValid}
 use Rattle.encoder.specs.Inner.Field.{packed, register_answer}
 use Rattle.encoder.specs.Table.{rows, row_of}
 use Rattle.encoder.proofs.Fields.{Unfit}
@@ -116,22 +118,21 @@ valid_accepted i h = sym (good i (Valid_valid i h) (encode i) refl (Valid_regist
 pub accepted_is_valid : AcceptedValid
 accepted_is_valid i = (λ w e. let q = accepted_valid i w e in (true_T (valid i) (Valid_valid i q.0), q.1), λ h. valid_accepted i (valid_Valid i (T_true (valid i) h)))
 
--- the same of an answer that is told
+-- the same of an answer itself
 module _ (i : Instr) where
-  pub taken_valid : (w : ℕ) → accepted w ≡ encoded i → true ≡ valid i
-  taken_valid w e = sym (Valid_valid i (accepted_valid i w (sym e)).0)
-
-  pub taken_word : (w : ℕ) → accepted w ≡ encoded i → w ≡ encode i
-  taken_word w e = (accepted_valid i w (sym e)).1
-
-  pub refused_invalid : (n p : ℕ) → refused n p ≡ encoded i → false ≡ valid i
-  refused_invalid n p e = by (valid i) refl
+  pub ok_valid : (e : Encoded) → word_answer e ≡ encoded i → is_ok e ≡ valid i
+  ok_valid (Ok w) h = sym (Valid_valid i (accepted_valid i w (sym h)).0)
+  ok_valid (Err r) h = by (valid i) refl
     where
       by : (t : Bool) → valid i ≡ t → false ≡ t
       by false q = refl
       by true q =
           let f = valid_accepted i (valid_Valid i q) in
           let z : ◌≡◌ {A = ℕ} 0 1 = cc in absurd (omega arith)
+
+  pub ok_word : (e : Encoded) → word_answer e ≡ encoded i → valid i ≡ true → result_unwrap_or e 0 ≡ encode i
+  ok_word (Ok w) h v = (accepted_valid i w (sym h)).1
+  ok_word (Err r) h v = let z : false ≡ true = ok_valid (Err r) h ∙ v in cc
 
 -- ---- the row of an operation, by its place in the table
 
