@@ -21,12 +21,12 @@ use Rattle.refusal.specs.Answer.{accepted, refused}
 use Rattle.refusal.specs.Number.{number_of}
 use Rattle.refusal.specs.declared.Refusal.{Refusal}
 use Rattle.refusal.specs.declared.Refusal.TheVariants.{Register, Value, Label, Twice, Unset, Far, Full, Closed, Count, Base, Unsaved, Line}
-use Rattle.encoder.specs.Answer.{word_answer, encoded}
+use Rattle.encoder.specs.Answer.{Encoded, word_answer, encoded}
 use Rattle.encoder.proofs.Answers.{bad_register, bad_value, good}
 use Rattle.encoder.specs.Sign.{sign_of}
 use Rattle.encoder.specs.declared.Sign.TheVariants.{NonNeg, Neg}
-use Rattle.encoder.specs.declared.Encoded.{Encoded}
-use Rattle.encoder.specs.declared.Encoded.TheVariants.{Word, Refused}
+use Rattle.std.specs.Prelude.{Ok, Err}
+use Rattle.refusal.specs.declared.Refused.{Refused}
 use Rattle.machine.proofs.Placed.{Valids}
 use Rattle.isa.proofs.Validity.{Valid, Valid_valid, Valid_registers}
 use Rattle.assembler.specs.Plan.{no_words, pushed, plan_words}
@@ -50,33 +50,36 @@ refusal_is Base k e h = absurd (omega arith)
 refusal_is Unsaved k e h = absurd (omega arith)
 refusal_is Line k e h = absurd (omega arith)
 
+refused_is : (e : Refused) {r : Refusal} {p : ℕ} → e.why ≡ r → e.place ≡ p → e ≡ record { why = r; place = p }
+refused_is e s q = ap₂ (λ (r : Refusal) (p : ℕ). record { why = r; place = p }) s q
+
 -- the encoder's promise gives its answer
 by_told : (e : Encoded) (w : ℕ) (b c : Bool) → word_answer e ≡ cond b (cond c (accepted w) (refused 2 0)) (refused 1 0)
-    → e ≡ cond b (cond c (Word w) (Refused Value 0)) (Refused Register 0)
-by_told (Word x) w true true t = let z : x ≡ w = cc in ap Word z
-by_told (Word x) w true false t = let z : ◌≡◌ {A = ℕ} 0 1 = cc in absurd (omega arith)
-by_told (Word x) w false c t = let z : ◌≡◌ {A = ℕ} 0 1 = cc in absurd (omega arith)
-by_told (Refused r p) w true true t = let z : ◌≡◌ {A = ℕ} 0 1 = cc in absurd (omega arith)
-by_told (Refused r p) w true false t =
-    let z : number_of r ≡ 2 = cc in
-    let q : p ≡ 0 = cc in
-    let s : r ≡ Value = refusal_is r 2 z (omega arith) in
-    rw (s, q)
-by_told (Refused r p) w false c t =
-    let z : number_of r ≡ 1 = cc in
-    let q : p ≡ 0 = cc in
-    let s : r ≡ Register = refusal_is r 1 z (omega arith) in
-    rw (s, q)
+    → e ≡ cond b (cond c (Ok w) (Err (record { why = Value; place = 0 }))) (Err (record { why = Register; place = 0 }))
+by_told (Ok x) w true true t = let z : x ≡ w = cc in ap Ok z
+by_told (Ok x) w true false t = let z : ◌≡◌ {A = ℕ} 0 1 = cc in absurd (omega arith)
+by_told (Ok x) w false c t = let z : ◌≡◌ {A = ℕ} 0 1 = cc in absurd (omega arith)
+by_told (Err e) w true true t = let z : ◌≡◌ {A = ℕ} 0 1 = cc in absurd (omega arith)
+by_told (Err e) w true false t =
+    let z : number_of e.why ≡ 2 = cc in
+    let q : e.place ≡ 0 = cc in
+    let s : e.why ≡ Value = refusal_is e.why 2 z (omega arith) in
+    ap Err (refused_is e s q)
+by_told (Err e) w false c t =
+    let z : number_of e.why ≡ 1 = cc in
+    let q : e.place ≡ 0 = cc in
+    let s : e.why ≡ Register = refusal_is e.why 1 z (omega arith) in
+    ap Err (refused_is e s q)
 
 pub answered : (e : Encoded) (i : Instr) → word_answer e ≡ encoded i → e ≡ answer_of i
 answered e i t = by (registers_hold (operands i)) (valid i) refl refl
   where
-    by : (b c : Bool) → registers_hold (operands i) ≡ b → valid i ≡ c → e ≡ cond b (cond c (Word (encode i)) (Refused Value 0)) (Refused Register 0)
+    by : (b c : Bool) → registers_hold (operands i) ≡ b → valid i ≡ c → e ≡ cond b (cond c (Ok (encode i)) (Err (record { why = Value; place = 0 }))) (Err (record { why = Register; place = 0 }))
     by true true p q = by_told e (encode i) true true (t ∙ sym (good i q (encode i) refl p))
     by true false p q = by_told e (encode i) true false (t ∙ sym (bad_value i p q))
     by false c p q = by_told e (encode i) false c (t ∙ sym (bad_register i p))
 
-pub word : (i : Instr) → Valid i → answer_of i ≡ Word (encode i)
+pub word : (i : Instr) → Valid i → answer_of i ≡ Ok (encode i)
 word i v = rw (Valid_registers i v, Valid_valid i v)
 
 -- a plan that holds the words ws, the first of its twelve
@@ -86,7 +89,7 @@ record Holding (p : Plan) (ws : List ℕ) : Type 0 where
   size : length p.w ≡ 12
   words : take (length ws) p.w ≡ ws
 
-one_more : (p : Plan) (ws : List ℕ) (e : Encoded) (w : ℕ) → e ≡ Word w → length ws < 12 → Holding p ws → Holding (pushed p e) (ws ++ (w ∷ []))
+one_more : (p : Plan) (ws : List ℕ) (e : Encoded) (w : ℕ) → e ≡ Ok w → length ws < 12 → Holding p ws → Holding (pushed p e) (ws ++ (w ∷ []))
 unfolding pushed
 one_more p ws e w q l h =
     let t : ltb p.n 12 ≡ true = lt-ltb p.n 12 (omega (arith, h.n)) in

@@ -12,4 +12,3 @@ pub mod Numbers
 pub mod Planned
 pub mod Placed
 pub mod Lengths
-pub mod Words

@@ -7,8 +7,7 @@ use lib.Signed.{mag}
 use mir.Syntax.{w32}
 use mir.Val.{SFits, to_z, of_z}
 use Rattle.isa.specs.Instr.{Instr}
-use Rattle.encoder.specs.Answer.{word_answer, encoded}
-use Rattle.encoder.specs.declared.Encoded.{Encoded}
+use Rattle.encoder.specs.Answer.{Encoded, word_answer, encoded}
 use Rattle.encoder.proofs.ReadBack.{sfits}
 pub use Rattle.encoder.proofs.ReadBack.{back, back_hi, back_lo, back_small}
 use Rattle.accesses.specs.Plans.{answer_of}

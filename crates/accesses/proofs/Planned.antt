@@ -8,8 +8,7 @@ use lib.IntN.{ℤ, pos, neg_ℤ}
 use mir.Syntax.{w32}
 use mir.Val.{to_z}
 use Rattle.isa.specs.Instr.{Instr, R, I, ADD, SUB, ADDI}
-use Rattle.encoder.specs.Answer.{word_answer, encoded}
-use Rattle.encoder.specs.declared.Encoded.{Encoded}
+use Rattle.encoder.specs.Answer.{Encoded, word_answer, encoded}
 use Rattle.assembler.specs.Plan.{pushed}
 use Rattle.assembler.specs.declared.Plan.{Plan}
 use Rattle.accesses.specs.Code.{near, near_pair, li_code, point_code, access_code, allocate_stack_code}

@@ -1,10 +1,9 @@
 -- How words are collected into a plan: what the encoder answers for each instruction, one after the other.
-use Rattle.std.specs.Prelude.{cond, List, [], ◌∷◌, map, ℕ, ℤ}
+use Rattle.std.specs.Prelude.{cond, List, [], ◌∷◌, map, ℕ, ℤ, Ok, Err}
 use Rattle.isa.specs.Instr.{Instr, I, S, LD, FLD, FSD, operands, registers_hold, valid}
 use Rattle.isa.specs.Encode.{encode}
 use Rattle.refusal.specs.declared.Refusal.TheVariants.{Register, Value}
-use Rattle.encoder.specs.declared.Encoded.{Encoded}
-use Rattle.encoder.specs.declared.Encoded.TheVariants.{Word, Refused}
+use Rattle.encoder.specs.Answer.{Encoded}
 use Rattle.assembler.specs.Plan.{no_words, pushed}
 use Rattle.assembler.specs.declared.Plan.{Plan}
 use Rattle.accesses.specs.declared.Cell.{Cell}
@@ -12,11 +11,11 @@ use Rattle.accesses.specs.declared.Cell.TheVariants.{LoadFloat, SaveFloat, LoadI
 
 -- the encoder's answer for an instruction
 abbrev pub answer_of : Instr → Encoded
-answer_of i = cond (registers_hold (operands i)) (cond (valid i) (Word (encode i)) (Refused Value 0)) (Refused Register 0)
+answer_of i = cond (registers_hold (operands i)) (cond (valid i) (Ok (encode i)) (Err (record { why = Value; place = 0 }))) (Err (record { why = Register; place = 0 }))
 
 abbrev pub word_of : Encoded → ℕ
-word_of (Word w) = w
-word_of (Refused r place) = 0
+word_of (Ok w) = w
+word_of (Err e) = 0
 
 abbrev pub pushes_from : Plan → List Encoded → Plan
 pushes_from p [] = p

@@ -13,7 +13,7 @@ ghost use Rattle.accesses.specs.Code.{low_op, li_code, point_code, load_float_co
 ghost use Rattle.accesses.specs.Code.{load_complex_code, save_complex_code, sub_stack_code, add_stack_code, allocate_stack_code};
 ghost use Rattle.accesses.specs.Fault.{offset_limit, li_fault, access_fault, one_fault, pair_fault, stack_fault};
 ghost use Rattle.accesses.specs.Plans.{answer_of, word_of, pushes, plan_of, access_instr};
-ghost use Rattle.accesses.specs.Inner.Plans.{is_word, settled_plan, one_code, pair_code};
+ghost use Rattle.accesses.specs.Inner.Plans.{settled_plan, one_code, pair_code};
 
 use assembler::{Asm, EmitResult, Fault, Jumps, Labels, Plan, Tail};
 use encoder::{Encoded, S5, SP, Sign, T0, ZERO};
@@ -29,23 +29,11 @@ const LAST_PAIR: u32 = 30;
 
 // ---- plans of one to five words
 
-fn is_word(e: Encoded) -> bool
-    ensures { result ≡ is_word e }
-{
-    match e {
-        Encoded::Word(_) => true,
-        Encoded::Refused(_, _) => false,
-    }
-}
-
 // The word, 0 where there is none.
 pub fn word(e: Encoded) -> u32
     ensures { result ≡ word_of e }
 {
-    match e {
-        Encoded::Word(w) => w,
-        Encoded::Refused(_, _) => 0,
-    }
+    e.unwrap_or(0)
 }
 
 pub fn one(a: Encoded) -> Plan
@@ -54,54 +42,44 @@ pub fn one(a: Encoded) -> Plan
     assembler::push(assembler::no_plan(), a)
 }
 
+#[tactic(auto, unfolding(assembler::specs::Plan::pushed))]
 pub fn two(a: Encoded, b: Encoded) -> Plan
     ensures { result ≡ pushes (a ∷ b ∷ []) }
 {
-    if is_word(a) && is_word(b) {
+    if let (Ok(x), Ok(y)) = (a, b) {
         return Plan {
             n: 2,
             fault: Fault::Nothing,
-            w: [word(a), word(b), 0, 0, 0, 0, 0, 0, 0, 0, 0, 0],
+            w: [x, y, 0, 0, 0, 0, 0, 0, 0, 0, 0, 0],
         };
     }
     assembler::push(one(a), b)
 }
 
+#[tactic(auto, unfolding(assembler::specs::Plan::pushed))]
 pub fn four(a: Encoded, b: Encoded, c: Encoded, d: Encoded) -> Plan
     ensures { result ≡ pushes (a ∷ b ∷ c ∷ d ∷ []) }
 {
-    if is_word(a) && is_word(b) && is_word(c) && is_word(d) {
+    if let (Ok(x), Ok(y), Ok(z), Ok(u)) = (a, b, c, d) {
         return Plan {
             n: 4,
             fault: Fault::Nothing,
-            w: [word(a), word(b), word(c), word(d), 0, 0, 0, 0, 0, 0, 0, 0],
+            w: [x, y, z, u, 0, 0, 0, 0, 0, 0, 0, 0],
         };
     }
     let p = assembler::push(two(a, b), c);
     assembler::push(p, d)
 }
 
+#[tactic(auto, unfolding(assembler::specs::Plan::pushed))]
 pub fn five(a: Encoded, b: Encoded, c: Encoded, d: Encoded, e: Encoded) -> Plan
     ensures { result ≡ pushes (a ∷ b ∷ c ∷ d ∷ e ∷ []) }
 {
-    if is_word(a) && is_word(b) && is_word(c) && is_word(d) && is_word(e) {
+    if let (Ok(x), Ok(y), Ok(z), Ok(u), Ok(v)) = (a, b, c, d, e) {
         return Plan {
             n: 5,
             fault: Fault::Nothing,
-            w: [
-                word(a),
-                word(b),
-                word(c),
-                word(d),
-                word(e),
-                0,
-                0,
-                0,
-                0,
-                0,
-                0,
-                0,
-            ],
+            w: [x, y, z, u, v, 0, 0, 0, 0, 0, 0, 0],
         };
     }
     assembler::push(four(a, b, c, d), e)

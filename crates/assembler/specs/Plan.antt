@@ -1,10 +1,9 @@
 -- An order as its words and the jumps behind them, and the refusal of an operand, if one is refused.
-use Rattle.std.specs.Prelude.{Bool, true, ◌&&◌, cond, List, [], ◌∷◌, ◌++◌, map, ℕ, ◌+◌, min, ltb, get_or, take, set, replicate, Option, Some, None}
+use Rattle.std.specs.Prelude.{Bool, true, ◌&&◌, cond, List, [], ◌∷◌, ◌++◌, map, ℕ, ◌+◌, min, ltb, get_or, take, set, replicate, Option, Some, None, Result, Ok, Err}
 use Rattle.refusal.specs.Number.{number_of}
 use Rattle.refusal.specs.declared.Refusal.{Refusal}
 use Rattle.refusal.specs.declared.Refusal.TheVariants.{Register, Value, Label, Twice, Unset, Far, Full, Closed, Count, Base, Unsaved, Line}
-use Rattle.encoder.specs.declared.Encoded.{Encoded}
-use Rattle.encoder.specs.declared.Encoded.TheVariants.{Word, Refused}
+use Rattle.refusal.specs.declared.Refused.{Refused}
 use Rattle.assembler.specs.Limit.{label_limit}
 use Rattle.assembler.specs.Item.{Item, raw, jump}
 use Rattle.assembler.specs.declared.JumpKind.TheVariants.{Auipc}
@@ -86,10 +85,10 @@ abbrev pub faulty : Plan → Option Refusal → Plan
 faulty p f = record { n = p.n; fault = first_of p.fault f; w = p.w }
 
 -- One instruction more; a 13th word is a fault.
-unfoldable pub pushed : Plan → Encoded → Plan
-pushed p (Word x) =
+unfoldable pub pushed : Plan → Result ℕ Refused → Plan
+pushed p (Ok x) =
     cond (ltb p.n 12) (record { n = p.n + 1; fault = p.fault; w = set p.w p.n x }) (faulty p (Some Value))
-pushed p (Refused r place) = faulty p (refusal_fault r)
+pushed p (Err e) = faulty p (refusal_fault e.why)
 
 -- ---- labels that a whole would set
 

@@ -341,7 +341,7 @@ impl Plan {
         ensures { result ≡ pushed self e }
     {
         match e {
-            Encoded::Word(x) => {
+            Ok(x) => {
                 if self.n < 12 {
                     let mut next = self;
                     next.w[self.n] = x;
@@ -350,7 +350,7 @@ impl Plan {
                 }
                 self.with_fault(Some(Refusal::Value))
             }
-            Encoded::Refused(r, _) => self.with_fault(fault_for(r)),
+            Err(e) => self.with_fault(fault_for(e.why)),
         }
     }
 }

@@ -88,14 +88,17 @@ decode_found w i e =
     let p : cut w ≡ fields i = ap cut (sym q.1) ∙ cut_join (fields i) (fit i q.0) in
     ap candidate p ∙ found i q.0
 
--- ---- what the decoder answers, by the encoder's answer to the candidate
+-- ---- what the decoder answers, by the encoder's answer to the candidate i
 
-module _ (w : ℕ) (i : Instr) (is : i ≡ candidate (cut w)) where
-  pub same_word : accepted w ≡ encoded i → some i ≡ decode w
-  same_word e = let q = accepted_valid i w (sym e) in sym (ap decode q.1 ∙ decode_encode i q.0)
+module _ (w n : ℕ) (i : Instr) (chosen : i ≡ candidate_of n (cut w)) (by_table : n ≡ operation_of (cut w)) where
+  is : i ≡ candidate (cut w)
+  is = chosen ∙ ap (λ (k : ℕ). candidate_of k (cut w)) by_table
+
+  pub same_word : (v : ℕ) → accepted v ≡ encoded i → v ≡ w → some i ≡ decode w
+  same_word v e same = let q = accepted_valid i v (sym e) in rw (← same) (sym (ap decode q.1 ∙ decode_encode i q.0))
 
   -- what decodes would be the candidate, and the encoder would give its word
-  pub no_word : (accepted w ≡ encoded i → ⊥) → none ≡ decode w
+  no_word : (accepted w ≡ encoded i → ⊥) → none ≡ decode w
   no_word n = by (decode w) refl
     where
       by : (o : Option Instr) → decode w ≡ o → none ≡ o
@@ -105,11 +108,11 @@ module _ (w : ℕ) (i : Instr) (is : i ≡ candidate (cut w)) where
           let p : i ≡ j = is ∙ decode_found w j e in
           absurd (n (rw p (ap accepted (sym q.1) ∙ sym (valid_accepted j q.0))))
 
-pub another : (w v : ℕ) (i : Instr) → accepted v ≡ encoded i → (v ≡ w → ⊥) → accepted w ≡ encoded i → ⊥
-another w v i e n f = let p : v ≡ w = cc in n p
+  pub another_word : (v : ℕ) → accepted v ≡ encoded i → (v ≡ w → ⊥) → none ≡ decode w
+  another_word v e other = no_word (λ f. let p : v ≡ w = cc in other p)
 
-pub none_at_all : (w n place : ℕ) (i : Instr) → refused n place ≡ encoded i → accepted w ≡ encoded i → ⊥
-none_at_all w n place i e f = let z : ◌≡◌ {A = ℕ} 0 1 = cc in absurd (omega arith)
+  pub no_word_at_all : (k p : ℕ) → refused k p ≡ encoded i → none ≡ decode w
+  no_word_at_all k p e = no_word (λ f. let z : ◌≡◌ {A = ℕ} 0 1 = cc in absurd (omega arith))
 
 -- ---- document 02's laws
 

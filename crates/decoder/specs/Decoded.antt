@@ -1,16 +1,14 @@
 -- The instruction that the decoder answers, or none.
-use Rattle.std.proofs.Math.Option.{Option, some, none}
+use Rattle.std.proofs.Math.Option as Math
 use Rattle.isa.specs.Instr.{Instr}
-use Rattle.std.specs.Prelude.{◌<◌}
+use Rattle.std.specs.Prelude.{◌<◌, Option, Some, None}
 use Rattle.encoder.specs.Instr.{instr_of}
 use Rattle.encoder.specs.declared.Instr as Declared
 use Rattle.encoder.specs.declared.Instr.TheVariants as Code
-use Rattle.decoder.specs.declared.Decoded.{Decoded}
-use Rattle.decoder.specs.declared.Decoded.TheVariants.{Is, Foreign}
 
-abbrev pub instr_answer : Decoded → Option Instr
-instr_answer (Is i) = some (instr_of i)
-instr_answer Foreign = none
+abbrev pub instr_answer : Option Declared.Instr → Math.Option Instr
+instr_answer (Some i) = Math.some (instr_of i)
+instr_answer None = Math.none
 
 -- the operation's number is one of its shape's
 abbrev pub Proper : Declared.Instr → Type 0
@@ -27,6 +25,6 @@ Proper (Code.U k d z) = k < 2
 Proper (Code.J d z) = Unit {0}
 
 -- so that the answer is fixed
-abbrev pub ProperAnswer : Decoded → Type 0
-ProperAnswer (Is i) = Proper i
-ProperAnswer Foreign = Unit {0}
+abbrev pub ProperAnswer : Option Declared.Instr → Type 0
+ProperAnswer (Some i) = Proper i
+ProperAnswer None = Unit {0}

@@ -8,14 +8,7 @@ ghost use Rattle.encoder.specs.Instr.{instr_of};
 ghost use Rattle.decoder.specs.Decoded.{instr_answer, Proper, ProperAnswer};
 ghost use Rattle.decoder.specs.Inner.Operation.{place_of, operation_of, candidate_of};
 
-use encoder::{Encoded, Instr};
-
-// What a word is.
-#[derive(Clone, Copy)]
-pub enum Decoded {
-    Is(Instr),
-    Foreign,
-}
+use encoder::Instr;
 
 // The opcodes that have more than one operation.
 const OP: u32 = 0b0110011;
@@ -84,28 +77,24 @@ fn place(opcode: u32, funct3: u32, funct7: u32) -> usize
     requires { (opcode < 128) × (funct3 < 8) × (funct7 < 128) }
     ensures { (result ≡ place_of opcode funct3 funct7) × (result < 88) }
 {
-    if opcode == OP {
-        return 32 + funct3 as usize;
-    }
-    if opcode == OP_IMM {
-        return 40 + funct3 as usize;
-    }
-    if opcode == BRANCH {
-        return 48 + funct3 as usize;
-    }
-    if opcode == OP_FP {
-        return 56 + (funct7 / 4) as usize;
-    }
-    (opcode / 4) as usize
+    let at = match opcode {
+        OP => 32 + funct3,
+        OP_IMM => 40 + funct3,
+        BRANCH => 48 + funct3,
+        OP_FP => 56 + funct7 / 4,
+        _ => opcode / 4,
+    };
+    at as usize
 }
 
 // The operation that a word's fixed fields tell: 16 times its shape, and its number there.
+#[tactic(auto, unfolding(isa::specs::Decode::cut))]
 fn operation(word: u32) -> u32
     ensures { result ≡ operation_of (cut word) }
 {
     let funct3 = word / 4096 % 8;
     let funct7 = word / 33554432;
-    let entry = OPERATIONS[place(word % 128, funct3, funct7)] as u32;
+    let entry = u32::from(OPERATIONS[place(word % 128, funct3, funct7)]);
     let more = [0, funct3, funct7 / 32 % 2, word / 1048576 % 32 / 2];
     entry % 256 + more[(entry / 256 % 4) as usize]
 }
@@ -116,33 +105,36 @@ fn signed(n: u32, half: u32) -> i32
     ensures { result ≡ cond (ltb n half) (pos n) (negsuc (half + half - 1 - n)) }
 {
     if n < half {
-        return n as i32;
+        n.cast_signed()
+    } else {
+        n.cast_signed() - (half + half).cast_signed()
     }
-    let m = half + half - 1 - n;
-    let s = m as i32;
-    -1 - s
+}
+
+// An offset's bits 1 to 11, which branches and jumps have in the same two fields.
+fn low_bits(field: u32, funct7: u32) -> u32
+    requires { (field < 32) × (funct7 < 128) }
+    ensures { (result ≡ field % 2 * 2048 + funct7 % 64 * 32 + field / 2 * 2) × (result < 4096) }
+{
+    field % 2 * 2048 + funct7 % 64 * 32 + field / 2 * 2
 }
 
 fn b_imm(rd: u32, funct7: u32) -> u32
     requires { (rd < 32) × (funct7 < 128) }
     ensures { (result ≡ funct7 / 64 * 4096 + rd % 2 * 2048 + funct7 % 64 * 32 + rd / 2 * 2) × (result < 8192) }
 {
-    funct7 / 64 * 4096 + rd % 2 * 2048 + funct7 % 64 * 32 + rd / 2 * 2
+    funct7 / 64 * 4096 + low_bits(rd, funct7)
 }
 
 fn j_imm(funct3: u32, rs1: u32, rs2: u32, funct7: u32) -> u32
     requires { (funct3 < 8) × (rs1 < 32) × (rs2 < 32) × (funct7 < 128) }
     ensures { (result ≡ funct7 / 64 * 1048576 + rs1 * 32768 + funct3 * 4096 + rs2 % 2 * 2048 + funct7 % 64 * 32 + rs2 / 2 * 2) × (result < 2097152) }
 {
-    funct7 / 64 * 1048576
-        + rs1 * 32768
-        + funct3 * 4096
-        + rs2 % 2 * 2048
-        + funct7 % 64 * 32
-        + rs2 / 2 * 2
+    funct7 / 64 * 1048576 + rs1 * 32768 + funct3 * 4096 + low_bits(rs2, funct7)
 }
 
 // That operation with the operands that the word's other fields hold.
+#[tactic(auto, unfolding(isa::specs::Decode::cut))]
 fn candidate(operation: u32, word: u32) -> Instr
     ensures { (instr_of result ≡ candidate_of operation (cut word)) × Proper result }
 {
@@ -159,31 +151,25 @@ fn candidate(operation: u32, word: u32) -> Instr
         3 => Instr::M(op % 2, rd, rs1),
         4 => Instr::R4(op % 4, rd, rs1, rs2, funct7 / 4, funct3),
         5 => Instr::I(op % 8, rd, rs1, signed(funct7 * 32 + rs2, 2048)),
-        6 => Instr::Shift(op % 3, rd, rs1, (funct7 % 2 * 32 + rs2) as i32),
+        6 => Instr::Shift(op % 3, rd, rs1, (funct7 % 2 * 32 + rs2).cast_signed()),
         7 => Instr::S(op % 2, rs1, rs2, signed(funct7 * 32 + rd, 2048)),
         8 => Instr::B(op % 6, rs1, rs2, signed(b_imm(rd, funct7), 4096)),
         9 => Instr::U(
             op % 2,
             rd,
-            (funct7 * 8192 + rs2 * 256 + rs1 * 8 + funct3) as i32,
+            (funct7 * 8192 + rs2 * 256 + rs1 * 8 + funct3).cast_signed(),
         ),
         _ => Instr::J(rd, signed(j_imm(funct3, rs1, rs2, funct7), 1048576)),
     }
 }
 
-// The instruction whose word this is.
-pub fn decode(word: u32) -> Decoded
+// The instruction whose word this is, if any.
+pub fn decode(word: u32) -> Option<Instr>
     ensures { (instr_answer result ≡ decode word) × ProperAnswer result }
 {
     let i = candidate(operation(word), word);
-    let again = encoder::encode(i);
-    match again {
-        Encoded::Word(w) => {
-            if w == word {
-                return Decoded::Is(i);
-            }
-            Decoded::Foreign
-        }
-        Encoded::Refused(_, _) => Decoded::Foreign,
+    match encoder::encode(i) {
+        Ok(w) if w == word => Some(i),
+        _ => None,
     }
 }

@@ -1,10 +1,9 @@
 -- What each outcome of the checks answers, and the words of each format. Assumes nothing.
-use mathlib.Core.Path.{◌≡◌, refl, sym, ap, ◌∙◌}
-use mathlib.Core.Bool.{Bool, true, false, ◌&&◌, cond, and-false}
+use mathlib.Core.Path.{◌≡◌, refl, sym, ap, ap₂, ◌∙◌}
+use mathlib.Core.Bool.{Bool, true, false, cond, and-false}
 use mathlib.Core.List.{List, [], ◌∷◌, ◌++◌, map}
 use Prim.Native.Nat.{ℕ, zero, suc, ◌+◌, ◌*◌, ◌/◌, ◌%◌, ◌<◌}
 use native.Mathlib.Omega.{arith}
-use borrow.Author.Tests.{ltb-true}
 use lib.Dec.{ltb}
 use lib.IntN.{ℤ, pos}
 use lib.ListN.{length, get_or, take, drop}
@@ -18,13 +17,13 @@ use Rattle.isa.proofs.Validity.{Valid, valid_Valid, Valid_valid, Valid_registers
 use Rattle.base.proofs.Bools.{both, T_true, true_T}
 use Rattle.isa.proofs.Laws.{encode_small}
 use Rattle.isa.proofs.Words.{encode_R, encode_F, encode_C, encode_M, encode_R4, encode_I, encode_Shift, encode_S, encode_B, encode_U, encode_J}
-use Rattle.refusal.specs.Answer.{accepted, refused}
-use Rattle.encoder.specs.Answer.{encoded, AcceptedValid}
-use Rattle.encoder.specs.Inner.Field.{packed}
+use Rattle.refusal.specs.Answer.{Answer, accepted, refused}
+use Rattle.std.specs.Prelude.{Ok, Err}
+use Rattle.std.specs.Result.{is_ok, result_unwrap_or}
+use Rattle.encoder.specs.Answer.{Encoded, word_answer, encoded, AcceptedValid}
+use Rattle.encoder.specs.Inner.Field.{packed, register_answer}
 use Rattle.encoder.specs.Table.{rows, row_of}
-use Rattle.encoder.specs.declared.Field.{Field}
-use Rattle.encoder.specs.declared.Field.TheVariants.{Bits, Outside}
-use Rattle.encoder.proofs.Fields.{Means}
+use Rattle.encoder.proofs.Fields.{Unfit}
 
 -- ---- answers
 
@@ -45,7 +44,31 @@ module _ (i : Instr) where
     unfolding encoded
     good r = rw (r, v, e)
 
--- the last operand, a value, decides once the registers before it have passed
+-- what was demanded: it held, or it did not and its refusal is told
+pub held : (b : Bool) (k : ℕ) {u : Unit {0}} → accepted u ≡ cond b (accepted tt) (refused k 0) → b ≡ true
+held true k e = refl
+held false k e = let z : ◌≡◌ {A = ℕ} 0 1 = cc in absurd (omega arith)
+
+pub unheld : (b : Bool) (m : ℕ) {k p : ℕ} → ◌≡◌ {A = Answer (Unit {0})} (refused k p) (cond b (accepted tt) (refused m 0)) → (b ≡ false) × ◌≡◌ {A = Answer ℕ} (refused k p) (refused m 0)
+unheld true m e = let z : ◌≡◌ {A = ℕ} 0 1 = cc in absurd (omega arith)
+unheld false m {k} {p} e = let x : k ≡ m = cc in let y : p ≡ 0 = cc in (refl, ap₂ refused x y)
+
+module _ (i : Instr) where
+  pub refused_register : {k p : ℕ} → refused k p ≡ register_answer (operands i) → refused k p ≡ encoded i
+  refused_register e = let u = unheld (registers_hold (operands i)) 1 e in u.1 ∙ bad_register i u.0
+
+  -- of registers alone
+  module _ (e : accepted tt ≡ register_answer (operands i)) (only : valid i ≡ registers_hold (operands i)) (w : ℕ) (q : w ≡ encode i) where
+    all_hold : registers_hold (operands i) ≡ true
+    all_hold = held (registers_hold (operands i)) 1 e
+
+    pub small_registers : w < 4294967296
+    small_registers = small i (only ∙ all_hold) w q
+
+    pub good_registers : accepted w ≡ encoded i
+    good_registers = good i (only ∙ all_hold) w q all_hold
+
+-- the last operand o, a value, decides once the registers before it have passed
 module _ (o : Operand) where
   pub inside : (rs : List ℕ) → registers_hold (map register rs) ≡ true → holds o ≡ true → all holds (map register rs ++ (o ∷ [])) ≡ true
   inside [] p e = rw e
@@ -55,33 +78,29 @@ module _ (o : Operand) where
   outside [] e = rw e
   outside (r ∷ rs) e = rw (outside rs e) (and-false (ltb r 32))
 
-  pub decides : (rs : List ℕ) (f : Field) (n : ℕ) → registers_hold (map register rs) ≡ true → Means f (holds o) n → Means f (all holds (map register rs ++ (o ∷ []))) n
-  decides rs (Bits m) n p h = (inside rs p h.0, h.1)
-  decides rs Outside n p h = outside rs h
+  registers_alone : (rs : List ℕ) → (registers_hold (o ∷ []) ≡ true) → registers_hold (map register rs) ≡ true → registers_hold (map register rs ++ (o ∷ [])) ≡ true
+  registers_alone [] v p = v
+  registers_alone (r ∷ rs) v p = let q = both (ltb r 32) _ p in rw q.0 (registers_alone rs v q.1)
 
--- an instruction whose registers passed, and what its field's answer f says
-pub record Judged (i : Instr) (f : Field) (n : ℕ) : Type 0 where
-  pub passed : registers_hold (operands i) ≡ true
-  pub means : Means f (valid i) n
+module _ (i : Instr) (rs : List ℕ) (o : Operand) (is : operands i ≡ map register rs ++ (o ∷ [])) (last : registers_hold (o ∷ []) ≡ true) (e : accepted tt ≡ register_answer (map register rs)) where
+  before : registers_hold (map register rs) ≡ true
+  before = held (registers_hold (map register rs)) 1 e
 
-module _ {i : Instr} {f : Field} {n : ℕ} (j : Judged i f n) where
-  pub bad_field : f ≡ Outside → refused 2 0 ≡ encoded i
-  bad_field e = bad_value i j.passed (rw e at j.means)
+  passed : registers_hold (operands i) ≡ true
+  passed = rw is (registers_alone o rs last before)
 
-  -- w is its word where the field has its bits
-  module _ (m : ℕ) (e : f ≡ Bits m) (w : ℕ) (h : m ≡ n → w ≡ encode i) where
-    pub small_field : w < 4294967296
-    small_field = let k = rw e at j.means in small i k.0 w (h k.1)
+  pub refused_value : {k p : ℕ} → Unfit k p (holds o) → refused k p ≡ encoded i
+  refused_value u = u.1 ∙ bad_value i passed (ap (all holds) is ∙ outside o rs u.0)
 
-    pub good_field : accepted w ≡ encoded i
-    good_field = let k = rw e at j.means in good i k.0 w (h k.1) j.passed
+  module _ (h : holds o ≡ true) (w : ℕ) (q : w ≡ encode i) where
+    fit : valid i ≡ true
+    fit = ap (all holds) is ∙ inside o rs before h
 
-pub fourth : (a b c d : ℕ) → (ltb a 32 && (ltb b 32 && (ltb c 32 && (ltb d 32 && true)))) ≡ true → d < 32
-fourth a b c d e =
-    let p = both (ltb a 32) (ltb b 32 && (ltb c 32 && (ltb d 32 && true))) e in
-    let q = both (ltb b 32) (ltb c 32 && (ltb d 32 && true)) p.1 in
-    let r = both (ltb c 32) (ltb d 32 && true) q.1 in
-    ltb-true d 32 (both (ltb d 32) true r.1).0
+    pub small_value : w < 4294967296
+    small_value = small i fit w q
+
+    pub good_value : accepted w ≡ encoded i
+    good_value = good i fit w q passed
 
 -- What the encoder accepts is valid, and the word is its encoding; what is valid it accepts.
 pub accepted_valid : (i : Instr) (w : ℕ) → encoded i ≡ accepted w → Valid i × (w ≡ encode i)
@@ -99,22 +118,21 @@ valid_accepted i h = sym (good i (Valid_valid i h) (encode i) refl (Valid_regist
 pub accepted_is_valid : AcceptedValid
 accepted_is_valid i = (λ w e. let q = accepted_valid i w e in (true_T (valid i) (Valid_valid i q.0), q.1), λ h. valid_accepted i (valid_Valid i (T_true (valid i) h)))
 
--- the same of an answer that is told
+-- the same of an answer itself
 module _ (i : Instr) where
-  pub taken_valid : (w : ℕ) → accepted w ≡ encoded i → true ≡ valid i
-  taken_valid w e = sym (Valid_valid i (accepted_valid i w (sym e)).0)
-
-  pub taken_word : (w : ℕ) → accepted w ≡ encoded i → w ≡ encode i
-  taken_word w e = (accepted_valid i w (sym e)).1
-
-  pub refused_invalid : (n p : ℕ) → refused n p ≡ encoded i → false ≡ valid i
-  refused_invalid n p e = by (valid i) refl
+  pub ok_valid : (e : Encoded) → word_answer e ≡ encoded i → is_ok e ≡ valid i
+  ok_valid (Ok w) h = sym (Valid_valid i (accepted_valid i w (sym h)).0)
+  ok_valid (Err r) h = by (valid i) refl
     where
       by : (t : Bool) → valid i ≡ t → false ≡ t
       by false q = refl
       by true q =
           let f = valid_accepted i (valid_Valid i q) in
           let z : ◌≡◌ {A = ℕ} 0 1 = cc in absurd (omega arith)
+
+  pub ok_word : (e : Encoded) → word_answer e ≡ encoded i → valid i ≡ true → result_unwrap_or e 0 ≡ encode i
+  ok_word (Ok w) h v = (accepted_valid i w (sym h)).1
+  ok_word (Err r) h v = let z : false ≡ true = ok_valid (Err r) h ∙ v in cc
 
 -- ---- the row of an operation, by its place in the table
 
@@ -177,8 +195,8 @@ module _ (b op : ℕ) where
   pub word_M : op < 2 → b ≡ encode (row_of (25 + op)) → (d a : ℕ) → packed b d 0 a 0 0 ≡ encode (M (get_or m_ops op FMV_X_D) d a)
   word_M h q d a = omega (arith, encode_M (get_or m_ops op FMV_X_D) d a, q ∙ ap encode (row_M op h))
 
-  pub word_R4 : op < 4 → b ≡ encode (row_of (27 + op)) → (d a c e : ℕ) → packed b d 7 a c (e * 4) ≡ encode (R4 (get_or r4_ops op FMADD_D) d a c e 7)
-  word_R4 h q d a c e = omega (arith, encode_R4 (get_or r4_ops op FMADD_D) d a c e 7, q ∙ ap encode (row_R4 op h))
+  pub word_R4 : op < 4 → b ≡ encode (row_of (27 + op)) → (d a c e m : ℕ) → packed b d m a c (e * 4) ≡ encode (R4 (get_or r4_ops op FMADD_D) d a c e m)
+  word_R4 h q d a c e m = omega (arith, encode_R4 (get_or r4_ops op FMADD_D) d a c e m, q ∙ ap encode (row_R4 op h))
 
   pub word_I : op < 8 → b ≡ encode (row_of (31 + op)) → (d a n : ℕ) (z : ℤ) → n ≡ twos 12 z → packed b d 0 a (n % 32) (n / 32) ≡ encode (I (get_or i_ops op ADDI) d a z)
   word_I h q d a n z p = rw p (omega (arith, encode_I (get_or i_ops op ADDI) d a z, q ∙ ap encode (row_I op h)))

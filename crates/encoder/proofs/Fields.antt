@@ -1,10 +1,10 @@
 -- The bits that a field's helper answers are the immediate's two's complement, exactly where the field holds it. Assumes nothing.
 use mathlib.Core.Path.{◌≡◌, refl, sym}
 use mathlib.Core.Bool.{Bool, true, false, cond}
-use Prim.Native.Nat.{ℕ, ◌+◌, ◌-◌, ◌%◌, ◌^◌, ◌≤◌, ◌<◌}
+use Prim.Native.Nat.{ℕ, ◌+◌, ◌-◌, ◌%◌, ◌^◌, ◌<◌}
 use native.Mathlib.Nat.{mod-eq_of_lt}
 use native.Mathlib.Omega.{arith}
-use borrow.Author.Tests.{ltb-true, lt-ltb, le-ltb}
+use borrow.Author.Tests.{ltb-true}
 use lib.Dec.{ltb, eqb}
 use lib.IntN.{ℤ, pos, negsuc}
 use mir.Syntax.{w32}
@@ -13,57 +13,58 @@ use Rattle.isa.specs.Immediate.{twos}
 use Rattle.isa.specs.Instr.{signed, offset, unsigned, holds}
 use Rattle.encoder.specs.Sign.{sign_of}
 use Rattle.encoder.specs.Inner.Field.{signed_field, even_field, unsigned_field}
-use Rattle.encoder.specs.declared.Sign.{Sign}
-use Rattle.encoder.specs.declared.Sign.TheVariants.{NonNeg, Neg}
-use Rattle.encoder.specs.declared.Field.{Field}
-use Rattle.encoder.specs.declared.Field.TheVariants.{Bits, Outside}
+use Rattle.refusal.specs.Answer.{Answer, accepted, refused}
 use Rattle.encoder.proofs.Signs.{handed}
 
+-- refused for a value that does not hold
+abbrev pub Unfit : (k p : ℕ) → (holds : Bool) → Type 0
+Unfit k p b = (b ≡ false) × ◌≡◌ {A = Answer ℕ} (refused k p) (refused 2 0)
+
 -- what an answer says: whether a value with the two's complement n holds
-abbrev pub Means : Field → (holds : Bool) → ℕ → Type 0
-Means (Bits m) b n = (b ≡ true) × (m ≡ n)
-Means Outside b n = b ≡ false
+abbrev pub Means : Answer ℕ → (holds : Bool) → ℕ → Type 0
+Means (accepted m) b n = (b ≡ true) × (m ≡ n)
+Means (refused k p) b n = Unfit k p b
 
 module _ (w : ℕ) (q : 2 ^ w ≡ 2 ^ (w - 1) + 2 ^ (w - 1)) where
   signed_means : (z : ℤ) → Means (signed_field (2 ^ (w - 1)) (sign_of z)) (holds (signed w z)) (twos w z)
   signed_means (pos n) = by (ltb n (2 ^ (w - 1))) refl
     where
-      by : (t : Bool) → ltb n (2 ^ (w - 1)) ≡ t → Means (cond t (Bits n) Outside) (holds (signed w (pos n))) (n % 2 ^ w)
+      by : (t : Bool) → ltb n (2 ^ (w - 1)) ≡ t → Means (cond t (accepted n) (refused 2 0)) (holds (signed w (pos n))) (n % 2 ^ w)
       by true e = (e, sym (mod-eq_of_lt (omega (arith, ltb-true n (2 ^ (w - 1)) e))))
-      by false e = e
+      by false e = (e, refl)
   signed_means (negsuc n) = by (ltb n (2 ^ (w - 1))) refl
     where
       by : (t : Bool) → ltb n (2 ^ (w - 1)) ≡ t
-          → Means (cond t (Bits (2 ^ (w - 1) + 2 ^ (w - 1) - 1 - n)) Outside) (holds (signed w (negsuc n))) (2 ^ w - 1 - n % 2 ^ w)
+          → Means (cond t (accepted (2 ^ (w - 1) + 2 ^ (w - 1) - 1 - n)) (refused 2 0)) (holds (signed w (negsuc n))) (2 ^ w - 1 - n % 2 ^ w)
       by true e =
           let l : n < 2 ^ (w - 1) = ltb-true n (2 ^ (w - 1)) e in
           let m : n % 2 ^ w ≡ n = mod-eq_of_lt (omega arith) in
           (e, rw (m, q))
-      by false e = e
+      by false e = (e, refl)
 
   offset_means : (z : ℤ) → Means (even_field (signed_field (2 ^ (w - 1)) (sign_of z))) (holds (offset w z)) (twos w z)
   offset_means z = by (signed_field (2 ^ (w - 1)) (sign_of z)) (signed_means z)
     where
       even : (m : ℕ) (t : Bool) → eqb (m % 2) 0 ≡ t → holds (signed w z) ≡ true → m ≡ twos w z
-          → Means (cond t (Bits m) Outside) (holds (offset w z)) (twos w z)
+          → Means (cond t (accepted m) (refused 2 0)) (holds (offset w z)) (twos w z)
       even m true e h p = (rw (h, ← p) e, p)
-      even m false e h p = rw (h, ← p) e
+      even m false e h p = (rw (h, ← p) e, refl)
 
-      by : (f : Field) → Means f (holds (signed w z)) (twos w z) → Means (even_field f) (holds (offset w z)) (twos w z)
-      by (Bits m) h = even m (eqb (m % 2) 0) refl h.0 h.1
-      by Outside h = rw h
+      by : (f : Answer ℕ) → Means f (holds (signed w z)) (twos w z) → Means (even_field f) (holds (offset w z)) (twos w z)
+      by (accepted m) h = even m (eqb (m % 2) 0) refl h.0 h.1
+      by (refused k p) h = (rw h.0, h.1)
 
 unsigned_means : (w : ℕ) (z : ℤ) → Means (unsigned_field (2 ^ w) (sign_of z)) (holds (unsigned w z)) (twos w z)
 unsigned_means w (pos n) = by (ltb n (2 ^ w)) refl
   where
-    by : (t : Bool) → ltb n (2 ^ w) ≡ t → Means (cond t (Bits n) Outside) (holds (unsigned w (pos n))) (n % 2 ^ w)
+    by : (t : Bool) → ltb n (2 ^ w) ≡ t → Means (cond t (accepted n) (refused 2 0)) (holds (unsigned w (pos n))) (n % 2 ^ w)
     by true e = (e, sym (mod-eq_of_lt (ltb-true n (2 ^ w) e)))
-    by false e = e
-unsigned_means w (negsuc n) = refl
+    by false e = (e, refl)
+unsigned_means w (negsuc n) = (refl, refl)
 
 -- the same, of the answer f for a number that is handed on
-module _ (z : ℤ) (h : SFits w32 z) (f : Field) where
-  answers : (g : ℤ → Field) (b : Bool) (n : ℕ) → Means (g z) b n → f ≡ g (to_z w32 (of_z w32 z)) → Means f b n
+module _ (z : ℤ) (h : SFits w32 z) {f : Answer ℕ} where
+  answers : (g : ℤ → Answer ℕ) (b : Bool) (n : ℕ) → Means (g z) b n → f ≡ g (to_z w32 (of_z w32 z)) → Means f b n
   answers g b n m e = rw (handed g z h e) m
 
   pub signed12 : f ≡ signed_field 2048 (sign_of (to_z w32 (of_z w32 z))) → Means f (holds (signed 12 z)) (twos 12 z)
@@ -80,21 +81,3 @@ module _ (z : ℤ) (h : SFits w32 z) (f : Field) where
 
   pub unsigned20 : f ≡ unsigned_field 1048576 (sign_of (to_z w32 (of_z w32 z))) → Means f (holds (unsigned 20 z)) (twos 20 z)
   unsigned20 = answers (λ y. unsigned_field 1048576 (sign_of y)) (holds (unsigned 20 z)) (twos 20 z) (unsigned_means 20 z)
-
--- ---- the helpers' answers, by the sign and the tests that led there
-
-module _ (m n : ℕ) (s : Sign) where
-  pub low : s ≡ NonNeg n → n < m → (Bits n ≡ signed_field m s) × (Bits n ≡ unsigned_field m s)
-  low e h = rw e (simp (lt-ltb _ _ h) (refl, refl))
-
-  pub high : s ≡ NonNeg n → m ≤ n → (Outside ≡ signed_field m s) × (Outside ≡ unsigned_field m s)
-  high e h = rw e (simp (le-ltb _ _ h) (refl, refl))
-
-  pub below : s ≡ Neg n → n < m → Bits (m + m - 1 - n) ≡ signed_field m s
-  below e h = rw e (simp (lt-ltb _ _ h))
-
-  pub deep : s ≡ Neg n → m ≤ n → Outside ≡ signed_field m s
-  deep e h = rw e (simp (le-ltb _ _ h))
-
-pub negative : (m : ℕ) (s : Sign) → ((n : ℕ) × (s ≡ Neg n)) → Outside ≡ unsigned_field m s
-negative m s e = rw e.1

@@ -1,18 +1,20 @@
 -- What the encoder answers for an instruction, by document 01:
 -- number 1 if a register is above 31, else number 2 if a value is outside its field, else the word.
-use Rattle.std.specs.Prelude.{◌≡◌, cond, ℕ, T}
+use Rattle.std.specs.Prelude.{◌≡◌, cond, ℕ, T, Result}
 use Rattle.isa.specs.Instr.{Instr, operands, registers_hold, valid}
 use Rattle.isa.specs.Encode.{encode}
-use Rattle.refusal.specs.Answer.{Answer, accepted, refused}
+use Rattle.refusal.specs.Answer.{Answer, accepted, refused, answer_of_result}
 use Rattle.refusal.specs.Number.{number_of}
 use Rattle.refusal.specs.declared.Refusal.TheVariants.{Register, Value}
-use Rattle.encoder.specs.declared.Encoded.{Encoded}
-use Rattle.encoder.specs.declared.Encoded.TheVariants.{Word, Refused}
+use Rattle.refusal.specs.declared.Refused.{Refused}
+
+-- the encoder's answers, a word or its refusal
+abbrev pub Encoded : Type 0
+Encoded = Result ℕ Refused
 
 -- an answer's word, or its number and place
 abbrev pub word_answer : Encoded → Answer ℕ
-word_answer (Word w) = accepted w
-word_answer (Refused r place) = refused (number_of r) place
+word_answer e = answer_of_result e
 
 unfoldable pub encoded : Instr → Answer ℕ
 encoded i =

@@ -2,17 +2,19 @@
 // dots in a name become underscores, and `fadd.d` with a rounding mode is `fadd_d_rm`. `addiw`, which `rvv!` lacks, is document 02's.
 #![tactic(auto)]
 
-ghost use Rattle.std.specs.Prelude.{◌≡◌, true, ◌≤◌, ◌<◌, T, pos, negsuc, get_or, [], ◌∷◌};
+ghost use Rattle.std.specs.Prelude.{◌≡◌, cond, true, ◌≤◌, ◌<◌, T, pos, negsuc, get_or, [], ◌∷◌};
+ghost use Rattle.refusal.specs.Answer.{answer_of_result, accepted, refused};
+ghost use Rattle.refusal.specs.Number.{number_of};
 ghost use Rattle.encoder.specs.Answer.{word_answer, encoded};
 ghost use Rattle.encoder.specs.Table.{row_of};
 ghost use Rattle.encoder.specs.Sign.{sign_of};
-ghost use Rattle.encoder.specs.Inner.Field.{packed, signed_field, even_field, unsigned_field};
-ghost use Rattle.isa.specs.Instr.{R, F, C, M, R4, I, Shift, S, B, U, J, ADD, SUB, SLL, XOR, SRL, SRA, OR, AND, FSGNJ_D, FSGNJN_D, FSGNJX_D, FMIN_D, FMAX_D, FLE_D, FLT_D, FEQ_D, FADD_D, FSUB_D, FMUL_D, FDIV_D, FSQRT_D, FCVT_W_D, FCVT_L_D, FCVT_D_W, FCVT_D_L, FMV_X_D, FMV_D_X, FMADD_D, FMSUB_D, FNMSUB_D, FNMADD_D, ADDI, XORI, ORI, ANDI, JALR, LD, FLD, ADDIW, SLLI, SRLI, SRAI, SD, FSD, BEQ, BNE, BLT, BGE, BLTU, BGEU, LUI, AUIPC, JAL, rounding as rounding_field, free, holds, f_rounding, c_rounding, register, registers_hold};
+ghost use Rattle.encoder.specs.Inner.Field.{packed, register_answer, signed_field, even_field, unsigned_field};
+ghost use Rattle.isa.specs.Instr.{R, F, C, M, R4, I, Shift, S, B, U, J, ADD, SUB, SLL, XOR, SRL, SRA, OR, AND, FSGNJ_D, FSGNJN_D, FSGNJX_D, FMIN_D, FMAX_D, FLE_D, FLT_D, FEQ_D, FADD_D, FSUB_D, FMUL_D, FDIV_D, FSQRT_D, FCVT_W_D, FCVT_L_D, FCVT_D_W, FCVT_D_L, FMV_X_D, FMV_D_X, FMADD_D, FMSUB_D, FNMSUB_D, FNMADD_D, ADDI, XORI, ORI, ANDI, JALR, LD, FLD, ADDIW, SLLI, SRLI, SRAI, SD, FSD, BEQ, BNE, BLT, BGE, BLTU, BGEU, LUI, AUIPC, JAL, rounding, free, holds, f_rounding, c_rounding, register, registers_hold};
 ghost use Rattle.isa.specs.Immediate.{hi as hi_part, lo as lo_part};
 ghost use Rattle.isa.specs.Encode.{encode};
 ghost use Rattle.isa.specs.Decode.{r_ops, f_ops, c_ops, m_ops, r4_ops, i_ops, shift_ops, s_ops, b_ops, u_ops, j_ops};
 
-use refusal::Refusal;
+use refusal::{Refusal, Refused};
 
 mod value;
 
@@ -54,12 +56,8 @@ pub const S5: u32 = 21;
 // A float register.
 pub const FA0: u32 = 10;
 
-// What an encoder function answers.
-#[derive(Clone, Copy)]
-pub enum Encoded {
-    Word(u32),
-    Refused(Refusal, u32),
-}
+// What an encoder function answers: the instruction's word, or its refusal, which has place 0.
+pub type Encoded = Result<u32, Refused>;
 
 // A base instruction, by the shape of its operands: the operation's number there, and the operands in the order of the Manual's fields.
 #[derive(Clone, Copy)]
@@ -292,30 +290,52 @@ fn pack(base: u32, rd: u32, funct3: u32, rs1: u32, rs2: u32, funct7: u32) -> u32
     base + rd * 128 + funct3 * 4096 + rs1 * 32768 + rs2 * 1048576 + funct7 * 33554432
 }
 
-// All four are register numbers.
-fn registers(a: u32, b: u32, c: u32, d: u32) -> bool
-    ensures { result ≡ registers_hold (register a ∷ register b ∷ register c ∷ register d ∷ []) }
+// Accepted where it holds, else refused for `why`.
+fn demand(is_held: bool, why: Refusal) -> Result<(), Refused>
+    ensures { answer_of_result result ≡ cond is_held (accepted tt) (refused (number_of why) 0) }
 {
-    if a >= 32 {
-        return false;
+    if is_held {
+        Ok(())
+    } else {
+        Err(Refused { why, place: 0 })
     }
-    if b >= 32 {
-        return false;
-    }
-    if c >= 32 {
-        return false;
-    }
-    d < 32
+}
+
+// All four are register numbers.
+fn registers(a: u32, b: u32, c: u32, d: u32) -> Result<(), Refused>
+    ensures { answer_of_result result ≡ register_answer (register a ∷ register b ∷ register c ∷ register d ∷ []) }
+{
+    demand(a < 32 && b < 32 && c < 32 && d < 32, Refusal::Register)
 }
 
 // A rounding field that is free holds rm.
-fn rounding(rm: u32) -> bool
-    ensures { result ≡ holds (rounding_field free rm) }
+fn is_rounding(rm: u32) -> bool
+    ensures { result ≡ holds (rounding free rm) }
 {
-    if rm <= 4 {
-        return true;
+    rm <= 4 || rm == DYN
+}
+
+// The rounding field of an operation of shape F holds rm.
+fn f_rounding(op: usize, rm: u32) -> bool
+    requires { op < 4 }
+    ensures { result ≡ holds (rounding (f_rounding (get_or f_ops op FADD_D)) rm) }
+{
+    match op {
+        FADD_D_ROW => is_rounding(rm),
+        _ => rm == DYN,
     }
-    rm == DYN
+}
+
+// The same of shape C.
+fn c_rounding(op: usize, rm: u32) -> bool
+    requires { op < 5 }
+    ensures { result ≡ holds (rounding (c_rounding (get_or c_ops op FSQRT_D)) rm) }
+{
+    match op {
+        FCVT_L_D_ROW => is_rounding(rm),
+        FCVT_D_W_ROW => rm == RNE,
+        _ => rm == DYN,
+    }
 }
 
 // A signed number by its sign: n for NonNeg(n), -1 - n for Neg(n).
@@ -329,67 +349,46 @@ pub fn split(z: i32) -> Sign
     ensures { result ≡ sign_of z }
 {
     if z >= 0 {
-        Sign::NonNeg(z as u32)
+        Sign::NonNeg(z.unsigned_abs())
     } else {
-        Sign::Neg((-1 - z) as u32)
+        Sign::Neg(z.unsigned_abs() - 1)
     }
 }
 
-// The bits of an immediate in its field, or that the field does not hold it.
-#[derive(Clone, Copy)]
-enum Field {
-    Bits(u32),
-    Outside,
-}
-
-// A field of -half..half - 1, in two's complement.
-fn signed_field(imm: i32, half: u32) -> Field
+// An immediate's bits in a field of -half..half - 1, in two's complement, or that the field does not hold it.
+fn signed_field(imm: i32, half: u32) -> Encoded
     requires { half ≤ 1048576 }
-    ensures { result ≡ signed_field half (sign_of imm) }
+    ensures { word_answer result ≡ signed_field half (sign_of imm) }
 {
-    let s = split(imm);
-    match s {
-        Sign::NonNeg(n) => if n < half {
-            Field::Bits(n)
-        } else {
-            Field::Outside
-        },
-        Sign::Neg(n) => if n < half {
-            Field::Bits(half + half - 1 - n)
-        } else {
-            Field::Outside
-        },
+    match split(imm) {
+        Sign::NonNeg(n) => {
+            demand(n < half, Refusal::Value)?;
+            Ok(n)
+        }
+        Sign::Neg(n) => {
+            demand(n < half, Refusal::Value)?;
+            Ok(half + half - 1 - n)
+        }
     }
 }
 
 // The same, and even.
-fn offset_field(imm: i32, half: u32) -> Field
+fn offset_field(imm: i32, half: u32) -> Encoded
     requires { half ≤ 1048576 }
-    ensures { result ≡ even_field (signed_field half (sign_of imm)) }
+    ensures { word_answer result ≡ even_field (signed_field half (sign_of imm)) }
 {
-    let Field::Bits(n) = signed_field(imm, half) else {
-        return Field::Outside;
-    };
-    if n % 2 == 0 {
-        Field::Bits(n)
-    } else {
-        Field::Outside
-    }
+    let n = signed_field(imm, half)?;
+    demand(n % 2 == 0, Refusal::Value)?;
+    Ok(n)
 }
 
-// A field of 0..limit - 1.
-fn unsigned_field(imm: i32, limit: u32) -> Field
-    ensures { result ≡ unsigned_field limit (sign_of imm) }
+// In a field of 0..limit - 1.
+fn unsigned_field(imm: i32, limit: u32) -> Encoded
+    ensures { word_answer result ≡ unsigned_field limit (sign_of imm) }
 {
-    let s = split(imm);
-    match s {
-        Sign::NonNeg(n) => if n < limit {
-            Field::Bits(n)
-        } else {
-            Field::Outside
-        },
-        Sign::Neg(_) => Field::Outside,
-    }
+    let n = u32::try_from(imm).unwrap_or(limit);
+    demand(n < limit, Refusal::Value)?;
+    Ok(n)
 }
 
 // ---- the parts of a 32-bit number that `lui` or `auipc` and the word behind it take (mod.rs)
@@ -397,7 +396,7 @@ fn unsigned_field(imm: i32, limit: u32) -> Field
 pub fn hi(x: u32) -> i32
     ensures { result ≡ pos (hi_part x) }
 {
-    ((x / 2048 + 1) / 2 % 1048576) as i32
+    ((x / 2048 + 1) / 2 % 1048576).cast_signed()
 }
 
 pub fn lo(x: u32) -> i32
@@ -405,11 +404,10 @@ pub fn lo(x: u32) -> i32
 {
     let l = x % 4096;
     if l < 2048 {
-        return l as i32;
+        l.cast_signed()
+    } else {
+        l.cast_signed() - 4096
     }
-    let m = 4095 - l;
-    let s = m as i32;
-    -1 - s
 }
 
 // ---- formats
@@ -418,32 +416,28 @@ fn rtype(op: usize, rd: u32, rs1: u32, rs2: u32) -> Encoded
     requires { op < 16 }
     ensures { word_answer result ≡ encoded (R (get_or r_ops op ADD) rd rs1 rs2) }
 {
-    if !registers(rd, rs1, rs2, 0) {
-        return Encoded::Refused(Refusal::Register, 0);
-    }
-    Encoded::Word(pack(base(op), rd, 0, rs1, rs2, 0))
+    registers(rd, rs1, rs2, 0)?;
+    Ok(pack(base(op), rd, 0, rs1, rs2, 0))
 }
 
 // R, with a rounding field in funct3's place.
 fn ftype(op: usize, rd: u32, rs1: u32, rs2: u32, rm: u32) -> Encoded
-    requires { (op < 4) × (holds (rounding_field (f_rounding (get_or f_ops op FADD_D)) rm) ≡ true) }
+    requires { op < 4 }
     ensures { word_answer result ≡ encoded (F (get_or f_ops op FADD_D) rd rs1 rs2 rm) }
 {
-    if !registers(rd, rs1, rs2, 0) {
-        return Encoded::Refused(Refusal::Register, 0);
-    }
-    Encoded::Word(pack(base(F_ROWS + op), rd, rm, rs1, rs2, 0))
+    registers(rd, rs1, rs2, 0)?;
+    demand(f_rounding(op, rm), Refusal::Value)?;
+    Ok(pack(base(F_ROWS + op), rd, rm, rs1, rs2, 0))
 }
 
 // R with a rounding field and a fixed rs2: conversions and the square root.
 fn ctype(op: usize, rd: u32, rs1: u32, rm: u32) -> Encoded
-    requires { (op < 5) × (holds (rounding_field (c_rounding (get_or c_ops op FSQRT_D)) rm) ≡ true) }
+    requires { op < 5 }
     ensures { word_answer result ≡ encoded (C (get_or c_ops op FSQRT_D) rd rs1 rm) }
 {
-    if !registers(rd, rs1, 0, 0) {
-        return Encoded::Refused(Refusal::Register, 0);
-    }
-    Encoded::Word(pack(base(C_ROWS + op), rd, rm, rs1, 0, 0))
+    registers(rd, rs1, 0, 0)?;
+    demand(c_rounding(op, rm), Refusal::Value)?;
+    Ok(pack(base(C_ROWS + op), rd, rm, rs1, 0, 0))
 }
 
 // R with nothing but rd and rs1: moves of bits.
@@ -451,33 +445,26 @@ fn mtype(op: usize, rd: u32, rs1: u32) -> Encoded
     requires { op < 2 }
     ensures { word_answer result ≡ encoded (M (get_or m_ops op FMV_X_D) rd rs1) }
 {
-    if !registers(rd, rs1, 0, 0) {
-        return Encoded::Refused(Refusal::Register, 0);
-    }
-    Encoded::Word(pack(base(M_ROWS + op), rd, 0, rs1, 0, 0))
+    registers(rd, rs1, 0, 0)?;
+    Ok(pack(base(M_ROWS + op), rd, 0, rs1, 0, 0))
 }
 
-fn r4type(op: usize, rd: u32, rs1: u32, rs2: u32, rs3: u32) -> Encoded
+fn r4type(op: usize, rd: u32, rs1: u32, rs2: u32, rs3: u32, rm: u32) -> Encoded
     requires { op < 4 }
-    ensures { word_answer result ≡ encoded (R4 (get_or r4_ops op FMADD_D) rd rs1 rs2 rs3 7) }
+    ensures { word_answer result ≡ encoded (R4 (get_or r4_ops op FMADD_D) rd rs1 rs2 rs3 rm) }
 {
-    if !registers(rd, rs1, rs2, rs3) {
-        return Encoded::Refused(Refusal::Register, 0);
-    }
-    Encoded::Word(pack(base(R4_ROWS + op), rd, DYN, rs1, rs2, rs3 * 4))
+    registers(rd, rs1, rs2, rs3)?;
+    demand(rm == DYN, Refusal::Value)?;
+    Ok(pack(base(R4_ROWS + op), rd, rm, rs1, rs2, rs3 * 4))
 }
 
 fn itype(op: usize, rd: u32, rs1: u32, imm: i32) -> Encoded
     requires { op < 8 }
     ensures { word_answer result ≡ encoded (I (get_or i_ops op ADDI) rd rs1 imm) }
 {
-    if !registers(rd, rs1, 0, 0) {
-        return Encoded::Refused(Refusal::Register, 0);
-    }
-    let Field::Bits(n) = signed_field(imm, 2048) else {
-        return Encoded::Refused(Refusal::Value, 0);
-    };
-    Encoded::Word(pack(base(I_ROWS + op), rd, 0, rs1, n % 32, n / 32))
+    registers(rd, rs1, 0, 0)?;
+    let n = signed_field(imm, 2048)?;
+    Ok(pack(base(I_ROWS + op), rd, 0, rs1, n % 32, n / 32))
 }
 
 // I, with a shift count for an immediate.
@@ -485,54 +472,38 @@ fn shift(op: usize, rd: u32, rs1: u32, shamt: i32) -> Encoded
     requires { op < 3 }
     ensures { word_answer result ≡ encoded (Shift (get_or shift_ops op SLLI) rd rs1 shamt) }
 {
-    if !registers(rd, rs1, 0, 0) {
-        return Encoded::Refused(Refusal::Register, 0);
-    }
-    let Field::Bits(n) = unsigned_field(shamt, 64) else {
-        return Encoded::Refused(Refusal::Value, 0);
-    };
-    Encoded::Word(pack(base(SHIFT_ROWS + op), rd, 0, rs1, n % 32, n / 32))
+    registers(rd, rs1, 0, 0)?;
+    let n = unsigned_field(shamt, 64)?;
+    Ok(pack(base(SHIFT_ROWS + op), rd, 0, rs1, n % 32, n / 32))
 }
 
 fn stype(op: usize, rs1: u32, rs2: u32, imm: i32) -> Encoded
     requires { op < 2 }
     ensures { word_answer result ≡ encoded (S (get_or s_ops op SD) rs1 rs2 imm) }
 {
-    if !registers(rs1, rs2, 0, 0) {
-        return Encoded::Refused(Refusal::Register, 0);
-    }
-    let Field::Bits(n) = signed_field(imm, 2048) else {
-        return Encoded::Refused(Refusal::Value, 0);
-    };
-    Encoded::Word(pack(base(S_ROWS + op), n % 32, 0, rs1, rs2, n / 32))
+    registers(rs1, rs2, 0, 0)?;
+    let n = signed_field(imm, 2048)?;
+    Ok(pack(base(S_ROWS + op), n % 32, 0, rs1, rs2, n / 32))
 }
 
 fn btype(op: usize, rs1: u32, rs2: u32, imm: i32) -> Encoded
     requires { op < 6 }
     ensures { word_answer result ≡ encoded (B (get_or b_ops op BEQ) rs1 rs2 imm) }
 {
-    if !registers(rs1, rs2, 0, 0) {
-        return Encoded::Refused(Refusal::Register, 0);
-    }
-    let Field::Bits(n) = offset_field(imm, 4096) else {
-        return Encoded::Refused(Refusal::Value, 0);
-    };
+    registers(rs1, rs2, 0, 0)?;
+    let n = offset_field(imm, 4096)?;
     let low = n / 2 % 16 * 2 + n / 2048 % 2;
     let high = n / 4096 * 64 + n / 32 % 64;
-    Encoded::Word(pack(base(B_ROWS + op), low, 0, rs1, rs2, high))
+    Ok(pack(base(B_ROWS + op), low, 0, rs1, rs2, high))
 }
 
 fn utype(op: usize, rd: u32, imm: i32) -> Encoded
     requires { op < 2 }
     ensures { word_answer result ≡ encoded (U (get_or u_ops op LUI) rd imm) }
 {
-    if !registers(rd, 0, 0, 0) {
-        return Encoded::Refused(Refusal::Register, 0);
-    }
-    let Field::Bits(n) = unsigned_field(imm, 1048576) else {
-        return Encoded::Refused(Refusal::Value, 0);
-    };
-    Encoded::Word(pack(
+    registers(rd, 0, 0, 0)?;
+    let n = unsigned_field(imm, 1048576)?;
+    Ok(pack(
         base(U_ROWS + op),
         rd,
         n % 8,
@@ -546,15 +517,11 @@ fn jtype(op: usize, rd: u32, imm: i32) -> Encoded
     requires { op < 1 }
     ensures { word_answer result ≡ encoded (J (get_or j_ops op JAL) rd imm) }
 {
-    if !registers(rd, 0, 0, 0) {
-        return Encoded::Refused(Refusal::Register, 0);
-    }
-    let Field::Bits(n) = offset_field(imm, 1048576) else {
-        return Encoded::Refused(Refusal::Value, 0);
-    };
+    registers(rd, 0, 0, 0)?;
+    let n = offset_field(imm, 1048576)?;
     let middle = n / 2 % 16 * 2 + n / 2048 % 2;
     let high = n / 1048576 * 64 + n / 32 % 64;
-    Encoded::Word(pack(
+    Ok(pack(
         base(J_ROWS + op),
         rd,
         n / 4096 % 8,
@@ -564,7 +531,7 @@ fn jtype(op: usize, rd: u32, imm: i32) -> Encoded
     ))
 }
 
-// ---- the forms of `rvv!`
+// ---- the forms of `rvv!`, each under its own name there: a port keeps its source's names, and the shape's function is what they share
 
 pub fn add(rd: u32, rs1: u32, rs2: u32) -> Encoded
     ensures { word_answer result ≡ encoded (R ADD rd rs1 rs2) }
@@ -798,14 +765,7 @@ pub fn fadd_d(rd: u32, rs1: u32, rs2: u32) -> Encoded
 pub fn fadd_d_rm(rd: u32, rs1: u32, rs2: u32, rm: u32) -> Encoded
     ensures { word_answer result ≡ encoded (F FADD_D rd rs1 rs2 rm) }
 {
-    if rounding(rm) {
-        return ftype(FADD_D_ROW, rd, rs1, rs2, rm);
-    }
-    if registers(rd, rs1, rs2, 0) {
-        Encoded::Refused(Refusal::Value, 0)
-    } else {
-        Encoded::Refused(Refusal::Register, 0)
-    }
+    ftype(FADD_D_ROW, rd, rs1, rs2, rm)
 }
 
 pub fn fsub_d(rd: u32, rs1: u32, rs2: u32) -> Encoded
@@ -938,14 +898,7 @@ pub fn fcvt_d_w(rd: u32, rs1: u32) -> Encoded
 pub fn fcvt_l_d(rd: u32, rs1: u32, rm: u32) -> Encoded
     ensures { word_answer result ≡ encoded (C FCVT_L_D rd rs1 rm) }
 {
-    if rounding(rm) {
-        return ctype(FCVT_L_D_ROW, rd, rs1, rm);
-    }
-    if registers(rd, rs1, 0, 0) {
-        Encoded::Refused(Refusal::Value, 0)
-    } else {
-        Encoded::Refused(Refusal::Register, 0)
-    }
+    ctype(FCVT_L_D_ROW, rd, rs1, rm)
 }
 
 pub fn fcvt_d_l(rd: u32, rs1: u32) -> Encoded
@@ -969,23 +922,23 @@ pub fn fmv_d_x(rd: u32, rs1: u32) -> Encoded
 pub fn fmadd_d(rd: u32, rs1: u32, rs2: u32, rs3: u32) -> Encoded
     ensures { word_answer result ≡ encoded (R4 FMADD_D rd rs1 rs2 rs3 7) }
 {
-    r4type(FMADD_D_ROW, rd, rs1, rs2, rs3)
+    r4type(FMADD_D_ROW, rd, rs1, rs2, rs3, DYN)
 }
 
 pub fn fmsub_d(rd: u32, rs1: u32, rs2: u32, rs3: u32) -> Encoded
     ensures { word_answer result ≡ encoded (R4 FMSUB_D rd rs1 rs2 rs3 7) }
 {
-    r4type(FMSUB_D_ROW, rd, rs1, rs2, rs3)
+    r4type(FMSUB_D_ROW, rd, rs1, rs2, rs3, DYN)
 }
 
 pub fn fnmadd_d(rd: u32, rs1: u32, rs2: u32, rs3: u32) -> Encoded
     ensures { word_answer result ≡ encoded (R4 FNMADD_D rd rs1 rs2 rs3 7) }
 {
-    r4type(FNMADD_D_ROW, rd, rs1, rs2, rs3)
+    r4type(FNMADD_D_ROW, rd, rs1, rs2, rs3, DYN)
 }
 
 pub fn fnmsub_d(rd: u32, rs1: u32, rs2: u32, rs3: u32) -> Encoded
     ensures { word_answer result ≡ encoded (R4 FNMSUB_D rd rs1 rs2 rs3 7) }
 {
-    r4type(FNMSUB_D_ROW, rd, rs1, rs2, rs3)
+    r4type(FNMSUB_D_ROW, rd, rs1, rs2, rs3, DYN)
 }

@@ -168,22 +168,14 @@ fn reaches(k: u32, r: u32, a: u32, b: u32) -> bool
     requires { (a ≤ room_limit) × (b ≤ room_limit) }
     ensures { result ≡ valid (jump_instr (kind_of k) r (sub_ℕ a b)) }
 {
-    let e = jump_encoded(k, r, a, b);
-    match e {
-        Encoded::Word(_) => true,
-        Encoded::Refused(_, _) => false,
-    }
+    jump_encoded(k, r, a, b).is_ok()
 }
 
 fn word(k: u32, r: u32, a: u32, b: u32) -> u32
     requires { (a ≤ room_limit) × (b ≤ room_limit) }
     ensures { valid (jump_instr (kind_of k) r (sub_ℕ a b)) ≡ true → result ≡ encode (jump_instr (kind_of k) r (sub_ℕ a b)) }
 {
-    let e = jump_encoded(k, r, a, b);
-    match e {
-        Encoded::Word(w) => w,
-        Encoded::Refused(_, _) => 0,
-    }
+    jump_encoded(k, r, a, b).unwrap_or(0)
 }
 
 // ---- all jumps looked at

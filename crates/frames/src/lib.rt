@@ -1,7 +1,7 @@
 // mod.rs, frames: prologues, epilogues, saves and reloads. Each is placed whole, or refused and nothing changes.
 #![tactic(auto)]
 
-ghost use Rattle.std.specs.Prelude.{◌≡◌, true, false, cond, [], ◌∷◌, ◌++◌, map, ℕ, ◌+◌, ◌*◌, ◌≤◌, ◌<◌, ltb, pos, length};
+ghost use Rattle.std.specs.Prelude.{◌≡◌, true, false, cond, [], ◌∷◌, ◌++◌, map, ℕ, ◌+◌, ◌*◌, ◌≤◌, ◌<◌, ltb, pos, length, Ok};
 ghost use Rattle.ast.specs.Count.{cells};
 ghost use Rattle.isa.specs.Register.{sp, s1, s5, fa0};
 ghost use Rattle.isa.specs.Instr.{I, FLD};
@@ -91,7 +91,7 @@ fn accepted(d: EmitResult) -> bool
 // The word of a preserved register's save, or of its reload.
 fn used_word(r: u32, back: bool) -> u32
     requires { is_preserved r ≡ true }
-    ensures { answer_of (cond back reload save r) ≡ Encoded.Word result }
+    ensures { answer_of (cond back reload save r) ≡ Ok result }
 {
     let n = 8 * ast::save_cell(r);
     if back {

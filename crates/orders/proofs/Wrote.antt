@@ -14,9 +14,8 @@ use Rattle.isa.specs.Immediate.{hi, lo}
 use Rattle.isa.specs.Instr.{Instr, R, I, U, ADD, LUI, operands, registers_hold, valid}
 use Rattle.isa.specs.Encode.{encode}
 use Rattle.machine.proofs.Placed.{Valids}
-use Rattle.encoder.specs.Answer.{word_answer, encoded}
-use Rattle.encoder.specs.declared.Encoded.{Encoded}
-use Rattle.encoder.specs.declared.Encoded.TheVariants.{Word, Refused}
+use Rattle.encoder.specs.Answer.{Encoded, word_answer, encoded}
+use Rattle.std.specs.Prelude.{Ok, Err}
 use Rattle.refusal.specs.declared.Refusal.TheVariants.{Register, Value}
 use Rattle.encoder.proofs.Answers.{good, bad_value, bad_register}
 use Rattle.assembler.specs.Bytes.{bytes, written, room}
@@ -70,7 +69,7 @@ word_is e i h t = h ∙ ap word_of (answered e i t)
 pub is_answer : (e : Encoded) (i : Instr) → e ≡ answer_of i → Is e i
 is_answer e i h = ap word_answer h ∙ by (registers_hold (operands i)) (valid i) refl refl
   where
-    by : (b c : Bool) → registers_hold (operands i) ≡ b → valid i ≡ c → word_answer (cond b (cond c (Word (encode i)) (Refused Value 0)) (Refused Register 0)) ≡ encoded i
+    by : (b c : Bool) → registers_hold (operands i) ≡ b → valid i ≡ c → word_answer (cond b (cond c (Ok (encode i)) (Err (record { why = Value; place = 0 }))) (Err (record { why = Register; place = 0 }))) ≡ encoded i
     by true true p q = good i q (encode i) refl p
     by true false p q = bad_value i p q
     by false c p q = bad_register i p

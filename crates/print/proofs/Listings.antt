@@ -1,6 +1,6 @@
 -- The listing's lines: their parts, how long they are, and a turn of the loops over the words. Assumes nothing.
 use mathlib.Core.Path.{◌≡◌, refl, sym, ap, ◌∙◌}
-use mathlib.Core.Bool.{Bool, true, false, cond}
+use mathlib.Core.Bool.{Bool, true, false, not, cond}
 use mathlib.Core.List.{List, [], ◌∷◌, ◌++◌}
 use mathlib.Core.Option.{Option, some, none}
 use Prim.Native.Nat.{ℕ, ◌+◌, ◌-◌, ◌/◌, ◌<◌, ◌≤◌}
@@ -16,6 +16,11 @@ use Rattle.isa.specs.Decode.{decode}
 use Rattle.text.specs.Ascii.{bytes}
 use Rattle.text.specs.Digits.{decimal, digits}
 use Rattle.text.proofs.Numerals.{length_digits}
+use Rattle.std.specs.Prelude.{Some, None}
+use Rattle.std.specs.Prelude as Std
+use Rattle.std.specs.Option.{is_some}
+use Rattle.encoder.specs.declared.Instr as Declared
+use Rattle.decoder.specs.Decoded.{instr_answer}
 use Rattle.print.specs.Text.{words_of, hex}
 use Rattle.print.specs.Listing.{name, shown, operands_text, instr_line, data_line, listing_line, listing_lines, hidden_line, hidden_half, view_line, view_lines, marked, foreign, foreign_from}
 use Rattle.print.specs.Inner.Text.{word_in}
@@ -79,17 +84,16 @@ module _ (constants o w : ℕ) where
   unfolding listing_line
   instr_at i h e = rw (lt-ltb o constants h, e)
 
-  pub instr_own : (i : Instr) → o < constants → decode w ≡ some i → foreign constants o w ≡ false
-  unfolding foreign
-  instr_own i h e = rw (lt-ltb o constants h, e)
-
   pub no_line : o < constants → decode w ≡ none → listing_line constants o w ≡ []
   unfolding listing_line
   no_line h e = rw (lt-ltb o constants h, e)
 
-  pub is_foreign : o < constants → decode w ≡ none → foreign constants o w ≡ true
+  pub no_instr : (d : Std.Option Declared.Instr) (t : Bool) → is_some d ≡ not t → o < constants → instr_answer d ≡ decode w → t ≡ foreign constants o w
   unfolding foreign
-  is_foreign h e = rw (lt-ltb o constants h, e)
+  no_instr (Some i) false n h e = rw (lt-ltb o constants h, ← e)
+  no_instr (Some i) true n h e = cc
+  no_instr None false n h e = cc
+  no_instr None true n h e = rw (lt-ltb o constants h, ← e)
 
 -- ---- a hidden line
 

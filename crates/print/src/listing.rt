@@ -9,7 +9,6 @@ ghost use Rattle.print.specs.Listing.{foreign_from, first_answer, hidden_line, h
 ghost use Rattle.print.specs.Inner.Listing.{names, name_at, lengths, Sound, value_text, values_text};
 
 use crate::{First, Text};
-use decoder::Decoded;
 use encoder::{Instr, Sign};
 
 // The instructions' names in the order of the table of base words, eight bytes each.
@@ -202,10 +201,9 @@ fn line_length(constants: usize, offset: usize, word: u32) -> usize
     if offset >= constants {
         return crate::decimal_length(offset as u64) + 15;
     }
-    let d = decoder::decode(word);
-    match d {
-        Decoded::Is(i) => instr_length(offset as u64, i),
-        Decoded::Foreign => 0,
+    match decoder::decode(word) {
+        Some(i) => instr_length(offset as u64, i),
+        None => 0,
     }
 }
 
@@ -286,10 +284,9 @@ fn put_line(
     if offset >= constants {
         return put_data(offset as u64, word, out, at);
     }
-    let d = decoder::decode(word);
-    match d {
-        Decoded::Is(i) => put_instr(table, offset as u64, i, out, at),
-        Decoded::Foreign => at,
+    match decoder::decode(word) {
+        Some(i) => put_instr(table, offset as u64, i, out, at),
+        None => at,
     }
 }
 
@@ -411,14 +408,7 @@ pub fn lines_text(code: &[u8], constants: usize, out: &mut [u8]) -> Text
 fn is_foreign(constants: usize, offset: usize, word: u32) -> bool
     ensures { result ≡ foreign constants offset word }
 {
-    if offset >= constants {
-        return false;
-    }
-    let d = decoder::decode(word);
-    match d {
-        Decoded::Is(_) => false,
-        Decoded::Foreign => true,
-    }
+    offset < constants && decoder::decode(word).is_none()
 }
 
 // Where the first word before the constants stands that no accepted instruction has.

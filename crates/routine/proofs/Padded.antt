@@ -5,8 +5,7 @@ use Prim.Native.Nat.{ℕ, zero, suc, ◌%◌, ◌<◌}
 use native.Mathlib.Omega.{arith}
 use borrow.Author.Tests.{eq-eqb, ne_eqb}
 use Rattle.isa.specs.Encode.{encode}
-use Rattle.encoder.specs.Answer.{word_answer, encoded}
-use Rattle.encoder.specs.declared.Encoded.{Encoded}
+use Rattle.encoder.specs.Answer.{Encoded, word_answer, encoded}
 use Rattle.assembler.specs.Item.{instr, raw}
 use Rattle.assembler.specs.State.{State}
 use Rattle.assembler.specs.Put.{words, targets, labels, place, placed, put}

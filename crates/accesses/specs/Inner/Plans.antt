@@ -1,8 +1,6 @@
 -- What private functions promise of plans and accesses.
-use Rattle.std.specs.Prelude.{Bool, true, false, cond, List, [], ◌∷◌, ℕ, ◌+◌, pos, eqb}
+use Rattle.std.specs.Prelude.{cond, List, [], ◌∷◌, ℕ, ◌+◌, pos, eqb}
 use Rattle.isa.specs.Instr.{Instr}
-use Rattle.encoder.specs.declared.Encoded.{Encoded}
-use Rattle.encoder.specs.declared.Encoded.TheVariants.{Word, Refused}
 use Rattle.assembler.specs.State.{State, Outcome}
 use Rattle.assembler.specs.Put.{put}
 use Rattle.assembler.specs.Plan.{plan_fault, plan_items}
@@ -11,10 +9,6 @@ use Rattle.assembler.specs.declared.Plan.{Plan}
 use Rattle.accesses.specs.Code.{access_code, near, near_pair}
 use Rattle.accesses.specs.declared.Cell.{Cell}
 use Rattle.accesses.specs.Plans.{access_instr}
-
-abbrev pub is_word : Encoded → Bool
-is_word (Word w) = true
-is_word (Refused r place) = false
 
 -- ---- accesses by what they do; with the enum's cases these are the codes of `load_float` and the others
 

@@ -1,25 +1,27 @@
-use mathlib.Core.Path.{◌≡◌, sym, ◌∙◌}
-use mathlib.Core.Bool.{true}
-use lib.ListN.{get_or}
+use Rattle.std.proofs.lemmas.Result.{err_from_is_err_and}
+use mathlib.Core.Path.{refl, sym, ◌∙◌}
 use mathlib.Core.List.{[], ◌∷◌}
-use Rattle.isa.specs.Instr.{register, registers_hold, C, FSQRT_D, valid, rounding, c_rounding}
+use lib.ListN.{get_or}
 use Rattle.isa.specs.Decode.{c_ops}
-use Rattle.encoder.proofs.Answers.{bad_register, small, good, word_C, inside}
+use Rattle.isa.specs.Instr.{rounding, c_rounding, FSQRT_D}
+use Rattle.encoder.proofs.Answers.{held, unheld, refused_register, refused_value, small_value, good_value, word_C}
 use Rattle.encoder.proofs.ctype.Goals as goal
 
-pub returns-then-not-registers : goal.returns-then-not-registers
-returns-then-not-registers c = bad_register _ (sym c.registers.ensures ∙ c.if-not-registers.true)
+pub returns-in_err-registers : goal.returns-in_err-registers
+returns-in_err-registers c = let p = err_from_is_err_and c.from_residual.result c.from_residual.ensures.1 in rw (p.1, p.2) (refused_register _ c.in_err-registers.ensures)
+
+pub returns-in_err-demand : goal.returns-in_err-demand
+returns-in_err-demand c =
+    let a = c.args in
+    let u = unheld _ _ c.in_err-demand.ensures in
+    let p = err_from_is_err_and c.from_residual-in_err-demand.result c.from_residual-in_err-demand.ensures.1 in rw (p.1, p.2) (refused_value _ (a.rd ∷ a.rs1 ∷ []) (rounding (c_rounding (get_or c_ops a.op FSQRT_D)) a.rm) refl refl c.in_ok-registers.ensures (sym c.c_rounding.ensures ∙ u.0, u.1))
 
 pub pack-requires : goal.pack-requires
 pack-requires c =
-    let passed : registers_hold (register c.args.rd ∷ register c.args.rs1 ∷ []) ≡ true = sym c.registers.ensures ∙ c.if-not-registers.false in
-    let rounded : valid (C (get_or c_ops c.args.op FSQRT_D) c.args.rd c.args.rs1 c.args.rm) ≡ true = let o = rounding (c_rounding (get_or c_ops c.args.op FSQRT_D)) c.args.rm in
-    inside o (c.args.rd ∷ c.args.rs1 ∷ []) passed c.requires.1 in
-    small _ rounded _ (word_C _ _ c.requires.0 c.base.ensures _ _ _)
+    let a = c.args in
+    small_value _ (a.rd ∷ a.rs1 ∷ []) (rounding (c_rounding (get_or c_ops a.op FSQRT_D)) a.rm) refl refl c.in_ok-registers.ensures (sym c.c_rounding.ensures ∙ held _ _ c.in_ok-demand.ensures) _ (word_C _ _ c.requires c.base.ensures _ _ _)
 
 pub returns : goal.returns
 returns c =
-    let passed : registers_hold (register c.args.rd ∷ register c.args.rs1 ∷ []) ≡ true = sym c.registers.ensures ∙ c.if-not-registers.false in
-    let rounded : valid (C (get_or c_ops c.args.op FSQRT_D) c.args.rd c.args.rs1 c.args.rm) ≡ true = let o = rounding (c_rounding (get_or c_ops c.args.op FSQRT_D)) c.args.rm in
-    inside o (c.args.rd ∷ c.args.rs1 ∷ []) passed c.requires.1 in
-    good _ rounded _ (c.pack.ensures ∙ word_C _ _ c.requires.0 c.base.ensures _ _ _) passed
+    let a = c.args in
+    good_value _ (a.rd ∷ a.rs1 ∷ []) (rounding (c_rounding (get_or c_ops a.op FSQRT_D)) a.rm) refl refl c.in_ok-registers.ensures (sym c.c_rounding.ensures ∙ held _ _ c.in_ok-demand.ensures) _ (c.pack.ensures ∙ word_C _ _ c.requires c.base.ensures _ _ _)

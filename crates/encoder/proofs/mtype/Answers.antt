@@ -1,19 +1,13 @@
-use mathlib.Core.Path.{◌≡◌, sym, ◌∙◌}
-use mathlib.Core.Bool.{true}
-use mathlib.Core.List.{[], ◌∷◌}
-use Rattle.isa.specs.Instr.{register, registers_hold}
-use Rattle.encoder.proofs.Answers.{bad_register, small, good, word_M}
+use Rattle.std.proofs.lemmas.Result.{err_from_is_err_and}
+use mathlib.Core.Path.{refl, ◌∙◌}
+use Rattle.encoder.proofs.Answers.{refused_register, small_registers, good_registers, word_M}
 use Rattle.encoder.proofs.mtype.Goals as goal
 
-pub returns-then-not-registers : goal.returns-then-not-registers
-returns-then-not-registers c = bad_register _ (sym c.registers.ensures ∙ c.if-not-registers.true)
+pub returns-in_err-registers : goal.returns-in_err-registers
+returns-in_err-registers c = let p = err_from_is_err_and c.from_residual.result c.from_residual.ensures.1 in rw (p.1, p.2) (refused_register _ c.in_err-registers.ensures)
 
 pub pack-requires : goal.pack-requires
-pack-requires c =
-    let passed : registers_hold (register c.args.rd ∷ register c.args.rs1 ∷ []) ≡ true = sym c.registers.ensures ∙ c.if-not-registers.false in
-    small _ passed _ (word_M _ _ c.requires c.base.ensures _ _)
+pack-requires c = small_registers _ c.in_ok-registers.ensures refl _ (word_M _ _ c.requires c.base.ensures _ _)
 
 pub returns : goal.returns
-returns c =
-    let passed : registers_hold (register c.args.rd ∷ register c.args.rs1 ∷ []) ≡ true = sym c.registers.ensures ∙ c.if-not-registers.false in
-    good _ passed _ (c.pack.ensures ∙ word_M _ _ c.requires c.base.ensures _ _) passed
+returns c = good_registers _ c.in_ok-registers.ensures refl _ (c.pack.ensures ∙ word_M _ _ c.requires c.base.ensures _ _)

@@ -1,10 +1,6 @@
-use mathlib.Core.Path.{sym, ap, ◌∙◌}
-use Rattle.encoder.specs.Answer.{word_answer}
-use Rattle.encoder.proofs.Answers.{taken_valid, refused_invalid}
+use mathlib.Core.Path.{◌∙◌}
+use Rattle.encoder.proofs.Answers.{ok_valid}
 use Rattle.finish.proofs.reaches.Goals as goal
 
-pub returns-in-Word : goal.returns-in-Word
-returns-in-Word c = taken_valid _ _ (sym (ap word_answer c.in-Word.is) ∙ c.jump_encoded-e.ensures)
-
-pub returns-in-Refused : goal.returns-in-Refused
-returns-in-Refused c = refused_invalid _ _ _ (sym (ap word_answer c.in-Refused.is) ∙ c.jump_encoded-e.ensures)
+pub returns : goal.returns
+returns c = c.is_ok.ensures.value ∙ ok_valid _ _ c.jump_encoded.ensures

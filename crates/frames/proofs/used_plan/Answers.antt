@@ -8,7 +8,7 @@ use Prim.Native.Nat.{ℕ, zero, suc, ◌+◌, ◌-◌, ◌^◌, ◌/◌, ◌≤�
 use lib.Count.{count_trailing_zeros}
 use lib.ListN.{length, set}
 use Rattle.isa.specs.Instr.{Instr}
-use Rattle.encoder.specs.declared.Encoded.TheVariants.{Word}
+use Rattle.std.specs.Prelude.{Ok}
 use Rattle.assembler.specs.Plan.{pushed}
 use Rattle.assembler.specs.declared.Plan.{Plan}
 use Rattle.accesses.specs.Plans.{answer_of}
@@ -30,7 +30,7 @@ module _ (q : Plan) (f : ℕ → Instr) (n : ℕ) (w : List ℕ) (i r : ℕ) (rs
     has_room : i < 12
     has_room = let h = rw (d, e) at l.0 in omega arith
 
-    added : (x : ℕ) → answer_of (f r) ≡ Word x → Left q f n (set w i x) (i + 1) rs
+    added : (x : ℕ) → answer_of (f r) ≡ Ok x → Left q f n (set w i x) (i + 1) rs
     unfolding pushed
     added x a =
         let h = rw (d, e) at l.0 in

@@ -6,8 +6,8 @@ use mir.Syntax.{w32}
 use mir.Val.{to_z}
 use Rattle.isa.specs.Instr.{Instr, S, FSD, I, FLD}
 use Rattle.isa.proofs.Validity.{Valid}
-use Rattle.encoder.specs.declared.Encoded.{Encoded}
-use Rattle.encoder.specs.declared.Encoded.TheVariants.{Word}
+use Rattle.std.specs.Prelude.{Ok}
+use Rattle.encoder.specs.Answer.{Encoded}
 use Rattle.accesses.specs.Plans.{answer_of, word_of}
 use Rattle.accesses.proofs.Collect.{word}
 use Rattle.accesses.proofs.Numbers.{answered_at, back_small}
@@ -17,8 +17,8 @@ use Rattle.frames.proofs.Tests.{at_most}
 use Rattle.frames.proofs.used_word.Goals as goal
 
 -- the word of an answer for a valid instruction
-told-word : (i : Instr) → Valid i → (e : Encoded) (w : ℕ) → e ≡ answer_of i → w ≡ word_of e → answer_of i ≡ Word w
-told-word i v e w q h = word i v ∙ ap Word (sym (h ∙ ap word_of (q ∙ word i v)))
+told-word : (i : Instr) → Valid i → (e : Encoded) (w : ℕ) → e ≡ answer_of i → w ≡ word_of e → answer_of i ≡ Ok w
+told-word i v e w q h = word i v ∙ ap Ok (sym (h ∙ ap word_of (q ∙ word i v)))
 
 pub returns-then-back : goal.returns-then-back
 returns-then-back c =

@@ -3,8 +3,7 @@ use Rattle.std.specs.Prelude.{◌≡◌, List, [], ◌∷◌, map, ℕ, ◌+◌,
 use Rattle.isa.specs.Register.{t0, t1}
 use Rattle.isa.specs.Immediate.{hi, lo}
 use Rattle.isa.specs.Instr.{Instr, R, M, I, U, ADD, FMV_X_D, FMV_D_X, LUI}
-use Rattle.encoder.specs.Answer.{word_answer, encoded}
-use Rattle.encoder.specs.declared.Encoded.{Encoded}
+use Rattle.encoder.specs.Answer.{Encoded, word_answer, encoded}
 use Rattle.assembler.specs.Bytes.{written}
 use Rattle.assembler.specs.State.{Lent}
 use Rattle.accesses.specs.Code.{low_op}

@@ -1,20 +1,17 @@
-use mathlib.Core.Path.{sym, ap, ◌∙◌}
+use mathlib.Core.Path.{sym, ◌∙◌}
+use Prim.Native.Nat.{◌≤◌}
+use borrow.Author.Tests.{le-ltb}
 use native.Mathlib.Omega.{arith}
-use Rattle.decoder.specs.Decoded.{instr_answer}
-use Rattle.print.proofs.Listings.{data_own, instr_own, is_foreign}
+use Rattle.print.proofs.Listings.{data_own, no_instr}
 use Rattle.print.proofs.listing.is_foreign.Goals as goal
 
 pub returns-then-offset-constants : goal.returns-then-offset-constants
 returns-then-offset-constants c =
     let a = c.args in
-    sym (data_own a.constants a.offset a.word (omega arith))
+    no_instr a.constants a.offset a.word _ _ c.is_none.ensures c.if-offset-constants.true c.decode.ensures.0
 
-pub returns-in-Is : goal.returns-in-Is
-returns-in-Is c =
+pub returns-else-offset-constants : goal.returns-else-offset-constants
+returns-else-offset-constants c =
     let a = c.args in
-    sym (instr_own a.constants a.offset a.word _ (omega arith) (sym c.decode-d.ensures.0 ∙ ap instr_answer c.in-Is.is))
-
-pub returns-in-Foreign : goal.returns-in-Foreign
-returns-in-Foreign c =
-    let a = c.args in
-    sym (is_foreign a.constants a.offset a.word (omega arith) (sym c.decode-d.ensures.0 ∙ ap instr_answer c.in-Foreign.is))
+    let h : a.constants ≤ a.offset = omega arith in
+    le-ltb _ _ h ∙ sym (data_own a.constants a.offset a.word h)

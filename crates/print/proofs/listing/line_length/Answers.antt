@@ -1,7 +1,6 @@
 use mathlib.Core.Path.{sym, ap, ◌∙◌}
 use native.Mathlib.Omega.{arith}
 use lib.ListN.{length}
-use Rattle.decoder.specs.Decoded.{instr_answer}
 use Rattle.encoder.specs.Instr.{instr_of}
 use Rattle.print.proofs.Counts.{decimal_short}
 use Rattle.print.proofs.Listings.{length_data_line, data_at, instr_at, no_line}
@@ -18,15 +17,15 @@ returns-then-offset-constants c =
     let e = ap length (data_at a.constants a.offset a.word (omega arith)) in
     (omega (arith, d, l, e), omega (arith, d, decimal_short 19 a.offset (omega arith)))
 
-pub returns-in-Is : goal.returns-in-Is
-returns-in-Is c =
+pub returns-in-Some : goal.returns-in-Some
+returns-in-Some c =
     let a = c.args in
-    let e = sym c.decode-d.ensures.0 ∙ ap instr_answer c.in-Is.is in
+    let e = sym c.in-Some.ensures.0 in
     let i = c.instr_length.ensures in
-    (i.0 ∙ sym (ap length (instr_at a.constants a.offset a.word (instr_of c.in-Is.i) (omega arith) e)), i.1)
+    (i.0 ∙ sym (ap length (instr_at a.constants a.offset a.word (instr_of c.in-Some.i) (omega arith) e)), i.1)
 
-pub returns-in-Foreign : goal.returns-in-Foreign
-returns-in-Foreign c =
+pub returns-in-None : goal.returns-in-None
+returns-in-None c =
     let a = c.args in
-    let e = sym c.decode-d.ensures.0 ∙ ap instr_answer c.in-Foreign.is in
+    let e = sym c.in-None.ensures.0 in
     (sym (ap length (no_line a.constants a.offset a.word (omega arith) e)), omega arith)

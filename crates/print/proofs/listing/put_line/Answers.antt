@@ -1,7 +1,6 @@
-use mathlib.Core.Path.{refl, sym, ap, ◌∙◌}
+use mathlib.Core.Path.{refl, sym, ap}
 use native.Mathlib.Omega.{arith}
 use lib.ListN.{length}
-use Rattle.decoder.specs.Decoded.{instr_answer}
 use Rattle.encoder.specs.Instr.{instr_of}
 use Rattle.print.proofs.Listings.{data_at, instr_at, no_line}
 use Rattle.print.proofs.listing.put_line.Goals as goal
@@ -19,17 +18,17 @@ returns-then-offset-constants c =
 pub put_instr-requires : goal.put_instr-requires
 put_instr-requires c =
     let a = c.args in
-    let e = sym c.decode-d.ensures.0 ∙ ap instr_answer c.in-Is.is in
-    (c.requires.0, omega (arith, ap length (instr_at a.constants a.offset a.word (instr_of c.in-Is.i) (omega arith) e), c.requires.1))
+    let e = sym c.in-Some.ensures.0 in
+    (c.requires.0, omega (arith, ap length (instr_at a.constants a.offset a.word (instr_of c.in-Some.i) (omega arith) e), c.requires.1))
 
-pub returns-in-Is : goal.returns-in-Is
-returns-in-Is c =
+pub returns-in-Some : goal.returns-in-Some
+returns-in-Some c =
     let a = c.args in
-    let e = sym c.decode-d.ensures.0 ∙ ap instr_answer c.in-Is.is in
-    rw (instr_at a.constants a.offset a.word (instr_of c.in-Is.i) (omega arith) e) c.put_instr.ensures
+    let e = sym c.in-Some.ensures.0 in
+    rw (instr_at a.constants a.offset a.word (instr_of c.in-Some.i) (omega arith) e) c.put_instr.ensures
 
-pub returns-in-Foreign : goal.returns-in-Foreign
-returns-in-Foreign c =
+pub returns-in-None : goal.returns-in-None
+returns-in-None c =
     let a = c.args in
-    let e = sym c.decode-d.ensures.0 ∙ ap instr_answer c.in-Foreign.is in
+    let e = sym c.in-None.ensures.0 in
     rw (no_line a.constants a.offset a.word (omega arith) e) (refl, omega arith)
