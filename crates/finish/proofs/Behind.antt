@@ -81,7 +81,7 @@ finished_behind s e =
     (λ k q. let z : 0 + k ≡ k = omega arith in rw z (inside k q r))
   where
     inside : (k : ℕ) → k < s.asm.jumps → s.asm.len ≤ room (length s.buf) → (jump_at s.jumps k).word + 4 ≤ room (length s.buf)
-    inside k q r = omega (arith, (finish_right s e k q).inside)
+    inside k q r = omega (arith, (finish_right s e k q).good.inside)
 
 -- Nor does finishing.
 pub finish_behind : (s : State) → drop (room (length s.buf)) (finish s).state.buf ≡ drop (room (length s.buf)) s.buf

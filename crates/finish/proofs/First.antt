@@ -1,10 +1,13 @@
 -- The first number that passes a test. Assumes nothing.
-use mathlib.Core.Path.{◌≡◌, refl, ap}
+use mathlib.Core.Path.{◌≡◌, refl, sym, ap}
 use mathlib.Core.Bool.{Bool, true, false, cond}
 use Prim.Native.Nat.{ℕ, zero, suc, ◌+◌, ◌-◌, ◌≤◌, ◌<◌}
 use native.Mathlib.Nat.{add-zero, zero-add}
 use native.Mathlib.Omega.{arith}
+use Rattle.std.proofs.Common.{Option, None, Some, is_some}
+use Rattle.base.proofs.Bools.{true_not_false}
 use Rattle.finish.specs.Finish.{first}
+use Rattle.finish.specs.Inner.Finish.{IsFirst}
 
 module _ (t : ℕ → Bool) (i n : ℕ) where
   pub first_here : i < n → t i ≡ true → first t i (n - i) ≡ 0
@@ -74,6 +77,15 @@ module _ (t : ℕ → Bool) (i m n : ℕ) (h : i ≤ m) (g : m ≤ n) where
   first_within f =
       let d : m - i + (n - m) ≡ n - i = omega arith in
       rw d at (within t i (m - i) (n - m) (omega arith))
+
+-- whether one was found
+pub found : (r : Option ℕ) (f n : ℕ) → IsFirst r f n → is_some r ≡ true → f < n
+found None f n h e = absurd (true_not_false e)
+found (Some i) f n h e = omega (arith, h.0, h.1)
+
+pub missing : (r : Option ℕ) (f n : ℕ) → IsFirst r f n → is_some r ≡ false → n ≤ f
+missing None f n h e = h
+missing (Some i) f n h e = absurd (true_not_false (sym e))
 
 -- none of k passes
 pub first_none : (t : ℕ → Bool) (i k : ℕ) → ((j : ℕ) → j < k → t (i + j) ≡ false) → first t i k ≡ k

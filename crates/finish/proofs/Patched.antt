@@ -1,6 +1,6 @@
 -- Jumps' words written one by one. Assumes nothing.
 use mathlib.Core.Path.{◌≡◌, ap, ◌∙◌}
-use mathlib.Core.Bool.{true, cond}
+use mathlib.Core.Bool.{true}
 use mathlib.Core.List.{List, [], ◌∷◌}
 use Prim.Native.Nat.{ℕ, suc, ◌+◌, ◌-◌, ◌≤◌, ◌<◌}
 use native.Mathlib.Omega.{arith}
@@ -11,7 +11,7 @@ use lib.ListN.{length, get_or}
 use Rattle.isa.specs.Instr.{valid}
 use Rattle.isa.specs.Encode.{encode}
 use Rattle.isa.proofs.Validity.{Valid_valid}
-use Rattle.assembler.specs.Bytes.{written, room}
+use Rattle.assembler.specs.Bytes.{written, fitted, room}
 use Rattle.assembler.specs.Jump.{kind_of, jump_instr}
 use Rattle.assembler.specs.Label.{place_of}
 use Rattle.assembler.specs.Memory.{Jump, jump_at, jumps_of}
@@ -33,14 +33,12 @@ module _ (labels b m : List ℕ) (i n : ℕ) where
 
 -- one jump's word, from what the functions answer
 module _ (labels b : List ℕ) (len : ℕ) (j : Jump) (r : Right labels len j) (h : len ≤ room (length b)) where
-  pub one_word : (l a w at : ℕ) (b' : List ℕ) → l ≡ j.label → a ≡ place_of (get_or labels l 0)
+  pub one_word : (a w : ℕ) (b' : List ℕ) → a ≡ place_of (get_or labels j.label 0)
       → (valid (jump_instr (kind_of j.kind) j.reg (sub_ℕ a j.word)) ≡ true → w ≡ encode (jump_instr (kind_of j.kind) j.reg (sub_ℕ a j.word)))
-      → at ≡ j.word → b' ≡ cond (leb (at + 4) (room (length b))) (written b at (w ∷ [])) b
-      → b' ≡ written b j.word (jump_word labels j ∷ [])
-  one_word l a w at b' e f g p q =
-      let f' : a ≡ place_of (get_or labels j.label 0) = f ∙ ap (λ (x : ℕ). place_of (get_or labels x 0)) e in
-      let v : valid (jump_instr (kind_of j.kind) j.reg (sub_ℕ a j.word)) ≡ true = rw f' (Valid_valid (jump_instr (kind_of j.kind) j.reg (way labels j)) r.valid) in
-      let w' : w ≡ jump_word labels j = g v ∙ ap (λ (x : ℕ). encode (jump_instr (kind_of j.kind) j.reg (sub_ℕ x j.word))) f' in
-      let m : j.word + 4 ≤ room (length b) = omega (arith, r.inside) in
+      → b' ≡ fitted b j.word (w ∷ []) → b' ≡ written b j.word (jump_word labels j ∷ [])
+  one_word a w b' f g q =
+      let v : valid (jump_instr (kind_of j.kind) j.reg (sub_ℕ a j.word)) ≡ true = rw f (Valid_valid (jump_instr (kind_of j.kind) j.reg (way labels j)) r.valid) in
+      let w' : w ≡ jump_word labels j = g v ∙ ap (λ (x : ℕ). encode (jump_instr (kind_of j.kind) j.reg (sub_ℕ x j.word))) f in
+      let m : j.word + 4 ≤ room (length b) = omega (arith, r.good.inside) in
       let k : leb (j.word + 4) (room (length b)) ≡ true = le-leb _ _ m in
-      q ∙ rw (p, k, w')
+      q ∙ rw (k, w')

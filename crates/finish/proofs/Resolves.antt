@@ -25,7 +25,7 @@ use Rattle.assembler.specs.declared.JumpKind.{JumpKind}
 use Rattle.assembler.proofs.Tests.{no}
 use Rattle.finish.specs.Finish.{labels_good, first_with, finish_number, about, ended, finished, finish}
 use Rattle.finish.proofs.Wrong.{zero_then, zero_else, Right, right}
-use Rattle.finish.proofs.Ends.{all_right}
+use Rattle.finish.proofs.Ends.{each_right}
 use Rattle.finish.proofs.Represents.{Represents, Labelled, Reaching, entry}
 use Rattle.finish.proofs.Append.{label_within, resolved_same}
 use Rattle.finish.proofs.Over.{at_label, patched_resolved, kind_back}
@@ -57,7 +57,7 @@ module _ (s : State) where
       let e4 = zero_then (ltb (first_with 2 s) s.asm.jumps) 1 _ e3.1 in
       let e5 = zero_then (ltb (first_with 5 s) s.asm.jumps) 4 _ e4.1 in
       let e6 = zero_then (ltb (first_with 6 s) s.asm.jumps) 5 0 e5.1 in
-      right s.labels s.asm.len (jump_at s.jumps i) (all_right s (ltb-false _ _ e4.0) (ltb-false _ _ e5.0) (ltb-false _ _ e6.0) i h)
+      right s.labels s.asm.len (jump_at s.jumps i) (each_right s (ltb-false _ _ e4.0) (ltb-false _ _ e5.0) (ltb-false _ _ e6.0) i h)
 
 -- ---- over the items
 

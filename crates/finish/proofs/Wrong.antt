@@ -4,7 +4,7 @@ use mathlib.Core.Bool.{Bool, true, false, not, ◌&&◌, ◌||◌, cond}
 use mathlib.Core.List.{List}
 use Prim.Native.Nat.{ℕ, suc, ◌+◌, ◌%◌, ◌^◌, ◌≤◌, ◌<◌}
 use native.Mathlib.Omega.{arith}
-use borrow.Author.Tests.{not-false, ltb-true, leb-true, eqb-true, eq-eqb, lt-ltb, le-leb, lt-leb}
+use borrow.Author.Tests.{not-false, ltb-true, leb-true, eqb-true}
 use lib.Dec.{leb, eqb, ltb}
 use lib.IntN.{sub_ℕ}
 use lib.ListN.{get_or}
@@ -15,7 +15,7 @@ use Rattle.assembler.specs.Jump.{kind_of, jump_instr}
 use Rattle.assembler.specs.Label.{is_set, place_of, made}
 use Rattle.assembler.specs.Memory.{Jump}
 use Rattle.assembler.proofs.Tests.{no}
-use Rattle.finish.specs.Finish.{first, label_good, labels_good, jump_good, unset, far, way, jump_number}
+use Rattle.finish.specs.Finish.{label_good, labels_good, jump_good, unset, far, way, jump_number}
 use Rattle.finish.proofs.First.{none}
 use Rattle.finish.proofs.Near.{near}
 
@@ -39,8 +39,31 @@ place_small len e h = by (leb (made e) 4096) (eqb (e % 2 ^ 32) 0) refl h
 
 -- ---- jumps
 
-pub good_jump : (len : ℕ) (j : Jump) → j.word + 4 ≤ len → j.word % 4 ≡ 0 → j.reg < 32 → j.label < 2039 → j.kind < 6 → jump_good len j ≡ true
-good_jump len j a b c d e = simp (le-leb _ _ a, eq-eqb _ _ b, lt-ltb _ _ c, lt-ltb _ _ d, lt-ltb _ _ e)
+pub wrong_bad : (labels : List ℕ) (len : ℕ) (j : Jump) → jump_good len j ≡ false → 2 ≡ jump_number labels len j
+unfolding jump_number
+wrong_bad labels len j g = simp g
+
+-- what is asked of a good jump's numbers
+pub record Good (len : ℕ) (j : Jump) : Type 0 where
+  pub inside : j.word + 4 ≤ len
+  pub even : j.word % 4 ≡ 0
+  pub register : j.reg < 32
+  pub label : j.label < 2039
+  pub kind : j.kind < 6
+
+pub good : (len : ℕ) (j : Jump) → jump_good len j ≡ true → Good len j
+good len j e =
+    let g = both (leb (j.word + 4) len) _ e in
+    let g1 = both (eqb (j.word % 4) 0) _ g.1 in
+    let g2 = both (ltb j.reg 32) _ g1.1 in
+    let g3 = both (ltb j.label 2039) _ g2.1 in
+    record {
+      inside = leb-true _ _ g.0;
+      even = eqb-true _ _ g1.0;
+      register = ltb-true _ _ g2.0;
+      label = ltb-true _ _ g3.0;
+      kind = ltb-true _ _ g3.1;
+    }
 
 module _ (labels : List ℕ) (len : ℕ) (j : Jump) (g : jump_good len j ≡ true) where
   pub wrong_unset : not (is_set (get_or labels j.label 0)) ≡ true → 5 ≡ jump_number labels len j
@@ -70,11 +93,7 @@ zero_else true x y e = (refl, e)
 zero_else false x y e = absurd (omega arith)
 
 pub record Right (labels : List ℕ) (len : ℕ) (j : Jump) : Type 0 where
-  pub inside : j.word + 4 ≤ len
-  pub even : j.word % 4 ≡ 0
-  pub register : j.reg < 32
-  pub label : j.label < 2039
-  pub kind : j.kind < 6
+  pub good : Good len j
   pub known : is_set (get_or labels j.label 0) ≡ true
   pub valid : Valid (jump_instr (kind_of j.kind) j.reg (way labels j))
 
@@ -84,30 +103,12 @@ right labels len j e =
     let a = zero_else (jump_good len j) _ 1 e in
     let b = zero_then (not (is_set (get_or labels j.label 0))) 4 _ a.1 in
     let d = zero_then (leb 4 j.kind && not (holds (offset 13 (way labels j)))) 5 _ b.1 in
-    let g = both (leb (j.word + 4) len) _ a.0 in
-    let g1 = both (eqb (j.word % 4) 0) _ g.1 in
-    let g2 = both (ltb j.reg 32) _ g1.1 in
-    let g3 = both (ltb j.label 2039) _ g2.1 in
-    let k = ltb-true _ _ g3.1 in
-    let r = ltb-true _ _ g2.0 in
+    let g = good len j a.0 in
     record {
-      inside = leb-true _ _ g.0;
-      even = eqb-true _ _ g1.0;
-      register = r;
-      label = ltb-true _ _ g3.0;
-      kind = k;
+      good = g;
       known = not-false _ b.0;
-      valid = valid_Valid (jump_instr (kind_of j.kind) j.reg (way labels j)) (near j.kind j.reg (way labels j) k r ∙ ap not d.0);
+      valid = valid_Valid (jump_instr (kind_of j.kind) j.reg (way labels j)) (near j.kind j.reg (way labels j) g.kind g.register ∙ ap not d.0);
     }
-
--- the labels are good exactly where no bad one is found
-pub labels_bad : (len : ℕ) (labels : List ℕ) (i : ℕ) → i ≡ first (λ l. not (label_good len (get_or labels l 0))) 0 2039 → i < 2039 → labels_good len labels ≡ false
-unfolding labels_good
-labels_bad len labels i e h = rw (← e) (lt-leb 2039 i h)
-
-pub labels_fine : (len : ℕ) (labels : List ℕ) (i : ℕ) → i ≡ first (λ l. not (label_good len (get_or labels l 0))) 0 2039 → 2039 ≤ i → labels_good len labels ≡ true
-unfolding labels_good
-labels_fine len labels i e h = rw (← e) (le-leb 2039 i h)
 
 abbrev by_tests : Bool → Bool → Bool → ℕ
 by_tests good unset far = cond good (cond unset 5 (cond far 6 0)) 2

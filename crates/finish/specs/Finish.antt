@@ -1,5 +1,5 @@
 -- Finishing: all jumps are looked at, and only then written.
-use Rattle.std.specs.Prelude.{Bool, true, not, ◌&&◌, ◌||◌, cond, List, [], ◌∷◌, ℕ, zero, suc, ◌+◌, ◌%◌, ltb, leb, eqb, ℤ, length, get_or}
+use Rattle.std.specs.Prelude.{Bool, true, not, ◌&&◌, ◌||◌, cond, List, [], ◌∷◌, ℕ, zero, suc, ◌+◌, ◌%◌, ltb, leb, eqb, ℤ, length, get_or, Result, Ok, Err}
 use Rattle.std.proofs.Math.IntN.{sub_ℕ}
 use Rattle.isa.specs.Instr.{holds, offset}
 use Rattle.isa.specs.Encode.{encode}
@@ -11,8 +11,9 @@ use Rattle.assembler.specs.Jump.{kind_of, jump_instr}
 use Rattle.assembler.specs.Bytes.{written}
 use Rattle.assembler.specs.Label.{is_set, place_of, made}
 use Rattle.assembler.specs.Memory.{Jump, jump_at, tag_at, jumps_of}
-use Rattle.assembler.specs.State.{State, state, emit_answer, sound}
-use Rattle.finish.specs.declared.FinishResult.{FinishResult}
+use Rattle.assembler.specs.State.{State, state, sound}
+use Rattle.assembler.specs.declared.Asm.{Asm}
+use Rattle.finish.specs.declared.Unfinished.{Unfinished}
 
 -- how many of the k numbers from i on stand before the first that passes the test: k if none does
 unfoldable pub first : (ℕ → Bool) → ℕ → ℕ → ℕ
@@ -116,5 +117,14 @@ ended number s =
 unfoldable pub finish : State → FinishOutcome
 finish s = ended (finish_number s) s
 
-abbrev pub finish_outcome : FinishResult → List ℕ → List ℕ → List ℕ → FinishOutcome
-finish_outcome f ls js b = record { answer = emit_answer f.answer; tag = f.tag; state = state f.asm ls js b }
+-- what a result says: its answer, and its tag
+abbrev pub finish_answer : Result (Unit {0}) Unfinished → Answer (Unit {0})
+finish_answer (Ok u) = accepted tt
+finish_answer (Err e) = refused (number_of e.refused.why) e.refused.place
+
+abbrev pub finish_tag : Result (Unit {0}) Unfinished → ℕ
+finish_tag (Ok u) = 0
+finish_tag (Err e) = e.tag
+
+abbrev pub finish_outcome : Result (Unit {0}) Unfinished → Asm → List ℕ → List ℕ → List ℕ → FinishOutcome
+finish_outcome r a ls js b = record { answer = finish_answer r; tag = finish_tag r; state = state a ls js b }

@@ -1,7 +1,7 @@
 // assembler.rs, `apply_jumps`: finishing.
 #![tactic(auto)]
 
-ghost use Rattle.std.specs.Prelude.{◌≡◌, Bool, true, false, cond, not, ℕ, ◌+◌, ◌-◌, ◌*◌, ◌≤◌, ◌<◌, eqb, length, get_or};
+ghost use Rattle.std.specs.Prelude.{◌≡◌, ◌↔◌, Bool, true, false, cond, not, ℕ, ◌+◌, ◌-◌, ◌*◌, ◌≤◌, ◌<◌, eqb, length, get_or, EachIndex, IsTrue, slice_index};
 ghost use Rattle.std.proofs.Math.IntN.{sub_ℕ};
 ghost use Rattle.isa.specs.Immediate.{twos, lo as lo_part};
 ghost use Rattle.isa.specs.Instr.{valid};
@@ -11,28 +11,20 @@ ghost use Rattle.assembler.specs.Limit.{room_limit, label_limit, jump_limit};
 ghost use Rattle.assembler.specs.Jump.{kind_of, jump_instr};
 ghost use Rattle.assembler.specs.Label.{is_set, place_of};
 ghost use Rattle.assembler.specs.Memory.{jump_at, tag_at, jumps_of};
-ghost use Rattle.assembler.specs.State.{emit_answer, state};
-ghost use Rattle.refusal.specs.Answer.{refused};
-ghost use Rattle.refusal.specs.Number.{number_of};
-ghost use Rattle.finish.specs.Finish.{first, label_good, labels_good, jump_number, patched, finish, finish_outcome};
-ghost use Rattle.finish.specs.Inner.Finish.{AllRight};
+ghost use Rattle.assembler.specs.State.{state};
+ghost use Rattle.refusal.specs.Number.{number_of, fault_number};
+ghost use Rattle.finish.specs.Finish.{first, label_good, labels_good, jump_good, jump_number, patched, finish, finish_outcome};
+ghost use Rattle.finish.specs.Inner.Finish.{AllRight, Checked, Fit, IsFirst, has_fault, jump_of};
 
-use assembler::{Answer, Asm, Jumps, LABELS, Labels};
+use assembler::{Asm, Jumps, LABELS, Labels};
 use encoder::{Encoded, S2, T0, T2, ZERO};
-use refusal::Refusal;
+use refusal::{Refusal, Refused};
 
-// `tag` is the caller's own number of the jump that 5 or 6 is about, else 0.
+// Why finishing is refused, and the caller's own number of the jump that 5 or 6 is about, else 0.
 #[derive(Clone, Copy)]
-pub struct FinishResult {
-    pub asm: Asm,
-    pub answer: Answer,
+pub struct Unfinished {
+    pub refused: Refused,
     pub tag: u32,
-}
-
-fn size(x: u32) -> usize
-    ensures { result ≡ x }
-{
-    x as usize
 }
 
 // ---- labels
@@ -40,75 +32,49 @@ fn size(x: u32) -> usize
 fn label_place(e: u64) -> u32
     ensures { result ≡ place_of e }
 {
-    let h = (e % 4294967296) as u32;
-    if h == 0 { 0 } else { h - 1 }
+    ((e % 4294967296) as u32).saturating_sub(1)
 }
 
-fn good_label(e: u64, len: usize) -> bool
+fn is_unset(e: u64) -> bool
+    ensures { result ≡ not (is_set e) }
+{
+    e % 4294967296 == 0
+}
+
+fn is_good(e: u64, len: usize) -> bool
     ensures { result ≡ label_good len e }
 {
-    if e == 0 {
-        return true;
-    }
-    if e / 4294967296 > 4096 {
-        return false;
-    }
-    let p = size(label_place(e));
-    if len < p {
-        return false;
-    }
-    p % 4 == 0
+    let p = label_place(e) as usize;
+    e / 4294967296 <= 4096 && (is_unset(e) || p <= len && p % 4 == 0)
 }
 
-// The 64 labels from i on in one number, which is 0 where none holds anything.
-fn joined(labels: &Labels, i: usize) -> u64
-    requires { i ≤ 1920 }
-    ensures { result ≡ 0 → (j : ℕ) → j < 64 → get_or labels.now (i + j) 0 ≡ 0 }
+// Nothing is set, and no jump counted. Without a branch for each, so that many are looked at together.
+fn is_blank(block: &[u64]) -> bool
+    ensures { result ≡ true → EachIndex block.now (λ k. slice_index block.now k ≡ 0) }
 {
     let mut all = 0;
-    let mut j = 0;
-    while j < 64 {
-        all = all | labels[i + j];
-        j += 1;
+    for e in block {
+        all |= *e;
     }
-    all
+    all == 0
 }
 
-// The first label from `from` on that is not good, or n.
-fn first_from(labels: &Labels, len: usize, from: usize, n: usize) -> usize
-    requires { (from ≤ n) × (n ≤ label_limit) }
-    ensures { (result ≡ from + first (λ i. not (label_good len (get_or labels.now i 0))) from (n - from)) × (result ≤ n) }
+fn are_good(block: &[u64], len: usize) -> bool
+    ensures { IsTrue result ↔ EachIndex block.now (λ k. label_good len (slice_index block.now k) ≡ true) }
 {
-    let mut i = from;
-    while i < n {
-        let g = good_label(labels[i], len);
-        if g {
-            i += 1;
-        } else {
-            return i;
-        }
-    }
-    i
+    is_blank(block) || block.iter().all(|e| is_good(*e, len))
 }
 
-// How many labels stand before the first that is not good. Most are unset: looked at 64 at a time.
-fn first_label(labels: &Labels, len: usize) -> usize
-    ensures { (result ≡ first (λ i. not (label_good len (get_or labels.now i 0))) 0 label_limit) × (result ≤ label_limit) }
+// Most labels are blank.
+fn labels_good(labels: &Labels, len: usize) -> bool
+    ensures { result ≡ labels_good len labels.now }
 {
-    let mut i = 0;
-    while i < 1984 {
-        let all = joined(labels, i);
-        if all == 0 {
-            i += 64;
-            continue;
+    for block in labels.chunks(64) {
+        if !are_good(block, len) {
+            return false;
         }
-        let k = first_from(labels, len, i, i + 64);
-        if k < i + 64 {
-            return k;
-        }
-        i += 64;
     }
-    first_from(labels, len, i, LABELS)
+    true
 }
 
 // ---- a jump's word
@@ -180,66 +146,121 @@ fn word(k: u32, r: u32, a: u32, b: u32) -> u32
 
 // ---- all jumps looked at
 
-// What is wrong with a jump: 2, 5, 6, or 0.
-fn status(labels: &Labels, len: usize, p: u32, l: u32, r: u32, k: u32) -> u8
+// A jump in its memory, which holds five numbers for each.
+#[derive(Clone, Copy)]
+struct Jump {
+    word: u32,
+    label: u32,
+    reg: u32,
+    kind: u32,
+    tag: u32,
+}
+
+fn jump_at(jumps: &Jumps, i: usize) -> Jump
+    requires { i < jump_limit }
+    ensures { (jump_of result ≡ jump_at jumps.now i) × (result.tag ≡ tag_at jumps.now i) }
+{
+    let b = 5 * i;
+    Jump {
+        word: jumps[b],
+        label: jumps[b + 1],
+        reg: jumps[b + 2],
+        kind: jumps[b + 3],
+        tag: jumps[b + 4],
+    }
+}
+
+// Its word is in the code, and its numbers are such as there are.
+fn is_good_jump(j: Jump, len: usize) -> bool
+    ensures { result ≡ jump_good len (jump_of j) }
+{
+    let at = j.word as usize;
+    at + 4 <= len && at % 4 == 0 && j.reg < 32 && (j.label as usize) < LABELS && j.kind < 6
+}
+
+// What is wrong with a jump.
+fn fault(labels: &Labels, len: usize, j: Jump) -> Option<Refusal>
     requires { (len ≤ room_limit) × (labels_good len labels.now ≡ true) }
-    ensures { result ≡ jump_number labels.now len (record { word = p; label = l; reg = r; kind = k }) }
+    ensures { fault_number result ≡ jump_number labels.now len (jump_of j) }
 {
-    let at = p as usize;
-    if len < at + 4 {
-        return 2;
+    if !is_good_jump(j, len) {
+        return Some(Refusal::Value);
     }
-    if at % 4 != 0 {
-        return 2;
+    let e = labels[j.label as usize];
+    if is_unset(e) {
+        return Some(Refusal::Unset);
     }
-    if 32 <= r {
-        return 2;
+    if reaches(j.kind, j.reg, label_place(e), j.word) {
+        None
+    } else {
+        Some(Refusal::Far)
     }
-    let i = l as usize;
-    if LABELS <= i {
-        return 2;
-    }
-    if 6 <= k {
-        return 2;
-    }
-    let a = label_place(labels[i]);
-    if is_unset(labels[i]) {
-        return 5;
-    }
-    if reaches(k, r, a, p) {
-        return 0;
-    }
-    6
 }
 
-fn is_unset(e: u64) -> bool
-    ensures { result ≡ not (is_set e) }
-{
-    e % 4294967296 == 0
-}
-
-// How many jumps stand before the first with this number.
-fn first_jump(want: u8, labels: &Labels, jumps: &Jumps, n: usize, len: usize) -> usize
+// The first of n jumps with this fault.
+fn first_jump(want: Refusal, labels: &Labels, jumps: &Jumps, n: usize, len: usize) -> Option<usize>
     requires { (n ≤ jump_limit) × (len ≤ room_limit) × (labels_good len labels.now ≡ true) }
-    ensures { (result ≡ first (λ i. eqb (jump_number labels.now len (jump_at jumps.now i)) want) 0 n) × (result ≤ n) }
+    ensures { IsFirst result (first (has_fault (number_of want) labels.now len jumps.now) 0 n) n }
 {
-    let mut i = 0;
-    while i < n {
-        let b = 5 * i;
-        let s = status(
-            labels,
-            len,
-            jumps[b],
-            jumps[b + 1],
-            jumps[b + 2],
-            jumps[b + 3],
-        );
-        if s == want {
-            return i;
+    for i in 0..n {
+        if fault(labels, len, jump_at(jumps, i)) == Some(want) {
+            return Some(i);
         }
-        i += 1;
     }
-    i
+    None
+}
+
+// Refused about a jump.
+fn about(why: Refusal, j: Jump) -> Unfinished
+    ensures { result ≡ record { refused = record { why = why; place = j.word }; tag = j.tag } }
+{
+    let refused = Refused { why, place: j.word };
+    Unfinished {
+        refused,
+        tag: j.tag,
+    }
+}
+
+// Refused as a whole.
+fn at_none(why: Refusal) -> Unfinished
+    ensures { result ≡ record { refused = record { why = why; place = 0 }; tag = 0 } }
+{
+    let refused = Refused { why, place: 0 };
+    Unfinished { refused, tag: 0 }
+}
+
+// Whether nothing is wrong with any jump: a value, then a label that is not set, then a branch too far.
+fn check_jumps(buf: &[u8], labels: &Labels, jumps: &Jumps, asm: Asm) -> Result<(), Unfinished>
+    requires { Fit (state asm labels.now jumps.now buf.now) }
+    ensures { Checked result (state asm labels.now jumps.now buf.now) }
+{
+    let n = asm.jumps;
+    if first_jump(Refusal::Value, labels, jumps, n, asm.len).is_some() {
+        return Err(at_none(Refusal::Value));
+    }
+    if let Some(i) = first_jump(Refusal::Unset, labels, jumps, n, asm.len) {
+        return Err(about(Refusal::Unset, jump_at(jumps, i)));
+    }
+    if let Some(i) = first_jump(Refusal::Far, labels, jumps, n, asm.len) {
+        return Err(about(Refusal::Far, jump_at(jumps, i)));
+    }
+    Ok(())
+}
+
+// Whether the state can be finished. Nothing is written before.
+fn check(buf: &[u8], labels: &Labels, jumps: &Jumps, asm: Asm) -> Result<(), Unfinished>
+    ensures { Checked result (state asm labels.now jumps.now buf.now) }
+{
+    if asm.closed {
+        return Err(at_none(Refusal::Closed));
+    }
+    if !assembler::is_sound(buf.len(), asm) {
+        return Err(at_none(Refusal::Value));
+    }
+    if !labels_good(labels, asm.len) {
+        return Err(at_none(Refusal::Value));
+    }
+    check_jumps(buf, labels, jumps, asm)
 }
 
 // ---- and only then written
@@ -253,80 +274,25 @@ fn write_jumps(buf: &mut [u8], labels: &Labels, jumps: &Jumps, n: usize, len: us
         × AllRight labels.now len jumps.now n }
     ensures { buf.new ≡ patched labels.now buf.old (jumps_of jumps.now 0 n) }
 {
-    let mut i = 0;
-    while i < n {
-        let b = 5 * i;
-        let p = jumps[b];
-        let l = size(jumps[b + 1]);
-        let a = label_place(labels[l]);
-        let w = word(jumps[b + 3], jumps[b + 2], a, p);
-        let at = size(p);
-        assembler::write_word(buf, at, w);
-        i += 1;
+    for i in 0..n {
+        let j = jump_at(jumps, i);
+        let a = label_place(labels[j.label as usize]);
+        let w = word(j.kind, j.reg, a, j.word);
+        assembler::write_word(buf, j.word as usize, w);
     }
 }
 
-// Refused about jump i.
-fn refused_at(r: Refusal, jumps: &Jumps, i: usize, asm: Asm) -> FinishResult
-    requires { i < jump_limit }
-    ensures { (result.asm ≡ asm)
-        × (emit_answer result.answer ≡ refused (number_of r) (jump_at jumps.now i).word)
-        × (result.tag ≡ tag_at jumps.now i) }
+// The memory stays two parameters and the record one: C lends labels and jumps to be read only (include/handheld.h, `order_finish`).
+pub fn apply_jumps(
+    buf: &mut [u8],
+    labels: &Labels,
+    jumps: &Jumps,
+    asm: &mut Asm,
+) -> Result<(), Unfinished>
+    ensures { finish_outcome result asm.new labels.now jumps.now buf.new ≡ finish (state asm.old labels.now jumps.now buf.old) }
 {
-    let b = 5 * i;
-    let p = jumps[b];
-    let t = jumps[b + 4];
-    FinishResult {
-        asm,
-        answer: Answer::Refused(r, p),
-        tag: t,
-    }
-}
-
-fn refused_with(r: Refusal, asm: Asm) -> FinishResult
-    ensures { (result.asm ≡ asm) × (emit_answer result.answer ≡ refused (number_of r) 0) × (result.tag ≡ 0) }
-{
-    FinishResult {
-        asm,
-        answer: Answer::Refused(r, 0),
-        tag: 0,
-    }
-}
-
-pub fn apply_jumps(buf: &mut [u8], labels: &Labels, jumps: &Jumps, asm: Asm) -> FinishResult
-    ensures { finish_outcome result labels.now jumps.now buf.new ≡ finish (state asm labels.now jumps.now buf.old) }
-{
-    if asm.closed {
-        return refused_with(Refusal::Closed, asm);
-    }
-    let ok = assembler::is_sound(buf.len(), asm);
-    if ok {
-        let len = asm.len;
-        let n = asm.jumps;
-        if first_label(labels, len) < LABELS {
-            return refused_with(Refusal::Value, asm);
-        }
-        if first_jump(2, labels, jumps, n, len) < n {
-            return refused_with(Refusal::Value, asm);
-        }
-        let i = first_jump(5, labels, jumps, n, len);
-        if i < n {
-            return refused_at(Refusal::Unset, jumps, i, asm);
-        }
-        let k = first_jump(6, labels, jumps, n, len);
-        if k < n {
-            return refused_at(Refusal::Far, jumps, k, asm);
-        }
-        write_jumps(buf, labels, jumps, n, len);
-        return FinishResult {
-            asm: Asm {
-                len,
-                jumps: n,
-                closed: true,
-            },
-            answer: Answer::Accepted,
-            tag: 0,
-        };
-    }
-    refused_with(Refusal::Value, asm)
+    check(buf, labels, jumps, *asm)?;
+    write_jumps(buf, labels, jumps, asm.jumps, asm.len);
+    asm.closed = true;
+    Ok(())
 }

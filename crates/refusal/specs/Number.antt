@@ -1,5 +1,5 @@
 -- Document 01's table "Numbers of refusal".
-use Rattle.std.specs.Prelude.{ℕ}
+use Rattle.std.specs.Prelude.{ℕ, Option, None, Some}
 use Rattle.refusal.specs.declared.Refusal.{Refusal}
 use Rattle.refusal.specs.declared.Refusal.TheVariants.{Register, Value, Label, Twice, Unset, Far, Full, Closed, Count, Base, Unsaved, Line}
 
@@ -16,3 +16,8 @@ number_of Count = 9
 number_of Base = 10
 number_of Unsaved = 11
 number_of Line = 12
+
+-- the number of what is wrong, 0 for nothing
+abbrev pub fault_number : Option Refusal → ℕ
+fault_number None = 0
+fault_number (Some r) = number_of r
