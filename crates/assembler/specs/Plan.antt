@@ -1,6 +1,7 @@
 -- An order as its words and the jumps behind them, and the refusal of an operand, if one is refused.
 use Rattle.std.specs.Prelude.{Bool, true, ◌&&◌, cond, List, [], ◌∷◌, ◌++◌, map, ℕ, ◌+◌, min, ltb, get_or, take, set, replicate, Option, Some, None, Result, Ok, Err}
 use Rattle.refusal.specs.Number.{number_of}
+pub use Rattle.refusal.specs.Number.{fault_number}
 use Rattle.refusal.specs.declared.Refusal.{Refusal}
 use Rattle.refusal.specs.declared.Refusal.TheVariants.{Register, Value, Label, Twice, Unset, Far, Full, Closed, Count, Base, Unsaved, Line}
 use Rattle.refusal.specs.declared.Refused.{Refused}
@@ -23,11 +24,6 @@ rank n = get_or ranks n 13
 -- the one of two faults that comes first
 abbrev pub earlier : ℕ → ℕ → ℕ
 earlier a b = cond (ltb (rank b) (rank a)) b a
-
--- document 01's number of a fault, 0 for none
-abbrev pub fault_number : Option Refusal → ℕ
-fault_number None = 0
-fault_number (Some r) = number_of r
 
 abbrev pub first_of : Option Refusal → Option Refusal → Option Refusal
 first_of a b = cond (ltb (rank (fault_number b)) (rank (fault_number a))) b a

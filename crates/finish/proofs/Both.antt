@@ -111,7 +111,7 @@ good : (ls ts : List ℕ) (w : ℕ) (s : State) → s.asm.closed ≡ false → s
 good ls ts w s c v e n r f =
     let x = join (numbers_sound s.labels ts) _ (fit_sound s.labels ts n) v in
     let y = join (numbers_fit s.labels ts) _ n (fits_is (length s.buf) s.asm w (length ts) r f) in
-    sym (v_good 0 _ _ _ _ c (λ z. omega arith) (λ z. omega arith) x refl e y)
+    sym (v_good 0 _ _ _ _ c x refl e y)
 
 abbrev pub Accepts : (tag : ℕ) → List Item → State → State → Type 0
 Accepts tag is s t = put tag 0 is s ≡ record { answer = accepted tt; state = t }

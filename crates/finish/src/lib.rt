@@ -3,7 +3,7 @@
 
 ghost use Rattle.std.specs.Prelude.{◌≡◌, ◌↔◌, Bool, true, false, cond, not, ℕ, ◌+◌, ◌-◌, ◌*◌, ◌≤◌, ◌<◌, eqb, length, get_or, EachIndex, IsTrue, slice_index};
 ghost use Rattle.std.proofs.Math.IntN.{sub_ℕ};
-ghost use Rattle.isa.specs.Immediate.{twos, lo as lo_part};
+ghost use Rattle.isa.specs.Immediate.{lo as lo_part};
 ghost use Rattle.isa.specs.Instr.{valid};
 ghost use Rattle.isa.specs.Encode.{encode};
 ghost use Rattle.encoder.specs.Answer.{word_answer, encoded};
@@ -16,7 +16,7 @@ ghost use Rattle.refusal.specs.Number.{number_of, fault_number};
 ghost use Rattle.finish.specs.Finish.{first, label_good, labels_good, jump_good, jump_number, patched, finish, finish_outcome};
 ghost use Rattle.finish.specs.Inner.Finish.{AllRight, Checked, Fit, IsFirst, has_fault, jump_of};
 
-use assembler::{Asm, Jumps, LABELS, Labels};
+use assembler::{Asm, JumpKind, Jumps, LABELS, Labels};
 use encoder::{Encoded, S2, T0, T2, ZERO};
 use refusal::{Refusal, Refused};
 
@@ -79,73 +79,6 @@ fn labels_good(labels: &Labels, len: usize) -> bool
 
 // ---- a jump's word
 
-// a - b modulo 2^32.
-fn twos_of(a: u32, b: u32) -> u32
-    ensures { result ≡ twos 32 (sub_ℕ a b) }
-{
-    if a < b {
-        return 4294967295 - (b - a - 1);
-    }
-    a - b
-}
-
-fn offset_of(a: u32, b: u32) -> i32
-    requires { (a ≤ room_limit) × (b ≤ room_limit) }
-    ensures { result ≡ sub_ℕ a b }
-{
-    let x = a as i32;
-    let y = b as i32;
-    x - y
-}
-
-// The second word of a pair stands 4 further.
-fn second(u: u32) -> i32
-    ensures { result ≡ lo_part (u + 4) }
-{
-    encoder::lo(u % 4096 + 4)
-}
-
-// The jump of kind k and register r from place b to place a.
-fn jump_encoded(k: u32, r: u32, a: u32, b: u32) -> Encoded
-    requires { (a ≤ room_limit) × (b ≤ room_limit) }
-    ensures { word_answer result ≡ encoded (jump_instr (kind_of k) r (sub_ℕ a b)) }
-{
-    let u = twos_of(a, b);
-    if k == 0 {
-        return encoder::auipc(T0, encoder::hi(u));
-    }
-    if k == 1 {
-        return encoder::ld(r, T0, second(u));
-    }
-    if k == 2 {
-        return encoder::jalr(r, T0, second(u));
-    }
-    if k == 3 {
-        return encoder::fld(r, T0, second(u));
-    }
-    let z = offset_of(a, b);
-    if k == 4 {
-        return encoder::beq(S2, ZERO, z);
-    }
-    encoder::bne(T2, ZERO, z)
-}
-
-fn reaches(k: u32, r: u32, a: u32, b: u32) -> bool
-    requires { (a ≤ room_limit) × (b ≤ room_limit) }
-    ensures { result ≡ valid (jump_instr (kind_of k) r (sub_ℕ a b)) }
-{
-    jump_encoded(k, r, a, b).is_ok()
-}
-
-fn word(k: u32, r: u32, a: u32, b: u32) -> u32
-    requires { (a ≤ room_limit) × (b ≤ room_limit) }
-    ensures { valid (jump_instr (kind_of k) r (sub_ℕ a b)) ≡ true → result ≡ encode (jump_instr (kind_of k) r (sub_ℕ a b)) }
-{
-    jump_encoded(k, r, a, b).unwrap_or(0)
-}
-
-// ---- all jumps looked at
-
 // A jump in its memory, which holds five numbers for each.
 #[derive(Clone, Copy)]
 struct Jump {
@@ -170,6 +103,46 @@ fn jump_at(jumps: &Jumps, i: usize) -> Jump
     }
 }
 
+// The second word of a pair stands 4 further.
+fn second(u: u32) -> i32
+    ensures { result ≡ lo_part (u + 4) }
+{
+    encoder::lo(u % 4096 + 4)
+}
+
+// The instruction of a jump whose label is at place a.
+fn jump_encoded(j: Jump, a: u32) -> Encoded
+    requires { (a ≤ room_limit) × (j.word ≤ room_limit) }
+    ensures { word_answer result ≡ encoded (jump_instr (kind_of j.kind) j.reg (sub_ℕ a j.word)) }
+{
+    let u = a.wrapping_sub(j.word);
+    let z = a as i32 - j.word as i32;
+    match JumpKind::try_from(j.kind).unwrap_or(JumpKind::Bne) {
+        JumpKind::Auipc => encoder::auipc(T0, encoder::hi(u)),
+        JumpKind::Ld => encoder::ld(j.reg, T0, second(u)),
+        JumpKind::Jalr => encoder::jalr(j.reg, T0, second(u)),
+        JumpKind::Fld => encoder::fld(j.reg, T0, second(u)),
+        JumpKind::Beq => encoder::beq(S2, ZERO, z),
+        JumpKind::Bne => encoder::bne(T2, ZERO, z),
+    }
+}
+
+fn reaches(j: Jump, a: u32) -> bool
+    requires { (a ≤ room_limit) × (j.word ≤ room_limit) }
+    ensures { result ≡ valid (jump_instr (kind_of j.kind) j.reg (sub_ℕ a j.word)) }
+{
+    jump_encoded(j, a).is_ok()
+}
+
+fn word(j: Jump, a: u32) -> u32
+    requires { (a ≤ room_limit) × (j.word ≤ room_limit) }
+    ensures { valid (jump_instr (kind_of j.kind) j.reg (sub_ℕ a j.word)) ≡ true → result ≡ encode (jump_instr (kind_of j.kind) j.reg (sub_ℕ a j.word)) }
+{
+    jump_encoded(j, a).unwrap_or(0)
+}
+
+// ---- all jumps looked at
+
 // Its word is in the code, and its numbers are such as there are.
 fn is_good_jump(j: Jump, len: usize) -> bool
     ensures { result ≡ jump_good len (jump_of j) }
@@ -190,7 +163,7 @@ fn fault(labels: &Labels, len: usize, j: Jump) -> Option<Refusal>
     if is_unset(e) {
         return Some(Refusal::Unset);
     }
-    if reaches(j.kind, j.reg, label_place(e), j.word) {
+    if reaches(j, label_place(e)) {
         None
     } else {
         Some(Refusal::Far)
@@ -277,8 +250,7 @@ fn write_jumps(buf: &mut [u8], labels: &Labels, jumps: &Jumps, n: usize, len: us
     for i in 0..n {
         let j = jump_at(jumps, i);
         let a = label_place(labels[j.label as usize]);
-        let w = word(j.kind, j.reg, a, j.word);
-        assembler::write_word(buf, j.word as usize, w);
+        assembler::write_words(buf, j.word as usize, &[word(j, a)]);
     }
 }
 

@@ -13,8 +13,8 @@ bounds-labels-j c =
     let a = c.args in
     (right a.labels.now a.len (jump_of c.jump_at-j.result) (ap (jump_number a.labels.now a.len) c.jump_at-j.ensures.0 ∙ c.requires.4 c.loop-i.i c.loop-i-test.true)).good.label
 
-pub word-w-requires : goal.word-w-requires
-word-w-requires c =
+pub word-requires : goal.word-requires
+word-requires c =
     let a = c.args in
     let j = jump_of c.jump_at-j.result in
     let g = (right a.labels.now a.len j (ap (jump_number a.labels.now a.len) c.jump_at-j.ensures.0 ∙ c.requires.4 c.loop-i.i c.loop-i-test.true)).good in
@@ -26,7 +26,7 @@ loop-i-preserved c =
     let a = c.args in
     let j = jump_of c.jump_at-j.result in
     let r = right a.labels.now a.len j (ap (jump_number a.labels.now a.len) c.jump_at-j.ensures.0 ∙ c.requires.4 c.loop-i.i c.loop-i-test.true) in
-    let e = one_word a.labels.now c.loop-i.buf a.len j r (omega (arith, c.loop-i.invariant.0)) _ _ _ c.label_place-a.ensures c.word-w.ensures c.write_word.ensures in
+    let e = one_word a.labels.now c.loop-i.buf a.len j r (omega (arith, c.loop-i.invariant.0)) _ _ _ c.label_place-a.ensures c.word.ensures c.write_words.ensures in
     let b = e ∙ ap (λ (i : Jump). written c.loop-i.buf i.word (jump_word a.labels.now i ∷ [])) c.jump_at-j.ensures.0 in
     let rest = jumps_of a.jumps.now (c.loop-i.i + 1) (a.n - (c.loop-i.i + 1)) in (
       ap length e ∙ length_written _ _ _ ∙ c.loop-i.invariant.0,
