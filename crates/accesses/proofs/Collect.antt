@@ -30,7 +30,7 @@ use Rattle.refusal.specs.declared.Refused.{Refused}
 use Rattle.machine.proofs.Placed.{Valids}
 use Rattle.isa.proofs.Validity.{Valid, Valid_valid, Valid_registers}
 use Rattle.assembler.specs.Plan.{no_words, pushed, plan_words}
-use Rattle.assembler.specs.declared.Fault.TheVariants as Fault
+use Rattle.std.proofs.Common.{None}
 use Rattle.assembler.specs.declared.Plan.{Plan}
 use Rattle.accesses.specs.Plans.{answer_of, pushes_from, pushes, plan_of}
 use Rattle.accesses.specs.Code.{low_op, li_code}
@@ -85,7 +85,7 @@ word i v = rw (Valid_registers i v, Valid_valid i v)
 -- a plan that holds the words ws, the first of its twelve
 record Holding (p : Plan) (ws : List ℕ) : Type 0 where
   n : p.n ≡ length ws
-  fault : p.fault ≡ Fault.Nothing
+  fault : p.fault ≡ None
   size : length p.w ≡ 12
   words : take (length ws) p.w ≡ ws
 
@@ -121,7 +121,7 @@ empty = record { n = refl; fault = refl; size = refl; words = refl }
 -- the plan holds the words of these instructions, and no fault
 pub record Built (p : Plan) (is : List Instr) : Type 0 where
   pub words : plan_words p ≡ map encode is
-  pub fault : p.fault ≡ Fault.Nothing
+  pub fault : p.fault ≡ None
 
 -- The plan of up to twelve valid instructions holds their words.
 pub built : (is : List Instr) → length is ≤ 12 → AllValid is → Built (plan_of is) is

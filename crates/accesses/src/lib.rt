@@ -15,8 +15,9 @@ ghost use Rattle.accesses.specs.Fault.{offset_limit, li_fault, access_fault, one
 ghost use Rattle.accesses.specs.Plans.{answer_of, word_of, pushes, plan_of, access_instr};
 ghost use Rattle.accesses.specs.Inner.Plans.{settled_plan, one_code, pair_code};
 
-use assembler::{Asm, EmitResult, Fault, Jumps, Labels, Plan, Tail};
+use assembler::{Assembler, Plan, Tail};
 use encoder::{Encoded, S5, SP, Sign, T0, ZERO};
+use refusal::{Refusal, Refused};
 
 // Offsets and stack sizes go to this.
 const LIMIT: u32 = 0x7FFFFFFF;
@@ -39,7 +40,7 @@ pub fn word(e: Encoded) -> u32
 pub fn one(a: Encoded) -> Plan
     ensures { result ≡ pushes (a ∷ []) }
 {
-    assembler::push(assembler::no_plan(), a)
+    Plan::new().push(a)
 }
 
 #[tactic(auto, unfolding(assembler::specs::Plan::pushed))]
@@ -49,11 +50,11 @@ pub fn two(a: Encoded, b: Encoded) -> Plan
     if let (Ok(x), Ok(y)) = (a, b) {
         return Plan {
             n: 2,
-            fault: Fault::Nothing,
+            fault: None,
             w: [x, y, 0, 0, 0, 0, 0, 0, 0, 0, 0, 0],
         };
     }
-    assembler::push(one(a), b)
+    one(a).push(b)
 }
 
 #[tactic(auto, unfolding(assembler::specs::Plan::pushed))]
@@ -63,12 +64,12 @@ pub fn four(a: Encoded, b: Encoded, c: Encoded, d: Encoded) -> Plan
     if let (Ok(x), Ok(y), Ok(z), Ok(u)) = (a, b, c, d) {
         return Plan {
             n: 4,
-            fault: Fault::Nothing,
+            fault: None,
             w: [x, y, z, u, 0, 0, 0, 0, 0, 0, 0, 0],
         };
     }
-    let p = assembler::push(two(a, b), c);
-    assembler::push(p, d)
+    let p = two(a, b).push(c);
+    p.push(d)
 }
 
 #[tactic(auto, unfolding(assembler::specs::Plan::pushed))]
@@ -78,11 +79,11 @@ pub fn five(a: Encoded, b: Encoded, c: Encoded, d: Encoded, e: Encoded) -> Plan
     if let (Ok(x), Ok(y), Ok(z), Ok(u), Ok(v)) = (a, b, c, d, e) {
         return Plan {
             n: 5,
-            fault: Fault::Nothing,
+            fault: None,
             w: [x, y, z, u, v, 0, 0, 0, 0, 0, 0, 0],
         };
     }
-    assembler::push(four(a, b, c, d), e)
+    four(a, b, c, d).push(e)
 }
 
 // ---- li
@@ -132,7 +133,7 @@ pub fn li_plan(d: u32, z: i32) -> Plan
 fn point(base: u32, n: u32) -> Plan
     ensures { result ≡ plan_of (point_code base n) }
 {
-    assembler::push(li_unsigned(T0, n), encoder::add(T0, T0, base))
+    li_unsigned(T0, n).push(encoder::add(T0, T0, base))
 }
 
 // The access `last` through t0 = base + n.
@@ -187,8 +188,8 @@ fn pair_plan(k: Cell, r: u32, base: u32, n: u32) -> Plan
             access_at(k, r + 1, base, (n + 8) as i32),
         );
     }
-    let p = assembler::push(point(base, n), access_at(k, r, T0, 0));
-    assembler::push(p, access_at(k, r + 1, T0, 8))
+    let p = point(base, n).push(access_at(k, r, T0, 0));
+    p.push(access_at(k, r + 1, T0, 8))
 }
 
 // ---- stack sizes
@@ -208,7 +209,7 @@ fn sub_stack_plan(n: u32) -> Plan
     if n < 2048 {
         return one(encoder::addi(SP, SP, minus(n)));
     }
-    assembler::push(li_plan(T0, minus(n)), encoder::add(SP, SP, T0))
+    li_plan(T0, minus(n)).push(encoder::add(SP, SP, T0))
 }
 
 fn add_stack_plan(n: u32) -> Plan
@@ -218,7 +219,7 @@ fn add_stack_plan(n: u32) -> Plan
     if n < 2048 {
         return one(encoder::addi(SP, SP, n as i32));
     }
-    assembler::push(li_unsigned(T0, n), encoder::add(SP, SP, T0))
+    li_unsigned(T0, n).push(encoder::add(SP, SP, T0))
 }
 
 fn allocate_stack_plan(n: u32) -> Plan
@@ -228,260 +229,165 @@ fn allocate_stack_plan(n: u32) -> Plan
     if n < 2048 {
         return two(encoder::addi(SP, SP, minus(n)), encoder::mv(S5, SP));
     }
-    let p = assembler::push(li_unsigned(T0, n), encoder::sub(SP, SP, T0));
-    assembler::push(p, encoder::mv(S5, SP))
+    let p = li_unsigned(T0, n).push(encoder::sub(SP, SP, T0));
+    p.push(encoder::mv(S5, SP))
 }
 
 // ---- placed: all words, or a refusal and nothing
 
 // The plan placed; or, where there is a fault, refused for that.
-fn settle(
-    fault: Fault,
-    p: Plan,
-    buf: &mut [u8],
-    labels: &mut Labels,
-    jumps: &mut Jumps,
-    asm: Asm,
-) -> EmitResult
-    ensures { after result labels jumps buf ≡ settled_plan (fault_number fault) p (before asm labels jumps buf) }
+#[tactic(auto, unfolding(crate::specs::Inner::Plans::settled_plan))]
+fn settle(asm: &mut Assembler<'_>, fault: Option<Refusal>, p: Plan) -> Result<(), Refused>
+    ensures { after result asm.new ≡ settled_plan (fault_number fault) p (before asm.old) }
 {
-    let k = assembler::fault_number(fault);
-    if k == 0 {
-        return assembler::place(p, Tail::Nothing, 0, buf, labels, jumps, asm);
+    match fault {
+        None => asm.place(p, Tail::Nothing, 0),
+        Some(_) => asm.place(
+            Plan {
+                fault,
+                ..Plan::new()
+            },
+            Tail::Nothing,
+            0,
+        ),
     }
-    let q = Plan {
-        n: 0,
-        fault,
-        w: [0u32; 12],
-    };
-    assembler::place(q, Tail::Nothing, 0, buf, labels, jumps, asm)
-}
-
-// For the plan of an operand above the limit, which is refused and not placed.
-fn at_most(limit: u32, n: u32) -> u32
-    ensures { result ≡ min n limit }
-{
-    if n <= limit { n } else { limit }
 }
 
 // What is refused of `li`: its register.
-fn li_refusal(d: u32) -> Fault
+fn li_refusal(d: u32) -> Option<Refusal>
     ensures { fault_number result ≡ li_fault d }
 {
     if d < 32 {
-        Fault::Nothing
+        None
     } else {
-        Fault::Register
+        Some(Refusal::Register)
     }
 }
 
 // For an access of one cell.
-fn one_refusal(r: u32, base: u32, n: u32) -> Fault
+fn one_refusal(r: u32, base: u32, n: u32) -> Option<Refusal>
     ensures { fault_number result ≡ one_fault r base n }
 {
     if r >= 32 {
-        return Fault::Register;
+        return Some(Refusal::Register);
     }
     access_refusal(2048, base, n)
 }
 
 // For an access of two cells.
-fn pair_refusal(r: u32, base: u32, n: u32) -> Fault
+fn pair_refusal(r: u32, base: u32, n: u32) -> Option<Refusal>
     ensures { fault_number result ≡ pair_fault r base n }
 {
     if r > LAST_PAIR {
-        return Fault::Register;
+        return Some(Refusal::Register);
     }
     access_refusal(2040, base, n)
 }
 
 // For the base and the offset of an access that is direct below `near`.
-fn access_refusal(near: u32, base: u32, n: u32) -> Fault
+fn access_refusal(near: u32, base: u32, n: u32) -> Option<Refusal>
     ensures { fault_number result ≡ access_fault near (ltb base 32) base n }
 {
     if base >= 32 {
-        return Fault::Register;
+        return Some(Refusal::Register);
     }
     if n > LIMIT {
-        return Fault::Value;
+        return Some(Refusal::Value);
     }
     if n < near {
-        return Fault::Nothing;
+        return None;
     }
     if base == T0 {
-        Fault::Base
+        Some(Refusal::Base)
     } else {
-        Fault::Nothing
+        None
     }
 }
 
-fn stack_refusal(n: u32) -> Fault
+fn stack_refusal(n: u32) -> Option<Refusal>
     ensures { fault_number result ≡ stack_fault n }
 {
     if n <= LIMIT {
-        Fault::Nothing
+        None
     } else {
-        Fault::Value
+        Some(Refusal::Value)
     }
 }
 
-pub fn li(
-    d: u32,
-    z: i32,
-    buf: &mut [u8],
-    labels: &mut Labels,
-    jumps: &mut Jumps,
-    asm: Asm,
-) -> EmitResult
-    ensures { after result labels jumps buf ≡ put 0 (li_fault d) (map instr (li_code d z)) (before asm labels jumps buf) }
+pub fn li(asm: &mut Assembler<'_>, d: u32, z: i32) -> Result<(), Refused>
+    ensures { after result asm.new ≡ put 0 (li_fault d) (map instr (li_code d z)) (before asm.old) }
 {
     let f = li_refusal(d);
-    settle(f, li_plan(d, z), buf, labels, jumps, asm)
+    settle(asm, f, li_plan(d, z))
 }
 
 // An access of one cell.
-fn place_one(
-    k: Cell,
-    r: u32,
-    base: u32,
-    n: u32,
-    buf: &mut [u8],
-    labels: &mut Labels,
-    jumps: &mut Jumps,
-    asm: Asm,
-) -> EmitResult
-    ensures { after result labels jumps buf ≡ put 0 (one_fault r base n) (map instr (one_code k r base n)) (before asm labels jumps buf) }
+fn place_one(asm: &mut Assembler<'_>, k: Cell, r: u32, base: u32, n: u32) -> Result<(), Refused>
+    ensures { after result asm.new ≡ put 0 (one_fault r base n) (map instr (one_code k r base n)) (before asm.old) }
 {
     let f = one_refusal(r, base, n);
-    settle(f, one_plan(k, r, base, n), buf, labels, jumps, asm)
+    settle(asm, f, one_plan(k, r, base, n))
 }
 
 // An access of two cells.
-fn place_pair(
-    k: Cell,
-    r: u32,
-    base: u32,
-    n: u32,
-    buf: &mut [u8],
-    labels: &mut Labels,
-    jumps: &mut Jumps,
-    asm: Asm,
-) -> EmitResult
-    ensures { after result labels jumps buf ≡ put 0 (pair_fault r base n) (map instr (pair_code k r base n)) (before asm labels jumps buf) }
+fn place_pair(asm: &mut Assembler<'_>, k: Cell, r: u32, base: u32, n: u32) -> Result<(), Refused>
+    ensures { after result asm.new ≡ put 0 (pair_fault r base n) (map instr (pair_code k r base n)) (before asm.old) }
 {
     let f = pair_refusal(r, base, n);
-    let p = pair_plan(k, at_most(LAST_PAIR, r), base, at_most(LIMIT, n));
-    settle(f, p, buf, labels, jumps, asm)
+    let p = pair_plan(k, r.min(LAST_PAIR), base, n.min(LIMIT));
+    settle(asm, f, p)
 }
 
-pub fn load_float(
-    d: u32,
-    base: u32,
-    n: u32,
-    buf: &mut [u8],
-    labels: &mut Labels,
-    jumps: &mut Jumps,
-    asm: Asm,
-) -> EmitResult
-    ensures { after result labels jumps buf ≡ put 0 (one_fault d base n) (map instr (load_float_code d base n)) (before asm labels jumps buf) }
+pub fn load_float(asm: &mut Assembler<'_>, d: u32, base: u32, n: u32) -> Result<(), Refused>
+    ensures { after result asm.new ≡ put 0 (one_fault d base n) (map instr (load_float_code d base n)) (before asm.old) }
 {
-    place_one(Cell::LoadFloat, d, base, n, buf, labels, jumps, asm)
+    place_one(asm, Cell::LoadFloat, d, base, n)
 }
 
-pub fn save_float(
-    s: u32,
-    base: u32,
-    n: u32,
-    buf: &mut [u8],
-    labels: &mut Labels,
-    jumps: &mut Jumps,
-    asm: Asm,
-) -> EmitResult
-    ensures { after result labels jumps buf ≡ put 0 (one_fault s base n) (map instr (save_float_code s base n)) (before asm labels jumps buf) }
+pub fn save_float(asm: &mut Assembler<'_>, s: u32, base: u32, n: u32) -> Result<(), Refused>
+    ensures { after result asm.new ≡ put 0 (one_fault s base n) (map instr (save_float_code s base n)) (before asm.old) }
 {
-    place_one(Cell::SaveFloat, s, base, n, buf, labels, jumps, asm)
+    place_one(asm, Cell::SaveFloat, s, base, n)
 }
 
-pub fn load_int(
-    d: u32,
-    base: u32,
-    n: u32,
-    buf: &mut [u8],
-    labels: &mut Labels,
-    jumps: &mut Jumps,
-    asm: Asm,
-) -> EmitResult
-    ensures { after result labels jumps buf ≡ put 0 (one_fault d base n) (map instr (load_int_code d base n)) (before asm labels jumps buf) }
+pub fn load_int(asm: &mut Assembler<'_>, d: u32, base: u32, n: u32) -> Result<(), Refused>
+    ensures { after result asm.new ≡ put 0 (one_fault d base n) (map instr (load_int_code d base n)) (before asm.old) }
 {
-    place_one(Cell::LoadInt, d, base, n, buf, labels, jumps, asm)
+    place_one(asm, Cell::LoadInt, d, base, n)
 }
 
-pub fn load_complex(
-    r: u32,
-    base: u32,
-    n: u32,
-    buf: &mut [u8],
-    labels: &mut Labels,
-    jumps: &mut Jumps,
-    asm: Asm,
-) -> EmitResult
-    ensures { after result labels jumps buf ≡ put 0 (pair_fault r base n) (map instr (load_complex_code r base n)) (before asm labels jumps buf) }
+pub fn load_complex(asm: &mut Assembler<'_>, r: u32, base: u32, n: u32) -> Result<(), Refused>
+    ensures { after result asm.new ≡ put 0 (pair_fault r base n) (map instr (load_complex_code r base n)) (before asm.old) }
 {
-    place_pair(Cell::LoadFloat, r, base, n, buf, labels, jumps, asm)
+    place_pair(asm, Cell::LoadFloat, r, base, n)
 }
 
-pub fn save_complex(
-    r: u32,
-    base: u32,
-    n: u32,
-    buf: &mut [u8],
-    labels: &mut Labels,
-    jumps: &mut Jumps,
-    asm: Asm,
-) -> EmitResult
-    ensures { after result labels jumps buf ≡ put 0 (pair_fault r base n) (map instr (save_complex_code r base n)) (before asm labels jumps buf) }
+pub fn save_complex(asm: &mut Assembler<'_>, r: u32, base: u32, n: u32) -> Result<(), Refused>
+    ensures { after result asm.new ≡ put 0 (pair_fault r base n) (map instr (save_complex_code r base n)) (before asm.old) }
 {
-    place_pair(Cell::SaveFloat, r, base, n, buf, labels, jumps, asm)
+    place_pair(asm, Cell::SaveFloat, r, base, n)
 }
 
-pub fn sub_stack(
-    n: u32,
-    buf: &mut [u8],
-    labels: &mut Labels,
-    jumps: &mut Jumps,
-    asm: Asm,
-) -> EmitResult
-    ensures { after result labels jumps buf ≡ put 0 (stack_fault n) (map instr (sub_stack_code n)) (before asm labels jumps buf) }
+pub fn sub_stack(asm: &mut Assembler<'_>, n: u32) -> Result<(), Refused>
+    ensures { after result asm.new ≡ put 0 (stack_fault n) (map instr (sub_stack_code n)) (before asm.old) }
 {
     let f = stack_refusal(n);
-    let p = sub_stack_plan(at_most(LIMIT, n));
-    settle(f, p, buf, labels, jumps, asm)
+    let p = sub_stack_plan(n.min(LIMIT));
+    settle(asm, f, p)
 }
 
-pub fn add_stack(
-    n: u32,
-    buf: &mut [u8],
-    labels: &mut Labels,
-    jumps: &mut Jumps,
-    asm: Asm,
-) -> EmitResult
-    ensures { after result labels jumps buf ≡ put 0 (stack_fault n) (map instr (add_stack_code n)) (before asm labels jumps buf) }
+pub fn add_stack(asm: &mut Assembler<'_>, n: u32) -> Result<(), Refused>
+    ensures { after result asm.new ≡ put 0 (stack_fault n) (map instr (add_stack_code n)) (before asm.old) }
 {
     let f = stack_refusal(n);
-    let p = add_stack_plan(at_most(LIMIT, n));
-    settle(f, p, buf, labels, jumps, asm)
+    let p = add_stack_plan(n.min(LIMIT));
+    settle(asm, f, p)
 }
 
-pub fn allocate_stack(
-    n: u32,
-    buf: &mut [u8],
-    labels: &mut Labels,
-    jumps: &mut Jumps,
-    asm: Asm,
-) -> EmitResult
-    ensures { after result labels jumps buf ≡ put 0 (stack_fault n) (map instr (allocate_stack_code n)) (before asm labels jumps buf) }
+pub fn allocate_stack(asm: &mut Assembler<'_>, n: u32) -> Result<(), Refused>
+    ensures { after result asm.new ≡ put 0 (stack_fault n) (map instr (allocate_stack_code n)) (before asm.old) }
 {
     let f = stack_refusal(n);
-    let p = allocate_stack_plan(at_most(LIMIT, n));
-    settle(f, p, buf, labels, jumps, asm)
+    let p = allocate_stack_plan(n.min(LIMIT));
+    settle(asm, f, p)
 }

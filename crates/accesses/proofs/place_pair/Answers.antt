@@ -7,4 +7,4 @@ use Rattle.accesses.proofs.place_pair.Goals as goal
 pub returns : goal.returns
 returns c =
     let a = c.args in
-    pair_as _ _ _ _ c.settle.ensures (pair_code a.k) a.r a.base a.n c.pair_refusal-f.ensures (pair_valid a.k a.r a.base a.n) (pair_length a.k a.r a.base a.n) c.at_most.ensures c.at_most-2.ensures c.pair_plan-p.ensures
+    pair_as _ _ _ _ c.settle.ensures (pair_code a.k) a.r a.base a.n c.pair_refusal-f.ensures (pair_valid a.k a.r a.base a.n) (pair_length a.k a.r a.base a.n) c.min.ensures c.min-2.ensures c.pair_plan-p.ensures

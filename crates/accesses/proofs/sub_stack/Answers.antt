@@ -8,4 +8,4 @@ use Rattle.accesses.proofs.sub_stack.Goals as goal
 pub returns : goal.returns
 returns c =
     let n = c.args.n in
-    stack_as _ _ _ _ c.settle.ensures sub_stack_code n c.stack_refusal-f.ensures (sub_stack_valid n) (omega (arith, sub_stack_length n)) c.at_most.ensures c.sub_stack_plan-p.ensures
+    stack_as _ _ _ _ c.settle.ensures sub_stack_code n c.stack_refusal-f.ensures (sub_stack_valid n) (omega (arith, sub_stack_length n)) c.min.ensures c.sub_stack_plan-p.ensures
