@@ -1,5 +1,6 @@
 -- How words are collected into a plan: what the encoder answers for each instruction, one after the other.
 use Rattle.std.specs.Prelude.{cond, List, [], ◌∷◌, map, ℕ, ℤ, Ok, Err}
+use Rattle.std.specs.Result.{result_unwrap_or}
 use Rattle.isa.specs.Instr.{Instr, I, S, LD, FLD, FSD, operands, registers_hold, valid}
 use Rattle.isa.specs.Encode.{encode}
 use Rattle.refusal.specs.declared.Refusal.TheVariants.{Register, Value}
@@ -13,9 +14,9 @@ use Rattle.accesses.specs.declared.Cell.TheVariants.{LoadFloat, SaveFloat, LoadI
 abbrev pub answer_of : Instr → Encoded
 answer_of i = cond (registers_hold (operands i)) (cond (valid i) (Ok (encode i)) (Err (record { why = Value; place = 0 }))) (Err (record { why = Register; place = 0 }))
 
+-- an answer's word, 0 where it is refused
 abbrev pub word_of : Encoded → ℕ
-word_of (Ok w) = w
-word_of (Err e) = 0
+word_of e = result_unwrap_or e 0
 
 abbrev pub pushes_from : Plan → List Encoded → Plan
 pushes_from p [] = p

@@ -12,7 +12,7 @@ ghost use Rattle.assembler.specs.Plan.{fault_number, pushed};
 ghost use Rattle.accesses.specs.Code.{low_op, li_code, point_code, load_float_code, save_float_code, load_int_code};
 ghost use Rattle.accesses.specs.Code.{load_complex_code, save_complex_code, sub_stack_code, add_stack_code, allocate_stack_code};
 ghost use Rattle.accesses.specs.Fault.{offset_limit, li_fault, access_fault, one_fault, pair_fault, stack_fault};
-ghost use Rattle.accesses.specs.Plans.{answer_of, word_of, pushes, plan_of, access_instr};
+ghost use Rattle.accesses.specs.Plans.{answer_of, pushes, plan_of, access_instr};
 ghost use Rattle.accesses.specs.Inner.Plans.{settled_plan, one_code, pair_code};
 
 use assembler::{Assembler, Plan, Tail};
@@ -29,13 +29,6 @@ const TOP: u32 = 0x7FFFF800;
 const LAST_PAIR: u32 = 30;
 
 // ---- plans of one to five words
-
-// The word, 0 where there is none.
-pub fn word(e: Encoded) -> u32
-    ensures { result ≡ word_of e }
-{
-    e.unwrap_or(0)
-}
 
 pub fn one(a: Encoded) -> Plan
     ensures { result ≡ pushes (a ∷ []) }

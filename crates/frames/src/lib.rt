@@ -95,9 +95,9 @@ fn used_word(r: u32, back: bool) -> u32
 {
     let n = 8 * ast::save_cell(r);
     if back {
-        return accesses::word(encoder::fld(r, STACK, n as i32));
+        return encoder::fld(r, STACK, n as i32).unwrap_or(0);
     }
-    accesses::word(encoder::fsd(r, STACK, n as i32))
+    encoder::fsd(r, STACK, n as i32).unwrap_or(0)
 }
 
 // How many registers a mask saves: its ones among the bits of f8, f9 and f18..f27.

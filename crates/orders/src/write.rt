@@ -45,7 +45,7 @@ fn put_one(buf: &mut [u8], len: usize, a: Encoded) -> usize
     ensures { (result ≡ len + 4) × ((i : Instr) → Is a i → PutCode (i ∷ []) len buf result) }
 {
     let end = len + 4;
-    assembler::write_word(&mut buf[len..end], 0, accesses::word(a));
+    assembler::write_word(&mut buf[len..end], 0, a.unwrap_or(0));
     end
 }
 
@@ -70,10 +70,10 @@ fn put_four(buf: &mut [u8], len: usize, a: Encoded, b: Encoded, c: Encoded, d: E
     ensures { (result ≡ len + 16)
         × ((i j k l : Instr) → Is a i → Is b j → Is c k → Is d l → PutCode (i ∷ j ∷ k ∷ l ∷ []) len buf result) }
 {
-    let w = accesses::word(a);
-    let x = accesses::word(b);
-    let y = accesses::word(c);
-    let z = accesses::word(d);
+    let w = a.unwrap_or(0);
+    let x = b.unwrap_or(0);
+    let y = c.unwrap_or(0);
+    let z = d.unwrap_or(0);
     let end = len + 16;
     assembler::write_four(&mut buf[len..end], 0, w, x, y, z);
     end

@@ -184,7 +184,7 @@ fn pad(n: usize, buf: &mut [u8], labels: &mut Labels, jumps: &mut Jumps, asm: As
     if asm.len % 8 == 0 {
         return accepted(asm);
     }
-    assembler::append_word(accesses::word(encoder::nop()), buf, labels, jumps, asm)
+    assembler::append_word(encoder::nop().unwrap_or(0), buf, labels, jumps, asm)
 }
 
 // The constant of the line that starts at `place`; 0 where there is none.

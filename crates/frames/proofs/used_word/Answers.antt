@@ -27,7 +27,7 @@ returns-then-back c =
     let valid : Valid (reload c.args.r) × Valid (save c.args.r) = (omega (arith, small, c.save_cell-n.ensures.0), omega (arith, small, c.save_cell-n.ensures.0)) in
     let r = c.args.r in
     let e = answered_at c.fld.result (λ (z : ℤ). I FLD r 21 z) c.fld.ensures near in
-    rw c.if-back.true (told-word (reload r) valid.0 c.fld.result _ e c.word.ensures)
+    rw c.if-back.true (told-word (reload r) valid.0 c.fld.result _ e c.unwrap_or.ensures)
 
 pub returns : goal.returns
 returns c =
@@ -36,4 +36,4 @@ returns c =
     let valid : Valid (reload c.args.r) × Valid (save c.args.r) = (omega (arith, small, c.save_cell-n.ensures.0), omega (arith, small, c.save_cell-n.ensures.0)) in
     let r = c.args.r in
     let e = answered_at c.fsd.result (λ (z : ℤ). S FSD 21 r z) c.fsd.ensures near in
-    rw c.if-back.false (told-word (save r) valid.1 c.fsd.result _ e c.word-2.ensures)
+    rw c.if-back.false (told-word (save r) valid.1 c.fsd.result _ e c.unwrap_or-2.ensures)

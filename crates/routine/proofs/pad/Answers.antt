@@ -25,4 +25,4 @@ pub returns : goal.returns
 returns c =
     let at-start : State = let a = c.args in state a.asm a.labels.now a.jumps.now a.buf.now in
     c.append_word.ensures
-    ∙ word_placed c.word.result at-start c.args.n (nop_word c.nop.result c.word.result c.nop.ensures c.word.ensures) (omega (arith, c.if-n-eq0.false)) c.if-asm-eq0.false
+    ∙ word_placed c.unwrap_or.result at-start c.args.n (nop_word c.nop.result c.unwrap_or.result c.nop.ensures c.unwrap_or.ensures) (omega (arith, c.if-n-eq0.false)) c.if-asm-eq0.false

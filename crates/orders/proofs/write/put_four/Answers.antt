@@ -8,10 +8,10 @@ use Rattle.orders.proofs.write.put_four.Goals as goal
 pub returns : goal.returns
 returns c =
     let a = c.args in
-    let ws = c.word-w.result ∷ c.word-x.result ∷ c.word-y.result ∷ c.word-z.result ∷ [] in (
+    let ws = c.unwrap_or-w.result ∷ c.unwrap_or-x.result ∷ c.unwrap_or-y.result ∷ c.unwrap_or-z.result ∷ [] in (
       refl,
       λ i j k l p q r t.
           wrote a.buf.now a.len ws (i ∷ j ∷ k ∷ l ∷ [])
-          (word_is a.a i c.word-w.ensures p, (word_is a.b j c.word-x.ensures q, (word_is a.c k c.word-y.ensures r, (word_is a.d l c.word-z.ensures t, tt))))
+          (word_is a.a i c.unwrap_or-w.ensures p, (word_is a.b j c.unwrap_or-x.ensures q, (word_is a.c k c.unwrap_or-y.ensures r, (word_is a.d l c.unwrap_or-z.ensures t, tt))))
           (part_written a.buf.now a.len ws (a.len + 16 - a.len) (omega arith) (omega arith) c.requires c.write_four.ensures, refl),
     )

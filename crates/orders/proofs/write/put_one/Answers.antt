@@ -9,6 +9,6 @@ pub returns : goal.returns
 returns c =
     let a = c.args in (
       refl,
-      λ i h. wrote a.buf.now a.len (c.word.result ∷ []) (i ∷ []) (word_is a.a i c.word.ensures h, tt)
-          (part_written a.buf.now a.len (c.word.result ∷ []) (a.len + 4 - a.len) (omega arith) (omega arith) c.requires c.write_word.ensures, refl),
+      λ i h. wrote a.buf.now a.len (c.unwrap_or.result ∷ []) (i ∷ []) (word_is a.a i c.unwrap_or.ensures h, tt)
+          (part_written a.buf.now a.len (c.unwrap_or.result ∷ []) (a.len + 4 - a.len) (omega arith) (omega arith) c.requires c.write_word.ensures, refl),
     )
