@@ -1,7 +1,7 @@
 pub mod Parts
 pub mod Then
 pub mod LoadImmediate
-pub mod Access
+pub mod Direct
 pub mod Stack
 pub mod Runs
 pub mod Claims

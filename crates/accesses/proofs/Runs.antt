@@ -24,7 +24,7 @@ use Rattle.accesses.specs.declared.Cell.TheVariants.{LoadFloat, SaveFloat, LoadI
 use Rattle.accesses.specs.Stands.{Stands, Goes, behind, cell_at, one_cell, two_cells, Accessible, AccessLeaves, Misses, with_t0}
 use Rattle.accesses.proofs.Then.{valids_join}
 use Rattle.accesses.proofs.LoadImmediate.{li_valid}
-use Rattle.accesses.proofs.Access.{Accepted, accepted, access_runs, load_float_direct, load_int_direct, save_float_direct, load_pair_direct, save_pair_direct}
+use Rattle.accesses.proofs.Direct.{Accepted, accepted, access_runs, load_float_direct, load_int_direct, save_float_direct, load_pair_direct, save_pair_direct}
 
 -- ---- validity
 

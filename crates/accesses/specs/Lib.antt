@@ -10,3 +10,5 @@ pub mod Claims
 pub mod Plans
 -- what only private functions promise
 pub mod Inner
+-- what each access does to the assembler's state
+pub mod Accessed

@@ -13,6 +13,7 @@ ghost use Rattle.accesses.specs.Code.{low_op, li_code, point_code, load_float_co
 ghost use Rattle.accesses.specs.Code.{load_complex_code, save_complex_code, sub_stack_code, add_stack_code, allocate_stack_code};
 ghost use Rattle.accesses.specs.Fault.{offset_limit, li_fault, access_fault, one_fault, pair_fault, stack_fault};
 ghost use Rattle.accesses.specs.Plans.{answer_of, pushes, plan_of, access_instr};
+ghost use Rattle.accesses.specs.Accessed.{accessed};
 ghost use Rattle.accesses.specs.Inner.Plans.{settled_plan, one_code, pair_code};
 
 use assembler::{Assembler, Plan, Tail};
@@ -383,4 +384,36 @@ pub fn allocate_stack(asm: &mut Assembler<'_>, n: u32) -> Result<(), Refused>
     let f = stack_refusal(n);
     let p = allocate_stack_plan(n.min(LIMIT));
     settle(asm, f, p)
+}
+
+// ---- any access
+
+// Register and value; register, base and offset; a size.
+#[derive(Clone, Copy)]
+pub enum Access {
+    Li(u32, i32),
+    LoadFloat(u32, u32, u32),
+    SaveFloat(u32, u32, u32),
+    LoadInt(u32, u32, u32),
+    LoadComplex(u32, u32, u32),
+    SaveComplex(u32, u32, u32),
+    SubStack(u32),
+    AddStack(u32),
+    AllocateStack(u32),
+}
+
+pub fn lay_access(asm: &mut Assembler<'_>, a: Access) -> Result<(), Refused>
+    ensures { after result asm.new ≡ accessed a (before asm.old) }
+{
+    match a {
+        Access::Li(d, z) => li(asm, d, z),
+        Access::LoadFloat(d, base, n) => load_float(asm, d, base, n),
+        Access::SaveFloat(s, base, n) => save_float(asm, s, base, n),
+        Access::LoadInt(d, base, n) => load_int(asm, d, base, n),
+        Access::LoadComplex(r, base, n) => load_complex(asm, r, base, n),
+        Access::SaveComplex(r, base, n) => save_complex(asm, r, base, n),
+        Access::SubStack(n) => sub_stack(asm, n),
+        Access::AddStack(n) => add_stack(asm, n),
+        Access::AllocateStack(n) => allocate_stack(asm, n),
+    }
 }

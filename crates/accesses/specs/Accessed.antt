@@ -8,9 +8,9 @@ use Rattle.assembler.specs.Put.{put}
 use Rattle.accesses.specs.Code.{li_code, load_float_code, save_float_code, load_int_code, load_complex_code, save_complex_code}
 use Rattle.accesses.specs.Code.{sub_stack_code, add_stack_code, allocate_stack_code}
 use Rattle.accesses.specs.Fault.{li_fault, one_fault, pair_fault, stack_fault}
-use Rattle.asm_mut.specs.declared.Access.{Access}
-use Rattle.asm_mut.specs.declared.Access.TheVariants.{Li, LoadFloat, SaveFloat, LoadInt, LoadComplex, SaveComplex}
-use Rattle.asm_mut.specs.declared.Access.TheVariants.{SubStack, AddStack, AllocateStack}
+use Rattle.accesses.specs.declared.Access.{Access}
+use Rattle.accesses.specs.declared.Access.TheVariants.{Li, LoadFloat, SaveFloat, LoadInt, LoadComplex, SaveComplex}
+use Rattle.accesses.specs.declared.Access.TheVariants.{SubStack, AddStack, AllocateStack}
 
 abbrev straight : (fault : ℕ) → List Instr → State → Outcome
 straight fault is = put 0 fault (map instr is)
