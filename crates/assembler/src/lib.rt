@@ -37,7 +37,7 @@ pub type Labels = [u64; LABELS];
 pub type Jumps = [u32; JUMPS];
 
 // An entry of label memory: its low half has the label's place and 1, or 0; its high half the number of jumps to it.
-const HALF: u64 = 0x100000000;
+pub const HALF: u64 = 0x100000000;
 
 // What finishing writes for a jump: `auipc` t0; `ld`, `jalr` or `fld` through t0; `beq` s2, zero; `bne` t2, zero.
 // The number is the one in jump memory.
