@@ -1,5 +1,6 @@
 -- An order as its words and the jumps behind them, and the refusal of an operand, if one is refused.
-use Rattle.std.specs.Prelude.{Bool, true, ◌&&◌, cond, List, [], ◌∷◌, ◌++◌, map, ℕ, ◌+◌, min, ltb, get_or, take, set, replicate, Option, Some, None}
+use Rattle.std.specs.Prelude.{Bool, cond, List, [], ◌∷◌, ◌++◌, map, ℕ, ◌+◌, min, ltb, get_or, take, set, replicate, Option, Some, None}
+use Rattle.base.specs.Tests.{all}
 use Rattle.refusal.specs.Number.{number_of}
 use Rattle.refusal.specs.declared.Refusal.{Refusal}
 use Rattle.refusal.specs.declared.Refusal.TheVariants.{Register, Value, Label, Twice, Unset, Far, Full, Closed, Count, Base, Unsaved, Line}
@@ -94,8 +95,7 @@ pushed p (Refused r place) = faulty p (refusal_fault r)
 -- ---- labels that a whole would set
 
 abbrev pub all_labels : List ℕ → Bool
-all_labels [] = true
-all_labels (l ∷ ls) = ltb l label_limit && all_labels ls
+all_labels ls = all (λ l. ltb l label_limit) ls
 
 -- their fault: 2 where one is above 2,038
 abbrev pub sets_fault : List ℕ → ℕ
