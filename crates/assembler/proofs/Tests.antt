@@ -1,6 +1,6 @@
 -- Tests and what they say. Assumes nothing.
-use mathlib.Core.Path.{◌≡◌, refl, sym}
-use mathlib.Core.Bool.{Bool, true, false, ◌||◌, or-true}
+use mathlib.Core.Path.{ap, ◌≡◌, refl, sym}
+use mathlib.Core.Bool.{Bool, true, false, ◌&&◌, ◌||◌, or-true}
 use mathlib.Core.List.{List, [], ◌∷◌}
 use Prim.Native.Nat.{ℕ, ◌≤◌}
 use native.Mathlib.Omega.{arith}
@@ -12,8 +12,8 @@ use Rattle.refusal.specs.declared.Refusal.{Refusal}
 use Rattle.refusal.specs.Number.{number_of}
 use Rattle.assembler.specs.Label.{is_set}
 use Rattle.assembler.specs.Put.{twice}
-use Rattle.std.specs.List.{list_any}
-use Rattle.base.specs.Tests.{member}
+use Rattle.std.specs.List.{list_any, list_all}
+use Rattle.base.specs.Tests.{all, member}
 
 pub no : {A : Type 0} → false ≡ true → A
 no e = let z : ◌≡◌ {A = ℕ} 0 1 = cc in absurd (omega arith)
@@ -57,6 +57,11 @@ module _ (m rest : List ℕ) (l : ℕ) (behind : List ℕ) (e : rest ≡ l ∷ b
   pub twice_next : is_set (get_or m l 0) ≡ false → list_any (λ k. eqb k l) behind ≡ false → twice m rest ≡ twice m behind
   unfolding twice
   twice_next h g = rw (e, h, ← member_any l behind, g)
+
+-- `all` of a list of labels
+pub list_all_is : (p : ℕ → Bool) (ls : List ℕ) → list_all p ls ≡ all p ls
+list_all_is p [] = refl
+list_all_is p (l ∷ ls) = ap (λ (b : Bool). p l && b) (list_all_is p ls)
 
 -- ---- floats
 

@@ -1,5 +1,6 @@
 -- An order as its words and the jumps behind them, and the refusal of an operand, if one is refused.
-use Rattle.std.specs.Prelude.{Bool, true, ◌&&◌, cond, List, [], ◌∷◌, ◌++◌, map, ℕ, ◌+◌, min, ltb, get_or, take, set, replicate, Option, Some, None, Result, Ok, Err}
+use Rattle.std.specs.Prelude.{Bool, cond, List, [], ◌∷◌, ◌++◌, map, ℕ, ◌+◌, min, ltb, get_or, take, set, replicate, Option, Some, None, Result, Ok, Err}
+use Rattle.base.specs.Tests.{all}
 use Rattle.refusal.specs.Number.{number_of}
 pub use Rattle.refusal.specs.Number.{fault_number}
 use Rattle.refusal.specs.declared.Refusal.{Refusal}
@@ -89,8 +90,7 @@ pushed p (Err e) = faulty p (refusal_fault e.why)
 -- ---- labels that a whole would set
 
 abbrev pub all_labels : List ℕ → Bool
-all_labels [] = true
-all_labels (l ∷ ls) = ltb l label_limit && all_labels ls
+all_labels ls = all (λ l. ltb l label_limit) ls
 
 -- their fault: 2 where one is above 2,038
 abbrev pub sets_fault : List ℕ → ℕ

@@ -37,7 +37,7 @@ pub type Labels = [u64; LABELS];
 pub type Jumps = [u32; JUMPS];
 
 // An entry of label memory: its low half has the label's place and 1, or 0; its high half the number of jumps to it.
-const HALF: u64 = 0x100000000;
+pub const HALF: u64 = 0x100000000;
 
 // What finishing writes for a jump: `auipc` t0; `ld`, `jalr` or `fld` through t0; `beq` s2, zero; `bne` t2, zero.
 // The number is the one in jump memory.
@@ -188,24 +188,15 @@ fn number_holds(labels: &Labels, n: usize, l: u32) -> bool
 fn numbers_sound(labels: &Labels, goes: &[u32]) -> bool
     ensures { result ≡ numbers_sound labels.now goes.now }
 {
-    for l in goes {
-        if !number_holds(labels, 0, *l) {
-            return false;
-        }
-    }
-    true
+    goes.iter().all(|l| number_holds(labels, 0, *l))
 }
 
 // Each is a label whose number, with these jumps, is at most 4,096.
 fn numbers_fit(labels: &Labels, goes: &[u32]) -> bool
     ensures { result ≡ numbers_fit labels.now goes.now }
 {
-    for l in goes {
-        if !number_holds(labels, times(*l, goes), *l) {
-            return false;
-        }
-    }
-    true
+    goes.iter()
+        .all(|l| number_holds(labels, times(*l, goes), *l))
 }
 
 // One of the labels is set, or comes twice.
@@ -257,9 +248,9 @@ fn fault_for(r: Refusal) -> Option<Refusal>
     ensures { result ≡ refusal_fault r }
 {
     match r {
-        Refusal::Twice | Refusal::Unset | Refusal::Far => Some(Refusal::Value),
-        Refusal::Full | Refusal::Closed | Refusal::Line => Some(Refusal::Value),
-        _ => Some(r),
+        Refusal::Register | Refusal::Label => Some(r),
+        Refusal::Count | Refusal::Base | Refusal::Unsaved => Some(r),
+        _ => Some(Refusal::Value),
     }
 }
 
@@ -267,10 +258,7 @@ fn fault_for(r: Refusal) -> Option<Refusal>
 fn is_early(why: Refusal) -> bool
     ensures { result ≡ eqb (number_of why) 1 || eqb (number_of why) 3 }
 {
-    match why {
-        Refusal::Register | Refusal::Label => true,
-        _ => false,
-    }
+    matches!(why, Refusal::Register | Refusal::Label)
 }
 
 // A jump's register.
@@ -293,16 +281,20 @@ fn tail_fault(t: Tail) -> Option<Refusal>
     }
 }
 
-// Whether these are labels.
+fn are_labels(sets: &[u32]) -> bool
+    ensures { result ≡ all_labels sets.now }
+{
+    sets.iter().all(|l| (*l as usize) < LABELS)
+}
+
 fn sets_fault(sets: &[u32]) -> Option<Refusal>
     ensures { fault_number result ≡ sets_fault sets.now }
 {
-    for l in sets {
-        if LABELS <= *l as usize {
-            return Some(Refusal::Value);
-        }
+    if are_labels(sets) {
+        None
+    } else {
+        Some(Refusal::Value)
     }
-    None
 }
 
 // ---- the record

@@ -12,8 +12,11 @@ use lib.ListN.{length, get_or, set, length-append}
 use lib.Seq.{sets}
 use Rattle.base.specs.Tests.{member}
 use Rattle.base.proofs.Bools.{or_false}
+use Rattle.refusal.specs.Answer.{accepted}
+use Rattle.assembler.specs.State.{sound}
+use Rattle.assembler.specs.declared.Asm.{Asm}
 use Rattle.assembler.specs.Label.{made}
-use Rattle.unused.specs.Unused.{is_unused, passing, numbers_good}
+use Rattle.unused.specs.Unused.{is_unused, passing, numbers_good, unused_in, listed}
 use Rattle.unused.specs.Laws.{Rises, Rising, Exact}
 
 -- ---- the numbers of all labels
@@ -151,8 +154,8 @@ module _ (t : ℕ → Bool) (out₀ out : List ℕ) (i k : ℕ) (w : Written t i
       let f : passing t 0 (i + 1) ≡ passing t 0 i = rw (add-one i, from_suc t 0 i, zero-add, e) (append-nil (passing t 0 i)) in
       rw f w
 
-  pub all_written : (n : ℕ) → i ≡ n → Written t n out₀ out k
-  all_written n e = rw (← e) w
+-- ---- the list itself, where it is not refused
 
-  pub room_left : k ≤ i
-  room_left = omega (arith, from_short t 0 i)
+pub is_list : (m : List ℕ) (a : Asm) → a.closed ≡ true → sound 65536 a ≡ true → numbers_good m 0 2039 ≡ true → listed m a ≡ accepted (unused_in m)
+unfolding listed
+is_list m a c s g = rw (s, g, c)

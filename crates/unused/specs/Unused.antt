@@ -1,15 +1,14 @@
 -- Labels nobody jumps to (document 02, point 2): the list of them, from label memory and the record.
-use Rattle.std.specs.Prelude.{Bool, true, ◌&&◌, cond, List, [], ◌∷◌, ℕ, zero, suc, ◌+◌, leb, eqb, length, get_or}
+use Rattle.std.specs.Prelude.{Bool, true, ◌&&◌, cond, List, [], ◌∷◌, ℕ, zero, suc, ◌+◌, leb, eqb, length, get_or, Result}
 use Rattle.std.proofs.lemmas.List.Edits.{sets}
-use Rattle.refusal.specs.Answer.{Answer, accepted, refused}
+use Rattle.refusal.specs.Answer.{Answer, accepted, refused, answer_of_result}
 use Rattle.refusal.specs.Number.{number_of}
 use Rattle.refusal.specs.declared.Refusal.TheVariants.{Value}
+use Rattle.refusal.specs.declared.Refused.{Refused}
 use Rattle.assembler.specs.Limit.{room_limit, label_limit, jump_limit}
 use Rattle.assembler.specs.Label.{is_set, made}
 use Rattle.assembler.specs.State.{sound}
 use Rattle.assembler.specs.declared.Asm.{Asm}
-use Rattle.unused.specs.declared.Unused.{Unused}
-use Rattle.unused.specs.declared.Unused.TheVariants.{Labels, Refused}
 
 -- a set label "whose number is 0", by its entry
 abbrev pub is_unused : ℕ → Bool
@@ -39,9 +38,8 @@ listed memory a =
 -- ---- what the function answers of it, and leaves
 
 -- number and place of each answer, or how many labels there are
-abbrev pub unused_answer : Unused → Answer ℕ
-unused_answer (Labels n) = accepted n
-unused_answer (Refused r place) = refused (number_of r) place
+abbrev pub unused_answer : Result ℕ Refused → Answer ℕ
+unused_answer r = answer_of_result r
 
 abbrev pub counted : Answer (List ℕ) → Answer ℕ
 counted (accepted ls) = accepted (length ls)

@@ -6,30 +6,14 @@ ghost use Rattle.std.proofs.lemmas.List.Edits.{sets};
 ghost use Rattle.assembler.specs.Limit.{label_limit};
 ghost use Rattle.unused.specs.Unused.{is_unused, unused_in, numbers_good, listed, unused_answer, counted, put_list};
 
-use assembler::{Asm, LABELS, Labels, ROOM};
-use refusal::Refusal;
-
-// An entry's high half counts jumps from here on.
-const JUMP: u64 = 4294967296;
-
-// No finish accepts a number above this.
-const MOST: u64 = 4096;
-
-// How many labels are listed, or the refusal.
-#[derive(Clone, Copy)]
-pub enum Unused {
-    Labels(u32),
-    Refused(Refusal, u32),
-}
+use assembler::{Asm, HALF, JUMP_LIMIT, LABELS, Labels, ROOM};
+use refusal::{Refusal, Refused};
 
 // The label is set, and its number is 0.
 fn is_unused(e: u64) -> bool
     ensures { result ≡ is_unused e }
 {
-    if e % JUMP == 0 {
-        return false;
-    }
-    e / JUMP == 0
+    e % HALF != 0 && e / HALF == 0
 }
 
 // Whether every number is one that a finish accepts.
@@ -37,12 +21,10 @@ fn is_unused(e: u64) -> bool
 fn numbers_good(labels: &Labels) -> bool
     ensures { result ≡ numbers_good labels.now 0 label_limit }
 {
-    let mut i = 0;
-    while i < LABELS {
-        if labels[i] / JUMP > MOST {
+    for e in labels {
+        if *e / HALF > JUMP_LIMIT as u64 {
             return false;
         }
-        i += 1;
     }
     true
 }
@@ -53,33 +35,27 @@ fn put_list(labels: &Labels, out: &mut [u32; LABELS]) -> u32
         × (result ≡ length (unused_in labels.now)) }
 {
     let mut k = 0;
-    let mut i = 0;
-    while i < LABELS {
-        let l = i;
-        i += 1;
-        if !is_unused(labels[l]) {
-            continue;
+    for (l, e) in labels.iter().enumerate() {
+        if is_unused(*e) {
+            out[k] = l as u32;
+            k += 1;
         }
-        out[k] = l as u32;
-        k += 1;
     }
     k as u32
 }
 
-// The labels that are set and that no jump goes to, in rising order, into `out`, whose entries behind them stay.
+// How many labels are set that no jump goes to; they go in rising order into `out`, whose entries behind them stay.
 // Refused by 2 unless the record is closed, and it and the numbers are such as an accepted finish leaves.
-pub fn unused_labels(labels: &Labels, asm: Asm, out: &mut [u32; LABELS]) -> Unused
+#[tactic(auto, unfolding(crate::specs::Unused::listed))]
+pub fn unused_labels(labels: &Labels, asm: Asm, out: &mut [u32; LABELS]) -> Result<u32, Refused>
     ensures { (unused_answer result ≡ counted (listed labels.now asm))
         × (out.new ≡ put_list (listed labels.now asm) out.old) }
 {
-    if !asm.closed {
-        return Unused::Refused(Refusal::Value, 0);
+    if !asm.closed || !assembler::is_sound(ROOM, asm) || !numbers_good(labels) {
+        return Err(Refused {
+            why: Refusal::Value,
+            place: 0,
+        });
     }
-    if !assembler::is_sound(ROOM, asm) {
-        return Unused::Refused(Refusal::Value, 0);
-    }
-    if !numbers_good(labels) {
-        return Unused::Refused(Refusal::Value, 0);
-    }
-    Unused::Labels(put_list(labels, out))
+    Ok(put_list(labels, out))
 }

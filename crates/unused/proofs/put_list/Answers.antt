@@ -1,39 +1,18 @@
 use mathlib.Core.Path.{sym, ◌∙◌}
-use Prim.Native.Nat.{◌≤◌}
 use native.Mathlib.Omega.{arith}
-use Rattle.unused.proofs.From.{none_written, one_written, same_written, room_left}
+use Rattle.unused.proofs.From.{none_written, one_written, same_written}
 use Rattle.unused.proofs.put_list.Invariants.{unused-at}
 use Rattle.unused.proofs.put_list.Goals as goal
+use Rattle.unused.proofs.put_list.Goals.{then-is_unused, else-is_unused}
 
-pub loop-i-init : goal.loop-i-init
-loop-i-init c = (omega arith, none_written (unused-at c.args.labels.now) c.args.out.now)
+pub loop-l-init : goal.loop-l-init
+loop-l-init c = (none_written (unused-at c.args.labels.now) c.args.out.now, omega arith)
 
-pub loop-i-preserved-then-not-is_unused : goal.loop-i-preserved-then-not-is_unused
-loop-i-preserved-then-not-is_unused c =
-    let a = c.args in
-    (omega arith, same_written (unused-at a.labels.now) a.out.now c.loop-i.out c.loop-i.i c.loop-i.k c.loop-i.invariant.1 (sym c.is_unused.ensures ∙ c.if-not-is_unused.true))
-
-pub offset_bounds-out-k : goal.offset_bounds-out-k
-offset_bounds-out-k c =
-    let room : c.loop-i.k ≤ c.loop-i.i = let a = c.args in room_left (unused-at a.labels.now) a.out.now c.loop-i.out c.loop-i.i c.loop-i.k c.loop-i.invariant.1 in
-    omega (arith, room)
-
-pub bounds-out-k : goal.bounds-out-k
-bounds-out-k c =
-    let room : c.loop-i.k ≤ c.loop-i.i = let a = c.args in room_left (unused-at a.labels.now) a.out.now c.loop-i.out c.loop-i.i c.loop-i.k c.loop-i.invariant.1 in
-    omega (arith, room)
-
-pub overflow_add-k : goal.overflow_add-k
-overflow_add-k c =
-    let room : c.loop-i.k ≤ c.loop-i.i = let a = c.args in room_left (unused-at a.labels.now) a.out.now c.loop-i.out c.loop-i.i c.loop-i.k c.loop-i.invariant.1 in
-    omega (arith, room)
-
-pub loop-i-preserved : goal.loop-i-preserved
-loop-i-preserved c =
-    let a = c.args in
-    (omega arith, one_written (unused-at a.labels.now) a.out.now c.loop-i.out c.loop-i.i c.loop-i.k c.loop-i.invariant.1 (sym c.is_unused.ensures ∙ c.if-not-is_unused.false))
-
-pub overflow_cast-result : goal.overflow_cast-result
-overflow_cast-result c =
-    let room : c.loop-i.k ≤ c.loop-i.i = let a = c.args in room_left (unused-at a.labels.now) a.out.now c.loop-i.out c.loop-i.i c.loop-i.k c.loop-i.invariant.1 in
-    omega (arith, room)
+pub loop-l-preserved : goal.loop-l-preserved
+loop-l-preserved c =
+    let t = unused-at c.args.labels.now in
+    let i = c.loop-l in
+    elim c.if-is_unused.branch [
+      | then-is_unused w ↦ (rw (w.out-is, w.k-is) (one_written t c.args.out.now i.out i.l i.k i.invariant.0 (sym c.is_unused.ensures ∙ w.if-is_unused.true)), omega (arith, w.k-is, i.invariant.1))
+      | else-is_unused w ↦ (rw (w.out-is, w.k-is) (same_written t c.args.out.now i.out i.l i.k i.invariant.0 (sym c.is_unused.ensures ∙ w.if-is_unused.false)), omega (arith, w.k-is, i.invariant.1))
+    ]
