@@ -355,7 +355,7 @@ pub fn split(z: i32) -> Sign
     }
 }
 
-// An immediate's bits in a field of -half..half - 1, in two's complement, or that the field does not hold it.
+// An immediate's bits in a field of -half..half - 1, in two's complement; refused where the field does not hold it.
 fn signed_field(imm: i32, half: u32) -> Encoded
     requires { half ≤ 1048576 }
     ensures { word_answer result ≡ signed_field half (sign_of imm) }
