@@ -117,19 +117,14 @@ fn first_label(labels: &Labels, len: usize) -> usize
 fn twos_of(a: u32, b: u32) -> u32
     ensures { result ≡ twos 32 (sub_ℕ a b) }
 {
-    if a < b {
-        return 4294967295 - (b - a - 1);
-    }
-    a - b
+    a.wrapping_sub(b)
 }
 
 fn offset_of(a: u32, b: u32) -> i32
     requires { (a ≤ room_limit) × (b ≤ room_limit) }
     ensures { result ≡ sub_ℕ a b }
 {
-    let x = a as i32;
-    let y = b as i32;
-    x - y
+    a.cast_signed() - b.cast_signed()
 }
 
 // The second word of a pair stands 4 further.
@@ -145,23 +140,14 @@ fn jump_encoded(k: u32, r: u32, a: u32, b: u32) -> Encoded
     ensures { word_answer result ≡ encoded (jump_instr (kind_of k) r (sub_ℕ a b)) }
 {
     let u = twos_of(a, b);
-    if k == 0 {
-        return encoder::auipc(T0, encoder::hi(u));
+    match k {
+        0 => encoder::auipc(T0, encoder::hi(u)),
+        1 => encoder::ld(r, T0, second(u)),
+        2 => encoder::jalr(r, T0, second(u)),
+        3 => encoder::fld(r, T0, second(u)),
+        4 => encoder::beq(S2, ZERO, offset_of(a, b)),
+        _ => encoder::bne(T2, ZERO, offset_of(a, b)),
     }
-    if k == 1 {
-        return encoder::ld(r, T0, second(u));
-    }
-    if k == 2 {
-        return encoder::jalr(r, T0, second(u));
-    }
-    if k == 3 {
-        return encoder::fld(r, T0, second(u));
-    }
-    let z = offset_of(a, b);
-    if k == 4 {
-        return encoder::beq(S2, ZERO, z);
-    }
-    encoder::bne(T2, ZERO, z)
 }
 
 fn reaches(k: u32, r: u32, a: u32, b: u32) -> bool
