@@ -2,7 +2,7 @@
 // dots in a name become underscores, and `fadd.d` with a rounding mode is `fadd_d_rm`. `addiw`, which `rvv!` lacks, is document 02's.
 #![tactic(auto)]
 
-ghost use Rattle.std.specs.Prelude.{◌≡◌, cond, true, ◌≤◌, ◌<◌, T, pos, negsuc, get_or, [], ◌∷◌};
+ghost use Rattle.std.specs.Prelude.{◌≡◌, ◌+◌, ◌*◌, ◌/◌, ◌%◌, cond, true, ◌≤◌, ◌<◌, T, pos, negsuc, get_or, [], ◌∷◌};
 ghost use Rattle.refusal.specs.Answer.{answer_of_result, accepted, refused};
 ghost use Rattle.refusal.specs.Number.{number_of};
 ghost use Rattle.encoder.specs.Answer.{word_answer, encoded};
@@ -355,20 +355,18 @@ pub fn split(z: i32) -> Sign
     }
 }
 
-// An immediate's bits in a field of -half..half - 1, in two's complement, or that the field does not hold it.
+// An immediate's bits in a field of -half..half - 1, in two's complement; refused where the field does not hold it.
 fn signed_field(imm: i32, half: u32) -> Encoded
     requires { half ≤ 1048576 }
     ensures { word_answer result ≡ signed_field half (sign_of imm) }
 {
     match split(imm) {
-        Sign::NonNeg(n) => {
-            demand(n < half, Refusal::Value)?;
-            Ok(n)
-        }
-        Sign::Neg(n) => {
-            demand(n < half, Refusal::Value)?;
-            Ok(half + half - 1 - n)
-        }
+        Sign::NonNeg(n) if n < half => Ok(n),
+        Sign::Neg(n) if n < half => Ok(half + half - 1 - n),
+        _ => Err(Refused {
+            why: Refusal::Value,
+            place: 0,
+        }),
     }
 }
 
@@ -486,15 +484,21 @@ fn stype(op: usize, rs1: u32, rs2: u32, imm: i32) -> Encoded
     Ok(pack(base(S_ROWS + op), n % 32, 0, rs1, rs2, n / 32))
 }
 
+// An offset's bits 1 to 4 and 11, which branches and jumps have in one field.
+fn low_field(n: u32) -> u32
+    ensures { result ≡ n / 2 % 16 * 2 + n / 2048 % 2 }
+{
+    n / 2 % 16 * 2 + n / 2048 % 2
+}
+
 fn btype(op: usize, rs1: u32, rs2: u32, imm: i32) -> Encoded
     requires { op < 6 }
     ensures { word_answer result ≡ encoded (B (get_or b_ops op BEQ) rs1 rs2 imm) }
 {
     registers(rs1, rs2, 0, 0)?;
     let n = offset_field(imm, 4096)?;
-    let low = n / 2 % 16 * 2 + n / 2048 % 2;
     let high = n / 4096 * 64 + n / 32 % 64;
-    Ok(pack(base(B_ROWS + op), low, 0, rs1, rs2, high))
+    Ok(pack(base(B_ROWS + op), low_field(n), 0, rs1, rs2, high))
 }
 
 fn utype(op: usize, rd: u32, imm: i32) -> Encoded
@@ -519,14 +523,13 @@ fn jtype(op: usize, rd: u32, imm: i32) -> Encoded
 {
     registers(rd, 0, 0, 0)?;
     let n = offset_field(imm, 1048576)?;
-    let middle = n / 2 % 16 * 2 + n / 2048 % 2;
     let high = n / 1048576 * 64 + n / 32 % 64;
     Ok(pack(
         base(J_ROWS + op),
         rd,
         n / 4096 % 8,
         n / 32768 % 32,
-        middle,
+        low_field(n),
         high,
     ))
 }

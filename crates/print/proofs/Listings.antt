@@ -84,6 +84,10 @@ module _ (constants o w : ℕ) where
   unfolding listing_line
   instr_at i h e = rw (lt-ltb o constants h, e)
 
+  pub instr_own : (i : Instr) → o < constants → decode w ≡ some i → foreign constants o w ≡ false
+  unfolding foreign
+  instr_own i h e = rw (lt-ltb o constants h, e)
+
   pub no_line : o < constants → decode w ≡ none → listing_line constants o w ≡ []
   unfolding listing_line
   no_line h e = rw (lt-ltb o constants h, e)

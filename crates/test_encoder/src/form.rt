@@ -1,30 +1,89 @@
 // The forms of `rvv!` by their number in the list, in the Rust's order; behind them `addiw`, which document 02 adds.
 use encoder::Encoded;
-use refusal::Refusal;
 
-// What no row expects: a refusal at a place that is not 0.
-pub(crate) fn unknown() -> Encoded {
-    Encoded::Refused(Refusal::Line, 1)
-}
+// Their names, in the same order, filled up to ten bytes.
+const NAMES: [&[u8; 10]; 68] = [
+    b"add       ",
+    b"mv        ",
+    b"sub       ",
+    b"neg       ",
+    b"and       ",
+    b"or        ",
+    b"xor       ",
+    b"sll       ",
+    b"srl       ",
+    b"sra       ",
+    b"addi      ",
+    b"nop       ",
+    b"andi      ",
+    b"ori       ",
+    b"xori      ",
+    b"not       ",
+    b"slli      ",
+    b"srli      ",
+    b"srai      ",
+    b"ld        ",
+    b"sd        ",
+    b"beq       ",
+    b"bne       ",
+    b"blt       ",
+    b"ble       ",
+    b"bgt       ",
+    b"bge       ",
+    b"bltu      ",
+    b"bgeu      ",
+    b"jal       ",
+    b"j         ",
+    b"jalr      ",
+    b"jr        ",
+    b"ret       ",
+    b"lui       ",
+    b"auipc     ",
+    b"fadd_d    ",
+    b"fadd_d_rm ",
+    b"fsub_d    ",
+    b"fmul_d    ",
+    b"fdiv_d    ",
+    b"fsqrt_d   ",
+    b"fsgnj_d   ",
+    b"fsgnjn_d  ",
+    b"fsgnjx_d  ",
+    b"fmin_d    ",
+    b"fmax_d    ",
+    b"feq_d     ",
+    b"flt_d     ",
+    b"fle_d     ",
+    b"fgt_d     ",
+    b"fge_d     ",
+    b"fld       ",
+    b"fsd       ",
+    b"fabs_d    ",
+    b"fmv_d     ",
+    b"fneg_d    ",
+    b"fcvt_w_d  ",
+    b"fcvt_d_w  ",
+    b"fcvt_l_d  ",
+    b"fcvt_d_l  ",
+    b"fmv_x_d   ",
+    b"fmv_d_x   ",
+    b"fmadd_d   ",
+    b"fmsub_d   ",
+    b"fnmadd_d  ",
+    b"fnmsub_d  ",
+    b"addiw     ",
+];
 
-// The name is the form's in a list of names, ten bytes each, that starts with the name of form `first`.
-fn named(names: &[u8], first: u32, form: u32, name: &[u8]) -> bool {
-    if form < first {
-        return false;
+// The form has this name.
+fn is_named(form: u32, name: &[u8]) -> bool {
+    match NAMES.get(form as usize) {
+        Some(own) => own.as_slice() == name,
+        None => false,
     }
-    if names.len() < 10 {
-        return false;
-    }
-    let at = (form - first) as usize * 10;
-    if at > names.len() - 10 {
-        return false;
-    }
-    &names[at..at + 10] == name
 }
 
 // Whole-number arithmetic on registers.
-fn arithmetic(form: u32, a: u32, b: u32, c: u32) -> Encoded {
-    match form {
+fn arithmetic(form: u32, a: u32, b: u32, c: u32) -> Option<Encoded> {
+    let answer = match form {
         0x00 => encoder::add(a, b, c),
         0x01 => encoder::mv(a, b),
         0x02 => encoder::sub(a, b, c),
@@ -35,14 +94,15 @@ fn arithmetic(form: u32, a: u32, b: u32, c: u32) -> Encoded {
         0x07 => encoder::sll(a, b, c),
         0x08 => encoder::srl(a, b, c),
         0x09 => encoder::sra(a, b, c),
-        _ => unknown(),
-    }
+        _ => return None,
+    };
+    Some(answer)
 }
 
 // Whole-number arithmetic with an immediate, `ld` and `sd`.
-fn immediate(form: u32, a: u32, b: u32, c: u32) -> Encoded {
+fn immediate(form: u32, a: u32, b: u32, c: u32) -> Option<Encoded> {
     let z = test_rows::signed(c);
-    match form {
+    let answer = match form {
         0x0a => encoder::addi(a, b, z),
         0x0b => encoder::nop(),
         0x0c => encoder::andi(a, b, z),
@@ -55,14 +115,15 @@ fn immediate(form: u32, a: u32, b: u32, c: u32) -> Encoded {
         0x13 => encoder::ld(a, b, z),
         0x14 => encoder::sd(a, b, z),
         0x43 => encoder::addiw(a, b, z),
-        _ => unknown(),
-    }
+        _ => return None,
+    };
+    Some(answer)
 }
 
 // Branches.
-fn branch(form: u32, a: u32, b: u32, c: u32) -> Encoded {
+fn branch(form: u32, a: u32, b: u32, c: u32) -> Option<Encoded> {
     let z = test_rows::signed(c);
-    match form {
+    let answer = match form {
         0x15 => encoder::beq(a, b, z),
         0x16 => encoder::bne(a, b, z),
         0x17 => encoder::blt(a, b, z),
@@ -71,13 +132,14 @@ fn branch(form: u32, a: u32, b: u32, c: u32) -> Encoded {
         0x1a => encoder::bge(a, b, z),
         0x1b => encoder::bltu(a, b, z),
         0x1c => encoder::bgeu(a, b, z),
-        _ => unknown(),
-    }
+        _ => return None,
+    };
+    Some(answer)
 }
 
 // Jumps and upper immediates.
-fn jump(form: u32, a: u32, b: u32, c: u32) -> Encoded {
-    match form {
+fn jump(form: u32, a: u32, b: u32, c: u32) -> Option<Encoded> {
+    let answer = match form {
         0x1d => encoder::jal(a, test_rows::signed(b)),
         0x1e => encoder::j(test_rows::signed(a)),
         0x1f => encoder::jalr(a, b, test_rows::signed(c)),
@@ -85,13 +147,14 @@ fn jump(form: u32, a: u32, b: u32, c: u32) -> Encoded {
         0x21 => encoder::ret(),
         0x22 => encoder::lui(a, test_rows::signed(b)),
         0x23 => encoder::auipc(a, test_rows::signed(b)),
-        _ => unknown(),
-    }
+        _ => return None,
+    };
+    Some(answer)
 }
 
 // Float arithmetic, sign injection, minimum and maximum.
-fn float(form: u32, a: u32, b: u32, c: u32, d: u32) -> Encoded {
-    match form {
+fn float(form: u32, a: u32, b: u32, c: u32, d: u32) -> Option<Encoded> {
+    let answer = match form {
         0x24 => encoder::fadd_d(a, b, c),
         0x25 => encoder::fadd_d_rm(a, b, c, d),
         0x26 => encoder::fsub_d(a, b, c),
@@ -103,13 +166,14 @@ fn float(form: u32, a: u32, b: u32, c: u32, d: u32) -> Encoded {
         0x2c => encoder::fsgnjx_d(a, b, c),
         0x2d => encoder::fmin_d(a, b, c),
         0x2e => encoder::fmax_d(a, b, c),
-        _ => unknown(),
-    }
+        _ => return None,
+    };
+    Some(answer)
 }
 
 // Comparisons, `fld`, `fsd` and moves between float registers.
-fn compare(form: u32, a: u32, b: u32, c: u32) -> Encoded {
-    match form {
+fn compare(form: u32, a: u32, b: u32, c: u32) -> Option<Encoded> {
+    let answer = match form {
         0x2f => encoder::feq_d(a, b, c),
         0x30 => encoder::flt_d(a, b, c),
         0x31 => encoder::fle_d(a, b, c),
@@ -120,13 +184,14 @@ fn compare(form: u32, a: u32, b: u32, c: u32) -> Encoded {
         0x36 => encoder::fabs_d(a, b),
         0x37 => encoder::fmv_d(a, b),
         0x38 => encoder::fneg_d(a, b),
-        _ => unknown(),
-    }
+        _ => return None,
+    };
+    Some(answer)
 }
 
 // Conversions, moves of bits and the fused.
-fn convert(form: u32, a: u32, b: u32, c: u32, d: u32) -> Encoded {
-    match form {
+fn convert(form: u32, a: u32, b: u32, c: u32, d: u32) -> Option<Encoded> {
+    let answer = match form {
         0x39 => encoder::fcvt_w_d(a, b),
         0x3a => encoder::fcvt_d_w(a, b),
         0x3b => encoder::fcvt_l_d(a, b, c),
@@ -137,71 +202,15 @@ fn convert(form: u32, a: u32, b: u32, c: u32, d: u32) -> Encoded {
         0x40 => encoder::fmsub_d(a, b, c, d),
         0x41 => encoder::fnmadd_d(a, b, c, d),
         0x42 => encoder::fnmsub_d(a, b, c, d),
-        _ => unknown(),
-    }
+        _ => return None,
+    };
+    Some(answer)
 }
 
-// The number is that of a whole-number form, and the name is its name.
-fn whole_number(form: u32, name: &[u8]) -> bool {
-    match form {
-        0x00..=0x09 => named(
-            b"add       mv        sub       neg       and       or        xor       sll       srl       sra       ",
-            0x00,
-            form,
-            name,
-        ),
-        0x0a..=0x14 => named(
-            b"addi      nop       andi      ori       xori      not       slli      srli      srai      ld        sd        ",
-            0x0a,
-            form,
-            name,
-        ),
-        0x15..=0x1c => named(
-            b"beq       bne       blt       ble       bgt       bge       bltu      bgeu      ",
-            0x15,
-            form,
-            name,
-        ),
-        0x1d..=0x23 => named(
-            b"jal       j         jalr      jr        ret       lui       auipc     ",
-            0x1d,
-            form,
-            name,
-        ),
-        0x43 => named(b"addiw     ", 0x43, form, name),
-        _ => false,
-    }
-}
-
-// The number is that of a float form, and the name is its name.
-fn floating(form: u32, name: &[u8]) -> bool {
-    match form {
-        0x24..=0x2e => named(
-            b"fadd_d    fadd_d_rm fsub_d    fmul_d    fdiv_d    fsqrt_d   fsgnj_d   fsgnjn_d  fsgnjx_d  fmin_d    fmax_d    ",
-            0x24,
-            form,
-            name,
-        ),
-        0x2f..=0x38 => named(
-            b"feq_d     flt_d     fle_d     fgt_d     fge_d     fld       fsd       fabs_d    fmv_d     fneg_d    ",
-            0x2f,
-            form,
-            name,
-        ),
-        0x39..=0x42 => named(
-            b"fcvt_w_d  fcvt_d_w  fcvt_l_d  fcvt_d_l  fmv_x_d   fmv_d_x   fmadd_d   fmsub_d   fnmadd_d  fnmsub_d  ",
-            0x39,
-            form,
-            name,
-        ),
-        _ => false,
-    }
-}
-
-// The encoder's answer to a form and its operands.
-pub(crate) fn encoded(form: u32, name: &[u8], a: u32, b: u32, c: u32, d: u32) -> Encoded {
-    if !whole_number(form, name) && !floating(form, name) {
-        return unknown();
+// The encoder's answer to a form and its operands, where the form is one and has this name.
+pub(crate) fn encoded(form: u32, name: &[u8], a: u32, b: u32, c: u32, d: u32) -> Option<Encoded> {
+    if !is_named(form, name) {
+        return None;
     }
     match form {
         0x00..=0x09 => arithmetic(form, a, b, c),
@@ -210,7 +219,6 @@ pub(crate) fn encoded(form: u32, name: &[u8], a: u32, b: u32, c: u32, d: u32) ->
         0x1d..=0x23 => jump(form, a, b, c),
         0x24..=0x2e => float(form, a, b, c, d),
         0x2f..=0x38 => compare(form, a, b, c),
-        0x39..=0x42 => convert(form, a, b, c, d),
-        _ => unknown(),
+        _ => convert(form, a, b, c, d),
     }
 }

@@ -14,84 +14,65 @@ use test_rows::{Hex, Outcome, Tally};
 // Bytes of a row.
 const ROW: usize = 66;
 
-// What a row expects of the encoder.
-#[derive(Clone, Copy)]
-enum Expected {
-    Word(u32),
-    Refused(u32),
-    Malformed,
-}
-
-fn expectation(s: &[u8]) -> Expected {
+// What a row expects of the encoder: a word, or a refusal's number. None where the row cannot be read.
+fn expectation(s: &[u8]) -> Option<Result<u32, u32>> {
     if s.len() != ROW {
-        return Expected::Malformed;
+        return None;
     }
     let Hex::Is(n) = test_rows::column(s, 57, 65, b'\n') else {
-        return Expected::Malformed;
+        return None;
     };
     let kind = &s[49..57];
     if kind == b"word    ".as_slice() {
-        return Expected::Word(n);
+        return Some(Ok(n));
     }
     if kind == b"refused ".as_slice() {
-        return Expected::Refused(n);
+        return Some(Err(n));
     }
-    Expected::Malformed
+    None
 }
 
 // The encoder's answer is the one that the row expects: the same word, or the same refusal at place 0.
-fn agrees(got: Encoded, e: Expected) -> bool
-    ensures { result ≡ agreed e got }
+fn agrees(got: Encoded, expected: Result<u32, u32>) -> bool
+    ensures { result ≡ agreed expected got }
 {
-    match e {
-        Expected::Word(n) => match got {
-            Encoded::Word(w) => w == n,
-            Encoded::Refused(_, _) => false,
-        },
-        Expected::Refused(n) => match got {
-            Encoded::Word(_) => false,
-            Encoded::Refused(why, place) => if place == 0 {
-                refusal::number(why) as u32 == n
-            } else {
-                false
-            },
-        },
-        Expected::Malformed => false,
+    match (expected, got) {
+        (Ok(n), Ok(w)) => w == n,
+        (Err(n), Err(e)) => e.place == 0 && u32::from(refusal::number(e.why)) == n,
+        _ => false,
     }
 }
 
-// The encoder's answer to a row's form and operands. A row that cannot be read is no form's. (The name, with the space behind it, is
-// compared whole.)
-fn answer(s: &[u8]) -> Encoded {
+// The encoder's answer to a row's form and operands, where the row can be read. (The name, with the space behind it, is compared whole.)
+fn answer(s: &[u8]) -> Option<Encoded> {
     let Hex::Is(f) = test_rows::column(s, 0, 2, b' ') else {
-        return form::unknown();
+        return None;
     };
     let Hex::Is(a) = test_rows::column(s, 13, 21, b' ') else {
-        return form::unknown();
+        return None;
     };
     let Hex::Is(b) = test_rows::column(s, 22, 30, b' ') else {
-        return form::unknown();
+        return None;
     };
     let Hex::Is(c) = test_rows::column(s, 31, 39, b' ') else {
-        return form::unknown();
+        return None;
     };
     let Hex::Is(d) = test_rows::column(s, 40, 48, b' ') else {
-        return form::unknown();
+        return None;
     };
     if s.len() < 13 {
-        return form::unknown();
+        return None;
     }
     form::encoded(f, &s[3..13], a, b, c, d)
 }
 
 fn outcome(s: &[u8]) -> Outcome {
-    let got = answer(s);
-    if !agrees(got, expectation(s)) {
-        return Outcome::Mismatch;
-    }
-    match got {
-        Encoded::Word(_) => Outcome::Accepted,
-        Encoded::Refused(_, _) => Outcome::Refused,
+    match (expectation(s), answer(s)) {
+        (Some(expected), Some(got)) if agrees(got, expected) => match expected {
+            Ok(_) => Outcome::Accepted,
+            Err(_) => Outcome::Refused,
+        },
+        _ => Outcome::Mismatch,
     }
 }
 

@@ -18,10 +18,10 @@ pub pack-requires : goal.pack-requires
 pack-requires c =
     let a = c.args in
     let m = offset13 a.imm c.ranges.imm c.in_ok-n.ensures in
-    small_value _ (a.rs1 ∷ a.rs2 ∷ []) (offset 13 a.imm) refl refl c.in_ok-registers.ensures m.0 _ (word_B _ _ c.requires c.base.ensures _ _ _ _ m.1)
+    rw c.low_field.ensures (small_value _ (a.rs1 ∷ a.rs2 ∷ []) (offset 13 a.imm) refl refl c.in_ok-registers.ensures m.0 _ (word_B _ _ c.requires c.base.ensures _ _ _ _ m.1))
 
 pub returns : goal.returns
 returns c =
     let a = c.args in
     let m = offset13 a.imm c.ranges.imm c.in_ok-n.ensures in
-    good_value _ (a.rs1 ∷ a.rs2 ∷ []) (offset 13 a.imm) refl refl c.in_ok-registers.ensures m.0 _ (c.pack.ensures ∙ word_B _ _ c.requires c.base.ensures _ _ _ _ m.1)
+    good_value _ (a.rs1 ∷ a.rs2 ∷ []) (offset 13 a.imm) refl refl c.in_ok-registers.ensures m.0 _ (rw c.low_field.ensures at c.pack.ensures ∙ word_B _ _ c.requires c.base.ensures _ _ _ _ m.1)
