@@ -21,15 +21,15 @@ use Rattle.routine.specs.declared.RoutineAnswer.{RoutineAnswer}
 use Rattle.routine.specs.declared.RoutineAnswer.TheVariants.{Accepted, Refused}
 use Rattle.routine.specs.Answer.{routine_answer}
 use Rattle.print.specs.Text.{Puts, le_word, words_of, hex, word_line, word_lines, refusal_line}
-use Rattle.print.specs.declared.Text.{Text}
+use Rattle.print.specs.declared.TooLong.{TooLong}
 use Rattle.print.proofs.Short.{words_short, refusal_short}
 use Rattle.answer.specs.Answer.{answer_text, program_text, deck_text}
 
 -- the promise, and the bound
-abbrev pub Tells : (text : List ℕ) → (code out : List ℕ) → Text → (after : List ℕ) → Type 0
+abbrev pub Tells : (text : List ℕ) → (code out : List ℕ) → Result ℕ TooLong → (after : List ℕ) → Type 0
 Tells text code out r after = Puts text 0 out r after × (length code ≤ 65536 → length text ≤ 245760)
 
-module _ (a : RoutineAnswer) (code out after : List ℕ) (r : Text) where
+module _ (a : RoutineAnswer) (code out after : List ℕ) (r : Result ℕ TooLong) where
   pub words_told : (l o k j : ℕ) (f : Frame) → a ≡ Accepted l o k j f → Puts (word_lines 0 (words_of (take l code))) 0 out r after → Tells (answer_text (routine_answer a) code) code out r after
   words_told l o k j f e p =
       let n = length-take l code in
@@ -95,5 +95,5 @@ module _ (file buf after : List ℕ) (full : length buf ≡ 65536) where
   unfolding deck_text
   listed t p = rw (← full, p.0) (of_program (program_of (length buf) file) p.1)
 
-  pub deck_told : (t : Answer Summary) (r : Text) (out left : List ℕ) → length after ≡ length buf → Promise file buf t after → Tells (answer_text t after) after out r left → Puts (deck_text file) 0 out r left × (length (deck_text file) ≤ 245760)
+  pub deck_told : (t : Answer Summary) (r : Result ℕ TooLong) (out left : List ℕ) → length after ≡ length buf → Promise file buf t after → Tells (answer_text t after) after out r left → Puts (deck_text file) 0 out r left × (length (deck_text file) ≤ 245760)
   deck_told t r out left n p q = rw (← listed t p) (q.0, q.1 (omega arith))

@@ -29,7 +29,7 @@ use Rattle.correctness.proofs.Correct.{program, answered, told, code_left, exten
 use Rattle.print.specs.Text.{Puts, words_of, refusal_line}
 use Rattle.print.specs.Listing.{foreign, listing_lines, view_lines}
 use Rattle.print.specs.Inner.Text.{word_in}
-use Rattle.print.specs.declared.Text.{Text}
+use Rattle.print.specs.declared.TooLong.{TooLong}
 use Rattle.print.proofs.Short.{refusal_short}
 use Rattle.print.proofs.Brief.{listing_short}
 use Rattle.print.proofs.Listings.{first_from, no_first, first_behind, data_own, instr_own, views_length, all_shown}
@@ -139,14 +139,14 @@ module _ (v : View) (file buf after : List ℕ) (full : length buf ≡ 65536) wh
   unfolding deck_view
   deck_viewed t h = program_viewed t h ∙ ap (λ (n : ℕ). program_view v (program_of n file)) full
 
-  pub deck_told : (t : Answer Summary) (r : Text) (out left : List ℕ) → length after ≡ length buf → Promise file buf t after → Says (summary_view (hidden_by v file) t after) after out r left
+  pub deck_told : (t : Answer Summary) (r : Result ℕ TooLong) (out left : List ℕ) → length after ≡ length buf → Promise file buf t after → Says (summary_view (hidden_by v file) t after) after out r left
       → Puts (deck_view v file) 0 out r left × (t ≡ summary_answer (program_of 65536 file)) × (length (deck_view v file) ≤ 475136)
   deck_told t r out left n h q =
       let e = deck_viewed t h in
       (rw (← e) q.0, h.0 ∙ ap (λ (k : ℕ). summary_answer (program_of k file)) full, rw (← e) (q.1 (omega arith)))
 
 -- `marks` says of each constant what `hidden` does
-module _ (hidden : ℕ → Bool) (a : RoutineAnswer) (code out after : List ℕ) (r : Text) where
+module _ (hidden : ℕ → Bool) (a : RoutineAnswer) (code out after : List ℕ) (r : Result ℕ TooLong) where
   pub part_said : (marks : ℕ → Bool) (l o k j : ℕ) (f : Frame) → a ≡ Accepted l o k j f → ((i : ℕ) → marks i ≡ hidden i) → Puts (view_lines marks o 0 (words_of (take l code))) 0 out r after → Says (summary_view hidden (routine_answer a) code) code out r after
   part_said marks l o k j f e s p =
       let n = length-take l code in

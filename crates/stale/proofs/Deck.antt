@@ -11,7 +11,7 @@ use Rattle.refusal.specs.declared.Refusal.{Refusal}
 use Rattle.ast.specs.declared.Frame.{Frame}
 use Rattle.assembler.specs.declared.Asm.{Asm}
 use Rattle.print.specs.Text.{refusal_line, Puts}
-use Rattle.print.specs.declared.Text.{Text}
+use Rattle.print.specs.declared.TooLong.{TooLong}
 use Rattle.reading.specs.Program.{Program}
 use Rattle.routine.specs.Routine.{program_of, summary_answer}
 use Rattle.routine.specs.Answer.{routine_answer, run_outcome}
@@ -35,10 +35,10 @@ module _ (file m : List ℕ) (asm : Asm) (a : RoutineAnswer) where
     pub accepted_within : Within (routine_answer a) file → length file ≤ 65536
     accepted_within w = rw e at w
 
-    pub accepted_said : (out after : List ℕ) (r : Text) → Says (memory_text file m asm) out r after → Says (summary_text (routine_answer a) file m asm) out r after
+    pub accepted_said : (out after : List ℕ) (r : Result ℕ TooLong) → Says (memory_text file m asm) out r after → Says (summary_text (routine_answer a) file m asm) out r after
     accepted_said out after r s = rw e s
 
-  pub refusal_said : (why : Refusal) (line n : ℕ) → a ≡ Refused why line → n ≡ number_of why → n < 256 → line < 2 ^ 32 → (out after : List ℕ) (r : Text) → Puts (refusal_line n line) 0 out r after → Says (summary_text (routine_answer a) file m asm) out r after
+  pub refusal_said : (why : Refusal) (line n : ℕ) → a ≡ Refused why line → n ≡ number_of why → n < 256 → line < 2 ^ 32 → (out after : List ℕ) (r : Result ℕ TooLong) → Puts (refusal_line n line) 0 out r after → Says (summary_text (routine_answer a) file m asm) out r after
   refusal_said why line n e h x y out after r p = rw (e, ← h) (p, refusal_short n line x y)
 
 -- ---- of a file
@@ -69,7 +69,7 @@ module _ (file js b : List ℕ) (wide : length js ≡ 20480) (full : length b �
     pub is_within : Within (routine_answer r.answer) file
     is_within = rw answer_is (within (program_of 65536 file) refl)
 
-    pub deck_told : (out after : List ℕ) (t : Text) → Says (summary_text (routine_answer r.answer) file labels r.asm) out t after
+    pub deck_told : (out after : List ℕ) (t : Result ℕ TooLong) → Says (summary_text (routine_answer r.answer) file labels r.asm) out t after
         → Puts (deck_labels file) 0 out t after × (routine_answer r.answer ≡ summary_answer (program_of 65536 file)) × (length (deck_labels file) ≤ 11264)
     unfolding deck_labels
     deck_told out after t s =

@@ -11,7 +11,7 @@ use lib.ListN.{length, drop, get_or, set, length-append, drop_of_length-le}
 use lib.Seq.{sets, drop-cons}
 use Rattle.text.specs.Digits.{decimal}
 use Rattle.print.specs.Text.{refusal_line, Puts}
-use Rattle.print.specs.declared.Text.{Text}
+use Rattle.print.specs.declared.TooLong.{TooLong}
 use Rattle.print.proofs.Counts.{decimal_short}
 use Rattle.print.proofs.Lines.{framed, length_refusal_line}
 use Rattle.print.proofs.Stores.{sets_append}
@@ -21,14 +21,14 @@ use Rattle.stale.specs.Deck.{label_text, own_text, labels_text}
 -- ---- one label
 
 -- a text that has room is put
-module _ (text : List ℕ) (at : ℕ) (buf : List ℕ) (r : Text) (after : List ℕ) (p : Puts text at buf r after) (h : at + length text ≤ length buf) where
-  room : (r ≡ Text.Length (length text)) × (after ≡ sets buf at text)
+module _ (text : List ℕ) (at : ℕ) (buf : List ℕ) (r : Result ℕ TooLong) (after : List ℕ) (p : Puts text at buf r after) (h : at + length text ≤ length buf) where
+  room : (r ≡ Ok (length text)) × (after ≡ sets buf at text)
   room = let e = le-leb (at + length text) (length buf) h in rw e at p
 
-  pub was_put : (k : ℕ) → r ≡ Text.Length k → (k ≡ length text) × (after ≡ sets buf at text)
+  pub was_put : (k : ℕ) → r ≡ Ok k → (k ≡ length text) × (after ≡ sets buf at text)
   was_put k f = let e = room.0 in let q : k ≡ length text = cc in (q, room.1)
 
-  pub not_put : r ≡ Text.TooLong → ⊥
+  pub not_put : r ≡ (Err (record {})) → ⊥
   not_put f = let e = room.0 in let z : ◌≡◌ {A = ℕ} 0 1 = cc in omega arith
 
 pub length_label_text : (l n : ℕ) → length (label_text l n) ≡ length (decimal l) + length (decimal n) + 2

@@ -1,9 +1,10 @@
-use mathlib.Core.Path.{refl, sym, ap, ◌∙◌}
+use mathlib.Core.Path.{sym, ap, ◌∙◌}
 use native.Mathlib.Omega.{arith}
 use lib.ListN.{length}
 use Rattle.decoder.specs.Decoded.{instr_answer}
 use Rattle.encoder.specs.Instr.{instr_of}
 use Rattle.print.proofs.Listings.{data_at, instr_at, no_line}
+use Rattle.print.proofs.Written.{same, nothing}
 use Rattle.print.proofs.listing.put_line.Goals as goal
 
 pub put_data-requires : goal.put_data-requires
@@ -14,7 +15,7 @@ put_data-requires c =
 pub returns-then-offset-constants : goal.returns-then-offset-constants
 returns-then-offset-constants c =
     let a = c.args in
-    rw (data_at a.constants a.offset a.word (omega arith)) c.put_data.ensures
+    same (sym (data_at a.constants a.offset a.word (omega arith))) c.put_data.ensures
 
 pub put_instr-requires : goal.put_instr-requires
 put_instr-requires c =
@@ -26,10 +27,10 @@ pub returns-in-Is : goal.returns-in-Is
 returns-in-Is c =
     let a = c.args in
     let e = sym c.decode-d.ensures.0 ∙ ap instr_answer c.in-Is.is in
-    rw (instr_at a.constants a.offset a.word (instr_of c.in-Is.i) (omega arith) e) c.put_instr.ensures
+    same (sym (instr_at a.constants a.offset a.word (instr_of c.in-Is.i) (omega arith) e)) c.put_instr.ensures
 
 pub returns-in-Foreign : goal.returns-in-Foreign
 returns-in-Foreign c =
     let a = c.args in
     let e = sym c.decode-d.ensures.0 ∙ ap instr_answer c.in-Foreign.is in
-    rw (no_line a.constants a.offset a.word (omega arith) e) (refl, omega arith)
+    same (sym (no_line a.constants a.offset a.word (omega arith) e)) (nothing _)
