@@ -1,5 +1,5 @@
 -- The lines of the routine's answer: the code is what stands in the buffer.
-use Rattle.std.specs.Prelude.{Bool, List, ℕ, ◌≤◌, length, take}
+use Rattle.std.specs.Prelude.{Bool, List, ℕ, ◌≤◌, length, take, Result}
 use Rattle.refusal.specs.Answer.{Answer, accepted, refused}
 use Rattle.routine.specs.Routine.{Summary}
 use Rattle.print.specs.Text.{words_of, refusal_line, Puts}

@@ -1,5 +1,5 @@
 -- The text of the routine's answer, by the memory and the record that it left.
-use Rattle.std.specs.Prelude.{List, [], ℕ, ◌≤◌, length, get_or}
+use Rattle.std.specs.Prelude.{List, [], ℕ, ◌≤◌, length, get_or, Result}
 use Rattle.refusal.specs.Answer.{Answer, accepted, refused}
 use Rattle.assembler.specs.declared.Asm.{Asm}
 use Rattle.print.specs.Text.{refusal_line, Puts}
