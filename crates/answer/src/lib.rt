@@ -8,9 +8,8 @@ ghost use Rattle.answer.specs.Answer.{answer_text, deck_text, reason_of, deck_re
 
 mod printed;
 
-pub use printed::{Messages, print_answer};
-
 use print::TooLong;
+pub use printed::{Messages, print_answer};
 use refusal::Refused;
 use routine::Outline;
 

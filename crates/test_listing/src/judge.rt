@@ -31,7 +31,7 @@ pub struct Came {
 
 // The number of refusal or 0, its place, and the text's length unless it is too long.
 #[derive(Clone, Copy, PartialEq, Eq)]
-struct Told {
+struct Found {
     number: u32,
     place: usize,
     length: Result<usize, TooLong>,
@@ -52,20 +52,20 @@ fn place(a: Result<(), CodeError>) -> usize {
     }
 }
 
-fn told(l: CodeListing) -> Told {
-    Told {
+fn told(l: CodeListing) -> Found {
+    Found {
         number: number(l.answer),
         place: place(l.answer),
         length: l.text,
     }
 }
 
-fn deck_told(l: DeckListing) -> Told {
+fn deck_told(l: DeckListing) -> Found {
     let (number, place) = match l.answer {
         Ok(_) => (0, 0),
         Err(refused) => (refusal::number(refused.why) as u32, refused.place as usize),
     };
-    Told {
+    Found {
         number,
         place,
         length: l.text,
@@ -123,7 +123,7 @@ fn handed(
     at: usize,
     text: &mut [u8],
     room: usize,
-) -> Option<Told> {
+) -> Option<Found> {
     if n > code.len() || room > text.len() {
         return None;
     }
@@ -165,7 +165,7 @@ fn answered(
     } else {
         Err(TooLong)
     };
-    let wanted = Told {
+    let wanted = Found {
         number: crate::row::column(s, 2),
         place: crate::row::column(s, 3) as usize,
         length,
