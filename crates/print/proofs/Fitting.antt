@@ -43,14 +43,6 @@ put_whole {text = text} {n = n} {v = v} e p =
     let r = room_said text v.at v.out.now n e in
     fits text v.at v.out.now _ n r.0 r.1 p.out
 
--- it has none
-pub not_put : (text : List ℕ) (at : ℕ) (buf : List ℕ) {x : TooLong} → length_in text at buf ≡ Err x → Puts text at buf (Err x) buf
-not_put text at buf {x = x} e = go (leb (at + length text) (length buf)) refl e
-  where
-    go : (t : Bool) → leb (at + length text) (length buf) ≡ t → cond {A = Result ℕ TooLong} t (Ok (length text)) (Err (record {})) ≡ Err x → Puts text at buf (Err x) buf
-    go true h f = absurd (let z : ◌≡◌ {A = ℕ} 0 1 = cc in omega arith)
-    go false h f = (sym e, simp h)
-
 -- a text that was put is no longer than the buffer
 pub text_room : (text buf left : List ℕ) (n : ℕ) (r : Result ℕ TooLong) → r ≡ length_in text 0 buf → r ≡ Ok n → length left ≡ length buf → n ≤ length left
 text_room text buf left n r e f g =

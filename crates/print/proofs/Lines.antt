@@ -1,16 +1,14 @@
 -- The printed lines, stored part by part.
-use mathlib.Core.Path.{◌≡◌, refl, sym, ap, ◌∙◌}
+use mathlib.Core.Path.{◌≡◌, refl, ap, ◌∙◌}
 use mathlib.Core.List.{List, [], ◌∷◌, ◌++◌}
 use Prim.Native.Nat.{ℕ, suc, ◌+◌, ◌*◌, ◌/◌, ◌<◌, ◌≤◌}
-use native.Mathlib.Numerals.{add-one}
 use native.Mathlib.Omega.{arith}
-use lib.ListN.{length, drop, get_or, set, length-append, length-drop}
-use lib.Seq.{sets, drop-cons}
+use lib.ListN.{length, drop, get_or, length-append, length-drop}
+use lib.Seq.{drop-cons}
 use Rattle.text.specs.Digits.{decimal}
 use Rattle.print.specs.Text.{words_of, hex, word_line, word_lines, refusal_line}
 use Rattle.print.specs.Inner.Text.{word_in}
 use Rattle.text.proofs.Numerals.{length_digits}
-use Rattle.print.proofs.Stores.{sets_append}
 
 -- ---- a word's line
 
@@ -21,15 +19,6 @@ pub length_word_line : (offset w : ℕ) → length (word_line offset w) ≡ leng
 unfolding word_line
 length_word_line offset w =
     simp length-append (omega (arith, length_hex w))
-
--- text, one byte, digits, one byte
-pub framed : (o o1 o2 xs ys : List ℕ) (at e a b : ℕ) → o1 ≡ sets o at xs → e ≡ at + length xs → o2 ≡ sets (set o1 e a) (e + 1) ys
-    → set o2 (e + 1 + length ys) b ≡ sets o at (xs ++ (a ∷ (ys ++ (b ∷ []))))
-framed o o1 o2 xs ys at e a b h g i =
-    let p : set o2 (e + 1 + length ys) b ≡ set (sets (set o1 e a) (suc e) ys) (suc e + length ys) b = rw (i, add-one e) in
-    let q : sets (set o1 e a) (suc e) (ys ++ (b ∷ [])) ≡ sets o at (xs ++ (a ∷ (ys ++ (b ∷ [])))) =
-    rw (h, g) (sym (sets_append o at xs (a ∷ (ys ++ (b ∷ []))))) in
-    p ∙ sym (sets_append (set o1 e a) (suc e) ys (b ∷ [])) ∙ q
 
 -- ---- a refusal's line
 

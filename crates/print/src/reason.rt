@@ -16,6 +16,7 @@ pub fn put_text(s: &[u8], out: &mut [u8]) -> Result<usize, TooLong>
 }
 
 // The sentence of a number of refusal; no byte where there is no such number.
+// Numbers, since the C interface asks by number, and 14 is none of `Refusal`.
 pub fn refusal_text(number: u32, out: &mut [u8]) -> Result<usize, TooLong>
     ensures { Puts (refusal_text number) 0 out.old result out.new × (length (refusal_text number) ≤ 80) }
 {
