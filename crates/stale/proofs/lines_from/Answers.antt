@@ -7,7 +7,6 @@ use Rattle.text.specs.Lines.{lines_of}
 use Rattle.stale.proofs.Scan.{Found, none_found, passed_by, set_before, noted_one, all_found, no_lines}
 use Rattle.stale.proofs.lines_from.Goals as goal
 
--- ---- the needs
 pub loop-at-init : goal.loop-at-init
 loop-at-init c =
     let a = c.args in

@@ -9,7 +9,6 @@ use Rattle.listing.proofs.Noted.{Noted, none_noted, passed_by, noted_one, all_no
 use Rattle.listing.proofs.marks.marks_from.Invariants.{from}
 use Rattle.listing.proofs.marks.marks_from.Goals as goal
 
--- ---- the needs
 pub loop-at-init : goal.loop-at-init
 loop-at-init c = let a = c.args in none_noted (from a.file.now a.at)
 
