@@ -10,8 +10,9 @@ ghost use Rattle.assembler.specs.Limit.{room_limit, label_limit, jump_limit};
 ghost use Rattle.assembler.specs.Bytes.{written, fitted};
 ghost use Rattle.assembler.specs.Label.{is_set, with_place, made};
 ghost use Rattle.assembler.specs.State.{sound, fits, before, after};
-ghost use Rattle.assembler.specs.Inner.State.{Fits, with_words};
-ghost use Rattle.assembler.specs.Put.{targets, twice, times, number_holds, numbers_sound, numbers_fit, verdict, prechecked, with_jump, with_label, placed, put};
+ghost use Rattle.assembler.specs.Inner.State.{Fits, Roomy, with_words};
+ghost use Rattle.assembler.specs.Put.{targets, twice, times, number_holds, numbers_sound, numbers_fit};
+ghost use Rattle.assembler.specs.Put.{verdict, prechecked, with_jump, with_label, placed, put};
 ghost use Rattle.assembler.specs.Plan.{rank, earlier, fault_number, first_of, refusal_fault, label_fault, jump_fault};
 ghost use Rattle.assembler.specs.Plan.{tail_items, tail_fault, plan_items, plan_fault, no_words, faulty, pushed};
 ghost use Rattle.assembler.specs.Plan.{all_labels, sets_fault};
@@ -200,7 +201,7 @@ fn numbers_fit(labels: &Labels, goes: &[u32]) -> bool
 }
 
 // One of the labels is set, or comes twice.
-#[tactic(auto, using(crate::proofs::Tests::twice_set, crate::proofs::Tests::twice_again, crate::proofs::Tests::twice_next), unfolding(crate::specs::Put::twice))]
+#[tactic(auto, using(crate::proofs::Tests::twice_next), unfolding(crate::specs::Put::twice))]
 fn taken(labels: &Labels, sets: &[u32]) -> bool
     ensures { result ≡ twice labels.now sets.now }
 {
@@ -377,7 +378,7 @@ impl Assembler<'_> {
         numbers_fit(self.labels, goes) && self.has_room(words, goes.len())
     }
 
-    // What a whole that sets these labels, has a jump to each of `goes`, and so many words, is refused for.
+    // What a whole is refused for that sets these labels, has a jump to each of `goes`, and so many words.
     #[tactic(auto, unfolding(crate::specs::Put::ranked), using(crate::proofs::Tests::number_some))]
     fn refusal(
         &self,
@@ -421,7 +422,7 @@ impl Assembler<'_> {
         words: usize,
     ) -> Result<(), Refused>
         ensures whole { after result self.now ≡ prechecked (earlier (fault_number fault) (sets_fault sets.now)) sets.now goes.now words (before self.now) }
-        ensures room { OnOk result (Fits (length self.now.buf.now) self.now.asm words (length goes.now) × (numbers_fit self.now.labels.now goes.now ≡ true)) }
+        ensures room { OnOk result (Roomy words goes.now (before self.now)) }
         ensures labels { OnOk result (all_labels sets.now ≡ true) }
     {
         match self.refusal(fault, sets, goes, words) {
@@ -433,9 +434,9 @@ impl Assembler<'_> {
     // The same of a tail behind so many words.
     pub fn check_tail(&self, fault: Option<Refusal>, words: usize, t: Tail) -> Result<(), Refused>
         requires { words ≤ room_limit }
-        ensures whole { after result self.now ≡ prechecked (fault_number fault) [] (targets (tail_items t)) (words + length (targets (tail_items t))) (before self.now) }
-        ensures room { OnOk result (Fits (length self.now.buf.now) self.now.asm (words + length (targets (tail_items t))) (length (targets (tail_items t)))
-            × (numbers_fit self.now.labels.now (targets (tail_items t)) ≡ true)) }
+        ensures whole { after result self.now
+            ≡ prechecked (fault_number fault) [] (targets (tail_items t)) (words + length (targets (tail_items t))) (before self.now) }
+        ensures room { OnOk result (Roomy (words + length (targets (tail_items t))) (targets (tail_items t)) (before self.now)) }
     {
         match t {
             Tail::Nothing => self.check_whole(fault, &[], &[], words),
@@ -482,8 +483,7 @@ impl Assembler<'_> {
     }
 
     fn reserve_tail(&mut self, t: Tail, tag: u32)
-        requires { Fits (length self.old.buf.now) self.old.asm (length (targets (tail_items t))) (length (targets (tail_items t)))
-            × (numbers_fit self.old.labels.now (targets (tail_items t)) ≡ true) }
+        requires { Roomy (length (targets (tail_items t))) (targets (tail_items t)) (before self.old) }
         ensures { before self.new ≡ placed tag (tail_items t) (before self.old) }
     {
         match t {
