@@ -15,9 +15,7 @@ use Rattle.isa.specs.Decode.{decode}
 use Rattle.isa.proofs.Encodings.{encodings}
 use Rattle.machine.specs.Word.{w64, load4}
 use Rattle.refusal.specs.Answer.{Answer, accepted, refused}
-use Rattle.refusal.specs.declared.Refusal.{Refusal}
 use Rattle.refusal.specs.Number.{number_of}
-use Rattle.ast.specs.declared.Frame.{Frame}
 use Rattle.reading.specs.Program.{Program}
 use Rattle.assembler.specs.Bytes.{bytes}
 use Rattle.call.specs.Layout.{constants_offset, routine_words}

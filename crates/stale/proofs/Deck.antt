@@ -7,8 +7,6 @@ use lib.Dec.{leb}
 use lib.ListN.{length}
 use Rattle.refusal.specs.Answer.{Answer, accepted, refused}
 use Rattle.refusal.specs.Number.{number_of}
-use Rattle.refusal.specs.declared.Refusal.{Refusal}
-use Rattle.ast.specs.declared.Frame.{Frame}
 use Rattle.assembler.specs.declared.Asm.{Asm}
 use Rattle.print.specs.Text.{refusal_line, Puts}
 use Rattle.print.specs.declared.TooLong.{TooLong}

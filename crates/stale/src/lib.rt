@@ -2,10 +2,10 @@
 #![tactic(auto)]
 
 ghost use Rattle.std.specs.Prelude.{◌≡◌, ℕ, ◌+◌, ◌≤◌, ◌<◌, length, drop, get_or};
-ghost use Rattle.std.proofs.Math.Option;
 ghost use Rattle.ast.specs.Uses.{label_set};
 ghost use Rattle.text.specs.Lines.{lines_of};
 ghost use Rattle.print.specs.Text.{Puts};
+ghost use Rattle.print.specs.Listing.{first_answer};
 ghost use Rattle.print.specs.Writer.{HasRoom, Wrote};
 ghost use Rattle.routine.specs.Routine.{program_of, summary_answer};
 ghost use Rattle.routine.specs.Answer.{routine_answer};
@@ -38,28 +38,25 @@ type SetLines = [u32; OWN];
 // A line for each of them, of at most 11 bytes.
 const TEXT: usize = 11264;
 
-// Of what sets no label.
-const NONE: u32 = 1024;
-
 // ---- the lines that set labels
 
 // The label that an operand sets.
-fn operand_label(p: Operand) -> u32
-    ensures { result ≡ Option.get_or (label_set p) 1024 }
+fn operand_label(p: Operand) -> Option<u32>
+    ensures { first_answer result ≡ label_set p }
 {
     match p {
-        Operand::Nothing => NONE,
-        Operand::Loaded(_, _) => NONE,
-        Operand::Stored(_, _) => NONE,
-        Operand::Constant(_) => NONE,
-        Operand::GoneTo(_) => NONE,
-        Operand::Set(l) => l,
+        Operand::Nothing => None,
+        Operand::Loaded(_, _) => None,
+        Operand::Stored(_, _) => None,
+        Operand::Constant(_) => None,
+        Operand::GoneTo(_) => None,
+        Operand::Set(l) => Some(l),
     }
 }
 
 // The label that a line sets.
-fn label_of(line: &[u8]) -> u32
-    ensures { result ≡ Option.get_or (label_of line.now) 1024 }
+fn label_of(line: &[u8]) -> Option<u32>
+    ensures { first_answer result ≡ label_of line.now }
 {
     let j = deck::read_line(false, line);
     match j {
@@ -68,9 +65,9 @@ fn label_of(line: &[u8]) -> u32
             let p = u.operand;
             operand_label(p)
         }
-        Judged::Head(_) => NONE,
-        Judged::Constant(_) => NONE,
-        Judged::Refused(_) => NONE,
+        Judged::Head(_) => None,
+        Judged::Constant(_) => None,
+        Judged::Refused(_) => None,
     }
 }
 
@@ -85,9 +82,12 @@ fn lines_from(file: &[u8], mut at: usize) -> SetLines
     while at < file.len() {
         let place = at;
         at = lines::line_end(file, place);
-        let l = label_of(&file[place..at]) as usize;
         let line = next;
         next += 1;
+        let Some(label) = label_of(&file[place..at]) else {
+            continue;
+        };
+        let l = label as usize;
         if l >= OWN {
             continue;
         }
