@@ -23,6 +23,3 @@ overflow_mul-i c =
 
 pub returns-in-LoadConst : goal.returns-in-LoadConst
 returns-in-LoadConst c = let a = c.args in rw c.in-LoadConst.is (put_none a.buf.now a.len)
-
-pub returns-in-SetLabel : goal.returns-in-SetLabel
-returns-in-SetLabel c = let a = c.args in rw c.in-SetLabel.is (put_none a.buf.now a.len)
