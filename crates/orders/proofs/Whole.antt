@@ -11,9 +11,14 @@ use lib.ListN.{length, length-append, length-map, get_or}
 use Rattle.isa.specs.Instr.{Instr}
 use Rattle.isa.specs.Encode.{encode}
 use Rattle.machine.proofs.Placed.{Valids}
-use Rattle.refusal.specs.Answer.{accepted}
+use Rattle.refusal.specs.Answer.{accepted, refused}
+use Rattle.refusal.specs.Number.{number_of}
 use Rattle.refusal.specs.declared.Refused.{Refused}
-use Rattle.std.specs.Prelude.{Result, Err}
+use Rattle.std.specs.Prelude as Opt
+use Rattle.std.specs.Prelude.{Result, Err, Some, None}
+use Rattle.std.specs.Option.{is_some}
+use Rattle.refusal.specs.declared.Refusal.{Refusal}
+use Rattle.assembler.proofs.Tests.{number_some}
 use Rattle.assembler.specs.Bytes.{room, written}
 use Rattle.assembler.specs.Item.{Item, instr, raw, label}
 use Rattle.assembler.specs.State.{State, Outcome, state, emit_answer, sound, fits}
@@ -119,9 +124,16 @@ code_parts (Save s p i) = sym (append-nil _)
 code_parts (BranchIf c l e) = refl
 code_parts (SetLabel l) = refl
 
+-- where the jumps go
 behind_targets : (o : Order) → targets (behind o) ≡ targets (tail_items (tail_of o))
 unfolding targets
 behind_targets o = grind arith
+
+pub tail_right : (o : Order) → ((l : ℕ) → o ≡ SetLabel l → ⊥) → code o ≡ map instr (instrs o) ++ tail_items (tail_of o)
+tail_right o h = code_parts o ∙ ap (λ (js : List Item). map instr (instrs o) ++ js) (by o h)
+  where
+    by : (o : Order) → ((l : ℕ) → o ≡ SetLabel l → ⊥) → behind o ≡ tail_items (tail_of o)
+    by o h = grind arith
 
 tail_targets : (o : Order) → targets (code o) ≡ targets (tail_items (tail_of o))
 tail_targets o =
@@ -181,6 +193,16 @@ unfolding resolved targets
 tail_length Tails.Nothing here = omega arith
 tail_length (Tails.One k l r) here = omega arith
 tail_length (Tails.Pair k l r) here = omega arith
+
+-- ---- a fault, or none
+
+pub fault_some : (f : Opt.Option Refusal) → is_some f ≡ true → fault_number f ≡ 0 → ⊥
+fault_some None h e = true_not_false h
+fault_some (Some r) h e = omega (arith, number_some r, e)
+
+pub fault_none : (f : Opt.Option Refusal) → is_some f ≡ false → fault_number f ≡ 0
+fault_none None h = refl
+fault_none (Some r) h = absurd (true_not_false (sym h))
 
 -- ---- asked for
 
@@ -268,8 +290,7 @@ module _ (ws : List ℕ) (t : Tail) (tag : ℕ) (s : State) where
 pub items_all : (o : Order) → fault o ≡ 0 → items o ≡ code o
 items_all o z = rw (eq-eqb (fault o) 0 z)
 
-pub items_none : (o : Order) → (fault o ≡ 0 → ⊥) → [] ≡ targets (items o)
-unfolding targets
+pub items_none : (o : Order) → (fault o ≡ 0 → ⊥) → targets [] ≡ targets (items o)
 items_none o z = rw (ne_eqb (fault o) 0 z)
 
 -- the jumps of an order without a fault
@@ -297,8 +318,8 @@ module _ (o : Order) (t : Tail) (tag : ℕ) (s : State) (z : fault o ≡ 0) (g :
     number =
         rw (needed_fits (length s.buf) s.asm n (length (instrs o)) (length ts) (together o (tail_items t) _ g (tail_length t)) en, ← length-map (instrs o) encode) (sym (whole_number ws t s))
 
-    pub order_full : (r : Result (Unit {0}) Refused) (e : Refused) → r ≡ Err e → ◌≡◌ {A = Outcome} (record { answer = emit_answer r; state = s }) (prechecked 0 [] ts (n + length ts) s) → ◌≡◌ {A = Outcome} (record { answer = emit_answer r; state = s }) (emitted tag o s)
-    order_full r e i q = put_refused tag 0 (map raw ws ++ tail_items t) s r e _ number i (rw i at q) ∙ as_words
+    pub order_full : (r : Result (Unit {0}) Refused) (e : Refused) → r ≡ Err e → ◌≡◌ {A = Outcome} (record { answer = refused (number_of e.why) e.place; state = s }) (prechecked 0 [] ts (n + length ts) s) → ◌≡◌ {A = Outcome} (record { answer = emit_answer r; state = s }) (emitted tag o s)
+    order_full r e i q = put_refused tag 0 (map raw ws ++ tail_items t) s r e _ number i q ∙ as_words
 
     module _ (q : ◌≡◌ {A = Outcome} (record { answer = accepted tt; state = s }) (prechecked 0 [] ts (n + length ts) s)) where
       zero_number : verdict 0 [] ts (length ws + length ts) s ≡ 0
@@ -339,20 +360,20 @@ counted_some o = by (registers_fit (uses o).registers)
     by false e = omega arith
 
 -- an order whose cell is not below its count has no jump
-counted_none : (H : Head) (o : Order) → index_holds H o ≡ false → [] ≡ targets (tail_items (tail_of o))
+counted_none : (H : Head) (o : Order) → index_holds H o ≡ false → targets [] ≡ targets (tail_items (tail_of o))
 unfolding targets
 counted_none H o e = grind arith
 
-counted_goes : (H : Head) (o : Order) → index_holds H o ≡ false → [] ≡ targets (items o)
+counted_goes : (H : Head) (o : Order) → index_holds H o ≡ false → targets [] ≡ targets (items o)
 counted_goes H o e = by (eqb (fault o) 0) refl
   where
-    by : (t : Bool) → eqb (fault o) 0 ≡ t → [] ≡ targets (items o)
+    by : (t : Bool) → eqb (fault o) 0 ≡ t → targets [] ≡ targets (items o)
     by true q = counted_none H o e ∙ goes_behind o (eqb-true (fault o) 0 q)
     by false q = items_none o (eqb-false (fault o) 0 q)
 
 module _ (H : Head) (tag : ℕ) (o : Order) (s : State) (x : Outcome) where
-  pub order_counted : (k w : ℕ) → index_holds H o ≡ false → k ≡ count_fault o → x ≡ prechecked k [] [] w s → x ≡ emitted_in H tag o s
-  order_counted k w e g q = rw e (order_refused o tag s k _ w [] x g (counted_some o) (counted_goes H o e) q)
+  pub order_counted : (k w : ℕ) → index_holds H o ≡ false → k ≡ count_fault o → x ≡ prechecked k [] (targets []) w s → x ≡ emitted_in H tag o s
+  order_counted k w e g q = rw e (order_refused o tag s k _ w (targets []) x g (counted_some o) (counted_goes H o e) q)
 
   pub order_unsaved : (k w : ℕ) (ts : List ℕ) → index_holds H o ≡ true → saves_hold H.mask o ≡ false → k ≡ unsaved_fault (fault o) → ts ≡ targets (items o)
       → x ≡ prechecked k [] ts w s → x ≡ emitted_in H tag o s

@@ -124,10 +124,10 @@ fn unsaved(f: Option<Refusal>) -> Option<Refusal>
 fn goes(o: Order) -> Tail
     ensures { targets (tail_items result) ≡ targets (items o) }
 {
-    if fault(o).is_none() {
-        tail(o)
-    } else {
+    if fault(o).is_some() {
         Tail::Nothing
+    } else {
+        tail(o)
     }
 }
 
