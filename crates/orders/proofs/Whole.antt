@@ -3,11 +3,11 @@ use mathlib.Core.Path.{◌≡◌, refl, sym, ap, ap₂, subst, ◌∙◌}
 use mathlib.Core.Bool.{Bool, true, false, ◌&&◌, cond}
 use mathlib.Core.List.{List, [], ◌∷◌, ◌++◌, map, append-nil}
 use mathlib.Core.Option.{Option, some, none}
-use Prim.Native.Nat.{ℕ, zero, suc, ◌+◌, ◌*◌, ◌%◌, ◌≤◌, ◌<◌}
+use Prim.Native.Nat.{ℕ, suc, ◌+◌, ◌*◌, ◌%◌, ◌≤◌, ◌<◌}
 use native.Mathlib.Omega.{arith}
 use borrow.Author.Tests.{lt-ltb, le-leb, lt-leb, leb-true, leb-false, eq-eqb, ne_eqb, eqb-true, eqb-false}
 use lib.Dec.{T, leb, eqb, leb→le}
-use lib.ListN.{length, length-append, length-map, get_or}
+use lib.ListN.{length, length-append, length-map}
 use Rattle.isa.specs.Instr.{Instr}
 use Rattle.isa.specs.Encode.{encode}
 use Rattle.machine.proofs.Placed.{Valids}
@@ -24,22 +24,21 @@ use Rattle.assembler.specs.Item.{Item, instr, raw, label}
 use Rattle.assembler.specs.State.{State, Outcome, state, emit_answer, sound, fits}
 use Rattle.assembler.specs.Inner.State.{with_words}
 use Rattle.assembler.specs.Put.{targets, twice, numbers_sound, numbers_fit, place, placed, ranked, verdict, put_number, prechecked, put}
-use Rattle.assembler.specs.Plan.{earlier, fault_number, label_fault, jump_fault, tail_items, tail_fault, plan_items, plan_fault, no_words}
+use Rattle.assembler.specs.Plan.{fault_number, label_fault, jump_fault, tail_items, tail_fault, plan_items, plan_fault, no_words}
 use Rattle.assembler.specs.Resolved.{resolved}
 use Rattle.assembler.specs.declared.Asm.{Asm}
 use Rattle.assembler.specs.declared.Tail.{Tail}
 use Rattle.assembler.specs.declared.Tail.TheVariants as Tails
 use Rattle.assembler.proofs.Checks.{v_good}
 use Rattle.assembler.proofs.Items.{placed_append, placed_raw, words_append, targets_append, labels_append, words_raw, targets_raw, labels_raw, targets_instrs, words_tail, labels_tail}
-use Rattle.assembler.proofs.Plans.{put_asked, put_same, earlier_none}
+use Rattle.assembler.proofs.Plans.{put_asked, put_same}
 use Rattle.assembler.proofs.Steps.{put_done, put_refused, none_refused}
 use Rattle.assembler.proofs.Writes.{length_written}
 use Rattle.accesses.specs.Fault.{offset_limit}
 use Rattle.base.proofs.Bools.{true_not_false, T_true, both, join, passed}
-use Rattle.ast.specs.Uses.{uses, padded, operand_within, index_holds, saves_hold, sets, weighs, registers_fit}
+use Rattle.ast.specs.Uses.{uses, index_holds, saves_hold, sets, weighs, registers_fit}
 use Rattle.ast.specs.declared.Operand.{Operand}
 use Rattle.ast.specs.declared.Operand.TheVariants.{Nothing, Loaded, Stored, Constant, GoneTo, Set}
-use Rattle.ast.specs.declared.View.{View}
 use Rattle.ast.specs.declared.Head.{Head}
 use Rattle.ast.specs.declared.Order.{Order}
 use Rattle.ast.specs.declared.Order.TheVariants.{Unary, Scratched, Binary, Fused, Ifelse, LoadConst, Load, Save, BranchIf, SetLabel}

@@ -6,7 +6,6 @@ use Prim.Native.Nat.{ℕ, ◌+◌, ◌*◌, ◌^◌, ◌≤◌, ◌<◌}
 use native.Mathlib.Nat.{mod-eq_of_lt}
 use native.Mathlib.Omega.{arith}
 use borrow.Author.Tests.{lt-ltb, le-ltb, le-leb, leb-true}
-use lib.Dec.{leb}
 use lib.IntN.{pos}
 use lib.ListN.{length, get_or, length-append, length-map, length-drop, take, drop}
 use lib.Seq.{length-take-le, drop-length, drop-drop, take-suc}

@@ -4,7 +4,6 @@ use Rattle.isa.specs.Register.{zero, t0}
 use Rattle.isa.specs.Instr.{Instr, M, B, FMV_X_D}
 use Rattle.accesses.specs.Code.{load_float_code, save_float_code}
 use Rattle.assembler.specs.declared.Tail.{Tail}
-use Rattle.assembler.specs.declared.Tail.TheVariants as Tail
 use Rattle.assembler.specs.declared.JumpKind.TheVariants.{Jalr, Fld}
 use Rattle.ast.specs.Constant.{constant_label}
 use Rattle.ast.specs.declared.Order.{Order}
