@@ -3,50 +3,53 @@ use mathlib.Core.Path.{◌≡◌, refl, sym, ap, ap₂, subst, ◌∙◌}
 use mathlib.Core.Bool.{Bool, true, false, ◌&&◌, cond}
 use mathlib.Core.List.{List, [], ◌∷◌, ◌++◌, map, append-nil}
 use mathlib.Core.Option.{Option, some, none}
-use Prim.Native.Nat.{ℕ, zero, suc, ◌+◌, ◌*◌, ◌%◌, ◌≤◌, ◌<◌}
+use Prim.Native.Nat.{ℕ, suc, ◌+◌, ◌*◌, ◌%◌, ◌≤◌, ◌<◌}
 use native.Mathlib.Omega.{arith}
 use borrow.Author.Tests.{lt-ltb, le-leb, lt-leb, leb-true, leb-false, eq-eqb, ne_eqb, eqb-true, eqb-false}
 use lib.Dec.{T, leb, eqb, leb→le}
-use lib.ListN.{length, length-append, length-map, get_or}
+use lib.ListN.{length, length-append, length-map}
 use Rattle.isa.specs.Instr.{Instr}
 use Rattle.isa.specs.Encode.{encode}
 use Rattle.machine.proofs.Placed.{Valids}
-use Rattle.refusal.specs.Answer.{Answer, accepted, refused}
+use Rattle.refusal.specs.Answer.{accepted, refused}
+use Rattle.refusal.specs.Number.{number_of}
+use Rattle.refusal.specs.declared.Refused.{Refused}
+use Rattle.std.specs.Prelude as Opt
+use Rattle.std.specs.Prelude.{Result, Err, Some, None}
+use Rattle.std.specs.Option.{is_some}
+use Rattle.refusal.specs.declared.Refusal.{Refusal}
+use Rattle.assembler.proofs.Tests.{number_some}
 use Rattle.assembler.specs.Bytes.{room, written}
 use Rattle.assembler.specs.Item.{Item, instr, raw, label}
-use Rattle.assembler.specs.State.{State, Outcome, state, sound, fits}
-use Rattle.assembler.specs.Put.{targets, twice, numbers_sound, numbers_fit, place, placed, ranked, verdict, put_number, settled, put}
-use Rattle.assembler.specs.Plan.{earlier, fault_number, label_fault, jump_fault, tail_items, tail_fault, plan_items, plan_fault, no_words}
+use Rattle.assembler.specs.State.{State, Outcome, state, emit_answer, sound, fits}
+use Rattle.assembler.specs.Inner.State.{with_words}
+use Rattle.assembler.specs.Put.{targets, twice, numbers_sound, numbers_fit, place, placed, ranked, verdict, put_number, prechecked, put}
+use Rattle.assembler.specs.Plan.{fault_number, label_fault, jump_fault, tail_items, tail_fault, plan_items, plan_fault, no_words}
 use Rattle.assembler.specs.Resolved.{resolved}
 use Rattle.assembler.specs.declared.Asm.{Asm}
-use Rattle.assembler.specs.declared.Fault.{Fault}
-use Rattle.assembler.specs.declared.Plan.{Plan}
 use Rattle.assembler.specs.declared.Tail.{Tail}
 use Rattle.assembler.specs.declared.Tail.TheVariants as Tails
 use Rattle.assembler.proofs.Checks.{v_good}
-use Rattle.assembler.proofs.Items.{with_words, placed_append, placed_raw, words_append, targets_append, labels_append, words_raw, targets_raw, labels_raw, targets_instrs, words_tail, labels_tail}
-use Rattle.assembler.proofs.Plans.{put_asked, put_same, earlier_none}
-use Rattle.assembler.proofs.Steps.{put_done}
+use Rattle.assembler.proofs.Items.{placed_append, placed_raw, words_append, targets_append, labels_append, words_raw, targets_raw, labels_raw, targets_instrs, words_tail, labels_tail}
+use Rattle.assembler.proofs.Plans.{put_asked, put_same}
+use Rattle.assembler.proofs.Steps.{put_done, put_refused, none_refused}
 use Rattle.assembler.proofs.Writes.{length_written}
 use Rattle.accesses.specs.Fault.{offset_limit}
 use Rattle.base.proofs.Bools.{true_not_false, T_true, both, join, passed}
-use Rattle.ast.specs.Uses.{uses, padded, operand_within, index_holds, saves_hold, sets, weighs, registers_fit}
+use Rattle.ast.specs.Uses.{uses, index_holds, saves_hold, sets, weighs, registers_fit}
 use Rattle.ast.specs.declared.Operand.{Operand}
 use Rattle.ast.specs.declared.Operand.TheVariants.{Nothing, Loaded, Stored, Constant, GoneTo, Set}
-use Rattle.ast.specs.declared.View.{View}
 use Rattle.ast.specs.declared.Head.{Head}
 use Rattle.ast.specs.declared.Order.{Order}
 use Rattle.ast.specs.declared.Order.TheVariants.{Unary, Scratched, Binary, Fused, Ifelse, LoadConst, Load, Save, BranchIf, SetLabel}
 use Rattle.orders.specs.Code.{code}
 use Rattle.orders.specs.Emitted.{items, emitted, count_fault, unsaved_fault, fault_in, emitted_in}
 use Rattle.orders.specs.Fault.{operand_fault, fault, last_user_label}
-use Rattle.orders.specs.Inner.Parts.{instrs, behind_operand, rest_of}
-use Rattle.orders.specs.declared.Rest.{Rest}
-use Rattle.orders.specs.declared.Rest.TheVariants.{Jumps, Label, Alone}
+use Rattle.orders.specs.Inner.Parts.{instrs, tail_of}
 use Rattle.orders.specs.Wrote.{word}
 use Rattle.orders.specs.Inner.Wrote.{Puts}
 use Rattle.orders.proofs.Wrote.{words_valid}
-use Rattle.orders.proofs.Items.{resolve, below}
+use Rattle.orders.proofs.Items.{resolve, checked_below}
 use Rattle.orders.proofs.Laws.{code_valid, code_length}
 
 -- ---- refusals
@@ -58,18 +61,6 @@ cell_limit i = by (leb i 0xFFFFFFF) refl
     by : (b : Bool) → leb i 0xFFFFFFF ≡ b → b ≡ leb (8 * i) offset_limit
     by true e = let l : i ≤ 0xFFFFFFF = leb-true i 0xFFFFFFF e in sym (le-leb (8 * i) offset_limit (omega arith))
     by false e = let l : 0xFFFFFFF < i = leb-false i 0xFFFFFFF e in sym (lt-leb (8 * i) offset_limit (omega arith))
-
--- by the view that the code has
-pub fault_right : (o : Order) (u : View) {t : Bool} {f : ℕ} → t ≡ registers_fit (uses o).registers → t ≡ true → u ≡ padded (uses o) → f ≡ operand_fault u.operand → f ≡ fault o
-unfolding fault
-fault_right o u r t e h = rw (sym r ∙ t) (h ∙ ap (λ (v : View). operand_fault v.operand) e)
-
-pub fault_registers : (o : Order) {t : Bool} → t ≡ registers_fit (uses o).registers → t ≡ false → 1 ≡ fault o
-unfolding fault
-fault_registers o r t = rw (sym r ∙ t)
-
-pub rest_view : (o : Order) (u : View) {x : Operand} → u ≡ padded (uses o) → u.operand ≡ x → behind_operand x u.a ≡ rest_of o
-rest_view o u e h = ap (λ (x : Operand). behind_operand x u.a) (sym h) ∙ ap (λ (v : View). behind_operand v.operand v.a) e
 
 -- the operand of an order that is not refused
 abbrev pub Small : Operand → Type 0
@@ -101,9 +92,6 @@ order_small o {x} h e = small x (ap operand_fault (sym e) ∙ (operands_fit o h)
 const_fits : (d : ℕ) → d < 32 → jump_fault d ≡ 0
 const_fits d h = rw (lt-ltb d 32 h)
 
-pub const_small : (o : Order) (u : View) {k : ℕ} → fault o ≡ 0 → u ≡ padded (uses o) → u.operand ≡ Constant k → k ≤ 1007
-const_small o u {k} h e x = order_small o {x = Constant k} h (sym (ap (λ (v : View). v.operand) e) ∙ x)
-
 pub label_fits : (l : ℕ) → l ≤ last_user_label → label_fault l ≡ 0
 label_fits l h = rw (lt-ltb l 2039 (omega arith))
 
@@ -114,64 +102,56 @@ put_label t u f l s = refl
 
 -- ---- the instructions of an order, and what stands behind them
 
--- jumps, or a label
-abbrev pub rest_items : Rest → List Item
-rest_items (Jumps t) = tail_items t
-rest_items (Label l) = label l ∷ []
-rest_items (Alone t) = tail_items t
+-- a label, or the jumps of a tail
+abbrev behind_set : Option ℕ → Tail → List Item
+behind_set none t = tail_items t
+behind_set (some l) t = label l ∷ []
 
-abbrev pub rest_fault : Rest → ℕ
-rest_fault (Jumps t) = tail_fault t
-rest_fault (Label l) = label_fault l
-rest_fault (Alone t) = tail_fault t
+abbrev pub behind : Order → List Item
+behind o = behind_set (sets o) (tail_of o)
 
-pub rest_right : (o : Order) → code o ≡ map instr (instrs o) ++ rest_items (rest_of o)
+pub code_parts : (o : Order) → code o ≡ map instr (instrs o) ++ behind o
 unfolding code
-rest_right (Unary k d s) = sym (append-nil _)
-rest_right (Scratched k d s t) = sym (append-nil _)
-rest_right (Binary k d a b) = sym (append-nil _)
-rest_right (Fused k d a b c) = refl
-rest_right (Ifelse d a b i) = sym (append-nil _)
-rest_right (LoadConst d k) = refl
-rest_right (Load d p i) = sym (append-nil _)
-rest_right (Save s p i) = sym (append-nil _)
-rest_right (BranchIf c l e) = refl
-rest_right (SetLabel l) = refl
+code_parts (Unary k d s) = sym (append-nil _)
+code_parts (Scratched k d s t) = sym (append-nil _)
+code_parts (Binary k d a b) = sym (append-nil _)
+code_parts (Fused k d a b c) = refl
+code_parts (Ifelse d a b i) = sym (append-nil _)
+code_parts (LoadConst d k) = refl
+code_parts (Load d p i) = sym (append-nil _)
+code_parts (Save s p i) = sym (append-nil _)
+code_parts (BranchIf c l e) = refl
+code_parts (SetLabel l) = refl
 
--- a label, and jumps alone, have no instructions
-abbrev pub Bare : Rest → List Instr → Type 0
-Bare (Jumps t) is = Unit {0}
-Bare (Label l) is = is ≡ []
-Bare (Alone t) is = is ≡ []
+-- where the jumps go
+behind_targets : (o : Order) → targets (behind o) ≡ targets (tail_items (tail_of o))
+unfolding targets
+behind_targets o = grind arith
 
-rest_bare : (o : Order) → Bare (rest_of o) (instrs o)
-rest_bare (Unary k d s) = tt
-rest_bare (Scratched k d s t) = tt
-rest_bare (Binary k d a b) = tt
-rest_bare (Fused k d a b c) = tt
-rest_bare (Ifelse d a b i) = tt
-rest_bare (LoadConst d k) = refl
-rest_bare (Load d p i) = tt
-rest_bare (Save s p i) = tt
-rest_bare (BranchIf c l e) = tt
-rest_bare (SetLabel l) = refl
+pub tail_right : (o : Order) → ((l : ℕ) → o ≡ SetLabel l → ⊥) → code o ≡ map instr (instrs o) ++ tail_items (tail_of o)
+tail_right o h = code_parts o ∙ ap (λ (js : List Item). map instr (instrs o) ++ js) (by o h)
+  where
+    by : (o : Order) → ((l : ℕ) → o ≡ SetLabel l → ⊥) → behind o ≡ tail_items (tail_of o)
+    by o h = grind arith
 
-first_below : (rs : List ℕ) → T (registers_fit rs) → get_or rs 0 0 < 32
-first_below [] h = omega arith
-first_below (r ∷ rs) h = (below (r ∷ rs) h).0
+tail_targets : (o : Order) → targets (code o) ≡ targets (tail_items (tail_of o))
+tail_targets o =
+    ap targets (code_parts o) ∙ targets_append (map instr (instrs o)) (behind o)
+    ∙ ap (λ (l : List ℕ). l ++ targets (behind o)) (targets_instrs (instrs o))
+    ∙ behind_targets o
 
-behind_fits : (x : Operand) (d : ℕ) → d < 32 → Small x → rest_fault (behind_operand x d) ≡ 0
-behind_fits Nothing d h s = refl
-behind_fits (Loaded p i) d h s = refl
-behind_fits (Stored p i) d h s = refl
-behind_fits (Constant k) d h s = const_fits d h
-behind_fits (GoneTo l) d h s = refl
-behind_fits (Set l) d h s = label_fits l s
-
-rest_fits : (o : Order) → fault o ≡ 0 → rest_fault (rest_of o) ≡ 0
-rest_fits o h =
-    let p = operands_fit o h in
-    behind_fits (uses o).operand _ (first_below (uses o).registers p.0) (small (uses o).operand p.1)
+pub tail_fits : (o : Order) → fault o ≡ 0 → tail_fault (tail_of o) ≡ 0
+unfolding fault
+tail_fits (Unary k d s) h = refl
+tail_fits (Scratched k d s t) h = refl
+tail_fits (Binary k d a b) h = refl
+tail_fits (Fused k d a b c) h = refl
+tail_fits (Ifelse d a b i) h = refl
+tail_fits (LoadConst d k) h = let r = checked_below (d ∷ []) k 1007 8 h in rw (lt-ltb d 32 r.0.0)
+tail_fits (Load d p i) h = refl
+tail_fits (Save s p i) h = refl
+tail_fits (BranchIf c l e) h = refl
+tail_fits (SetLabel l) h = refl
 
 -- the first of items
 module _ (places : ℕ → ℕ) (js : List Item) where
@@ -191,8 +171,8 @@ nowhere l = 0
 
 pub order_valid : (o : Order) → fault o ≡ 0 → Valids (instrs o)
 order_valid o z =
-    front_valid nowhere (rest_items (rest_of o)) 0 (instrs o)
-    (subst (λ (is : List Item). Valids (resolve nowhere 0 is)) (rest_right o) (code_valid nowhere 0 o z))
+    front_valid nowhere (behind o) 0 (instrs o)
+    (subst (λ (is : List Item). Valids (resolve nowhere 0 is)) (code_parts o) (code_valid nowhere 0 o z))
 
 light : (s : Option ℕ) → weighs s ≤ 1
 light none = omega arith
@@ -205,7 +185,7 @@ together o js k g h =
     omega (arith, e, front_length nowhere js k h 0 (instrs o), light (sets o))
 
 pub order_short : (o : Order) → length (instrs o) ≤ 11
-order_short o = omega (arith, together o (rest_items (rest_of o)) 0 (rest_right o) (λ here. omega arith))
+order_short o = omega (arith, together o (behind o) 0 (code_parts o) (λ here. omega arith))
 
 tail_length : (t : Tail) (here : ℕ) → length (targets (tail_items t)) ≤ length (resolved nowhere here (tail_items t))
 unfolding resolved targets
@@ -213,23 +193,17 @@ tail_length Tails.Nothing here = omega arith
 tail_length (Tails.One k l r) here = omega arith
 tail_length (Tails.Pair k l r) here = omega arith
 
+-- ---- a fault, or none
+
+pub fault_some : (f : Opt.Option Refusal) → is_some f ≡ true → fault_number f ≡ 0 → ⊥
+fault_some None h e = true_not_false h
+fault_some (Some r) h e = omega (arith, number_some r, e)
+
+pub fault_none : (f : Opt.Option Refusal) → is_some f ≡ false → fault_number f ≡ 0
+fault_none None h = refl
+fault_none (Some r) h = absurd (true_not_false (sym h))
+
 -- ---- asked for
-
-abbrev pub mark : Answer (Unit {0}) → ℕ
-mark (accepted x) = 0
-mark (refused n place) = 1
-
--- refused: nothing has changed, whatever would be placed
-kept : (k : ℕ) (s t : State) (o : Outcome) → o ≡ settled k s s → mark o.answer ≡ 1 → o ≡ settled k s t
-unfolding settled
-kept zero s t o e q = absurd (omega (arith, q, ap (λ (x : Outcome). mark x.answer) e))
-kept (suc k) s t o e q = e
-
--- accepted: the number is 0
-agreed : (k : ℕ) (s : State) (o : Outcome) → o ≡ settled k s s → mark o.answer ≡ 0 → k ≡ 0
-unfolding settled
-agreed zero s o e q = refl
-agreed (suc k) s o e q = absurd (omega (arith, q, ap (λ (x : Outcome). mark x.answer) e))
 
 -- a state that takes w words and jumps to ts is open and sound, and has room
 record Takes (ts : List ℕ) (w : ℕ) (s : State) : Type 0 where
@@ -288,7 +262,7 @@ rest_taken ts ws s t =
     let b : Asm = record { len = s.asm.len + 4 * w; jumps = s.asm.jumps; closed = s.asm.closed } in
     let g : sound n b ≡ true = rw (le-leb (s.asm.len + 4 * w) (room n) (omega (arith, t.room_for)), eq-eqb ((s.asm.len + 4 * w) % 4) 0 (omega (arith, t.aligned)), le-leb s.asm.jumps 4096 (omega (arith, t.jumps_for))) in
     let f : fits n b j j ≡ true = rw (le-leb (s.asm.len + 4 * w + 4 * j) (room n) (omega (arith, t.room_for)), le-leb (s.asm.jumps + j) 4096 t.jumps_for) in
-    rw m (sym (v_good 0 _ _ false _ t.open_still (λ z. omega arith) (λ z. omega arith) (join _ _ t.known g) refl refl (join _ _ t.numbered f)))
+    rw m (sym (v_good 0 _ _ false _ t.open_still (join _ _ t.known g) refl refl (join _ _ t.numbered f)))
 
 -- ---- words and the jumps of a tail
 
@@ -311,82 +285,62 @@ module _ (ws : List ℕ) (t : Tail) (tag : ℕ) (s : State) where
 
 -- ---- an order
 
--- what stands behind the instructions, by its case
-pub behind_as : (o : Order) → fault o ≡ 0 → (r : Rest) → rest_of o ≡ r → (code o ≡ map instr (instrs o) ++ rest_items r) × (rest_fault r ≡ 0) × Bare r (instrs o)
-behind_as o h r e =
-    subst (λ (q : Rest). (code o ≡ map instr (instrs o) ++ rest_items q) × (rest_fault q ≡ 0) × Bare q (instrs o)) e (rest_right o, rest_fits o h, rest_bare o)
-
 -- the items of an order, without a fault and with one
 pub items_all : (o : Order) → fault o ≡ 0 → items o ≡ code o
 items_all o z = rw (eq-eqb (fault o) 0 z)
 
-pub items_none : (o : Order) → (fault o ≡ 0 → ⊥) → [] ≡ targets (items o)
-unfolding targets
+pub items_none : (o : Order) → (fault o ≡ 0 → ⊥) → targets [] ≡ targets (items o)
 items_none o z = rw (ne_eqb (fault o) 0 z)
 
+-- the jumps of an order without a fault
+pub goes_behind : (o : Order) → fault o ≡ 0 → targets (tail_items (tail_of o)) ≡ targets (items o)
+goes_behind o z = sym (ap targets (items_all o z) ∙ tail_targets o)
+
 -- refused for an operand, or for what it may not write
-pub order_refused : (o : Order) (tag : ℕ) (s : State) (f : Fault) (ts : List ℕ) (x : Outcome) {n : ℕ} → fault_number f ≡ n → (n ≡ 0 → ⊥) → ts ≡ targets (items o)
-    → x ≡ settled (verdict (earlier (fault_number f) 0) [] ts 0 s) s s → x ≡ put tag n (items o) s
-order_refused o tag s f ts x {n} e h g q = q ∙ ap (λ (k : ℕ). settled (verdict k [] ts 0 s) s s) (earlier_none f ∙ e) ∙ put_asked tag n (items o) [] ts 0 s h g
+pub order_refused : (o : Order) (tag : ℕ) (s : State) (k n w : ℕ) (ts : List ℕ) (x : Outcome) → k ≡ n → (n ≡ 0 → ⊥) → ts ≡ targets (items o)
+    → x ≡ prechecked k [] ts w s → x ≡ put tag n (items o) s
+order_refused o tag s k n w ts x e h g q = q ∙ ap (λ (k : ℕ). prechecked k [] ts w s) e ∙ put_asked tag n (items o) [] ts w s h g
 
 module _ (o : Order) (t : Tail) (tag : ℕ) (s : State) (z : fault o ≡ 0) (g : code o ≡ map instr (instrs o) ++ tail_items t) where
   abbrev pub ws : List ℕ
   ws = map encode (instrs o)
 
+  abbrev ts : List ℕ
+  ts = targets (tail_items t)
+
   as_words : put tag 0 (map raw ws ++ tail_items t) s ≡ emitted tag o s
   as_words = put_same (tail_items t) tag 0 (instrs o) s ∙ ap₂ (λ (k : ℕ) (l : List Item). put tag k l s) (sym z) (sym (items_all o z ∙ g))
 
-  -- asked for n words and jumps to ts: n is the count of instructions, or 0 where any order has room
-  module _ (n j : ℕ) (ts : List ℕ) (x : Outcome) (en : n ≡ cond (leb (s.asm.len + 44) (room (length s.buf))) 0 (length (instrs o))) (et : ts ≡ targets (tail_items t)) (ej : j ≡ length ts) (q : x ≡ settled (verdict 0 [] ts (n + j) s) s s) where
-    number : verdict 0 [] ts (n + j) s ≡ verdict 0 [] (targets (tail_items t)) (length ws + length (targets (tail_items t))) s
+  -- asked for n words and the jumps: n is the count of instructions, or 0 where any order has room
+  module _ (n : ℕ) (en : n ≡ cond (leb (s.asm.len + 44) (room (length s.buf))) 0 (length (instrs o))) where
+    number : verdict 0 [] ts (n + length ts) s ≡ put_number 0 (map raw ws ++ tail_items t) s
     number =
-        rw (ej, et, needed_fits (length s.buf) s.asm n (length (instrs o)) (length (targets (tail_items t))) (together o (tail_items t) _ g (tail_length t)) en, length-map (instrs o) encode)
+        rw (needed_fits (length s.buf) s.asm n (length (instrs o)) (length ts) (together o (tail_items t) _ g (tail_length t)) en, ← length-map (instrs o) encode) (sym (whole_number ws t s))
 
-    pub order_full : mark x.answer ≡ 1 → x ≡ emitted tag o s
-    unfolding put
-    order_full r =
-        kept _ s (placed tag (map raw ws ++ tail_items t) s) x q r
-        ∙ ap (λ (k : ℕ). settled k s (placed tag (map raw ws ++ tail_items t) s)) (number ∙ sym (whole_number ws t s))
-        ∙ as_words
+    pub order_full : (r : Result (Unit {0}) Refused) (e : Refused) → r ≡ Err e → ◌≡◌ {A = Outcome} (record { answer = refused (number_of e.why) e.place; state = s }) (prechecked 0 [] ts (n + length ts) s) → ◌≡◌ {A = Outcome} (record { answer = emit_answer r; state = s }) (emitted tag o s)
+    order_full r e i q = put_refused tag 0 (map raw ws ++ tail_items t) s r e _ number i q ∙ as_words
 
-    pub order_room : mark x.answer ≡ 0 → s.asm.len + 4 * length (instrs o) ≤ room (length s.buf)
-    order_room r =
-        let k = takes (targets (tail_items t)) (length ws + length (targets (tail_items t))) s (sym number ∙ agreed _ s x q r) in
-        omega (arith, k.room_for, length-map (instrs o) encode)
+    module _ (q : ◌≡◌ {A = Outcome} (record { answer = accepted tt; state = s }) (prechecked 0 [] ts (n + length ts) s)) where
+      zero_number : verdict 0 [] ts (length ws + length ts) s ≡ 0
+      zero_number = sym (whole_number ws t s) ∙ sym number ∙ none_refused _ s q
 
-    pub order_placed : mark x.answer ≡ 0 → put tag 0 (tail_items t) (with_words ws s) ≡ emitted tag o s
-    order_placed r = rest_placed ws t tag s (sym number ∙ agreed _ s x q r) ∙ as_words
+      pub order_room : s.asm.len + 4 * length (instrs o) ≤ room (length s.buf)
+      order_room = let k = takes ts (length ws + length ts) s zero_number in omega (arith, k.room_for, length-map (instrs o) encode)
 
-    -- the words written and the jumps placed
-    pub order_done : (p : Plan) (r : ℕ) (d : List ℕ) → p ≡ no_words → tail_fault t ≡ 0 → Puts (map word (instrs o)) s.buf s.asm.len d r → mark x.answer ≡ 0 → put tag (plan_fault p t) (plan_items p t) (state (record { len = r; jumps = s.asm.jumps; closed = s.asm.closed }) s.labels s.jumps d) ≡ emitted tag o s
-    order_done p r d e f w m =
-        rw (e, f, w.0, w.1, words_valid (instrs o) (order_valid o z)) (order_placed m)
+      -- the words written and the jumps placed
+      pub order_done : (r : ℕ) (d : List ℕ) → tail_fault t ≡ 0 → Puts (map word (instrs o)) s.buf s.asm.len d r → put tag (plan_fault no_words t) (plan_items no_words t) (state (record { len = r; jumps = s.asm.jumps; closed = s.asm.closed }) s.labels s.jumps d) ≡ emitted tag o s
+      order_done r d f w = rw (f, w.0, w.1, words_valid (instrs o) (order_valid o z)) (rest_placed ws t tag s zero_number ∙ as_words)
 
-pub order_label : (o : Order) (tag : ℕ) (s : State) (l : ℕ) → fault o ≡ 0 → code o ≡ map instr (instrs o) ++ (label l ∷ []) → label_fault l ≡ 0 → instrs o ≡ [] → put 0 (label_fault l) (label l ∷ []) s ≡ emitted tag o s
-order_label o tag s l h g z n =
-    let e : items o ≡ label l ∷ [] = items_all o h ∙ g ∙ ap (λ (is : List Instr). map instr is ++ (label l ∷ [])) n in
-    put_label 0 tag (label_fault l) l s ∙ ap₂ (λ (k : ℕ) (is : List Item). put tag k is s) (z ∙ sym h) (sym e)
+pub order_label : (l tag : ℕ) (s : State) → fault (SetLabel l) ≡ 0 → put 0 (label_fault l) (label l ∷ []) s ≡ emitted tag (SetLabel l) s
+unfolding code
+order_label l tag s h =
+    let k : label_fault l ≡ 0 = label_fits l (order_small (SetLabel l) h refl) in
+    put_label 0 tag (label_fault l) l s ∙ ap₂ (λ (k : ℕ) (is : List Item). put tag k is s) (k ∙ sym h) (sym (items_all (SetLabel l) h))
 
-pub order_alone : (o : Order) (tag : ℕ) (s : State) (t : Tail) (p : Plan) → fault o ≡ 0 → code o ≡ map instr (instrs o) ++ tail_items t → tail_fault t ≡ 0 → instrs o ≡ [] → p ≡ no_words → put tag (plan_fault p t) (plan_items p t) s ≡ emitted tag o s
-order_alone o tag s t p h g z n q =
-    let e : items o ≡ tail_items t = items_all o h ∙ g ∙ ap (λ (is : List Instr). map instr is ++ tail_items t) n in
-    rw (q, z) (ap₂ (λ (k : ℕ) (is : List Item). put tag k is s) (sym h) (sym e))
-
--- where the jumps of an order without a fault go
-module _ (o : Order) (z : fault o ≡ 0) where
-  rest_targets : targets (items o) ≡ targets (rest_items (rest_of o))
-  rest_targets =
-      ap targets (items_all o z ∙ rest_right o)
-      ∙ targets_append (map instr (instrs o)) (rest_items (rest_of o))
-      ∙ ap (λ (l : List ℕ). l ++ targets (rest_items (rest_of o))) (targets_instrs (instrs o))
-
-  pub goes_behind : (r : Rest) (ts : List ℕ) → rest_of o ≡ r → ts ≡ targets (rest_items r) → ts ≡ targets (items o)
-  goes_behind r ts e h = h ∙ ap (λ (x : Rest). targets (rest_items x)) (sym e) ∙ sym rest_targets
-
--- a label has no jump
-pub label_goes : (l : ℕ) → [] ≡ targets (label l ∷ [])
-unfolding targets
-label_goes l = refl
+pub order_alone : (d k tag : ℕ) (s : State) → fault (LoadConst d k) ≡ 0 → put tag (plan_fault no_words (tail_of (LoadConst d k))) (plan_items no_words (tail_of (LoadConst d k))) s ≡ emitted tag (LoadConst d k) s
+unfolding code
+order_alone d k tag s h =
+    rw (tail_fits (LoadConst d k) h) (ap₂ (λ (k : ℕ) (is : List Item). put tag k is s) (sym h) (sym (items_all (LoadConst d k) h)))
 
 -- ---- an order of a deck
 
@@ -405,32 +359,24 @@ counted_some o = by (registers_fit (uses o).registers)
     by false e = omega arith
 
 -- an order whose cell is not below its count has no jump
-counted_none : (H : Head) (x : Operand) (d : ℕ) → operand_within H x ≡ false → [] ≡ targets (rest_items (behind_operand x d))
+counted_none : (H : Head) (o : Order) → index_holds H o ≡ false → targets [] ≡ targets (tail_items (tail_of o))
 unfolding targets
-counted_none H Nothing d e = refl
-counted_none H (Loaded p i) d e = refl
-counted_none H (Stored p i) d e = refl
-counted_none H (Constant k) d e = absurd (true_not_false (sym e))
-counted_none H (GoneTo l) d e = absurd (true_not_false (sym e))
-counted_none H (Set l) d e = refl
+counted_none H o e = grind arith
 
-counted_goes : (H : Head) (o : Order) → index_holds H o ≡ false → [] ≡ targets (items o)
+counted_goes : (H : Head) (o : Order) → index_holds H o ≡ false → targets [] ≡ targets (items o)
 counted_goes H o e = by (eqb (fault o) 0) refl
   where
-    by : (t : Bool) → eqb (fault o) 0 ≡ t → [] ≡ targets (items o)
-    by true q = counted_none H (uses o).operand _ e ∙ sym (rest_targets o (eqb-true (fault o) 0 q))
+    by : (t : Bool) → eqb (fault o) 0 ≡ t → targets [] ≡ targets (items o)
+    by true q = counted_none H o e ∙ goes_behind o (eqb-true (fault o) 0 q)
     by false q = items_none o (eqb-false (fault o) 0 q)
 
-module _ (H : Head) (tag : ℕ) (o : Order) (s : State) where
-  pub order_counted : (f : Fault) (x : Outcome) → index_holds H o ≡ false → fault_number f ≡ count_fault o → x ≡ settled (verdict (earlier (fault_number f) 0) [] [] 0 s) s s → x ≡ emitted_in H tag o s
-  order_counted f x e g q = rw e (order_refused o tag s f [] x g (counted_some o) (counted_goes H o e) q)
+module _ (H : Head) (tag : ℕ) (o : Order) (s : State) (x : Outcome) where
+  pub order_counted : (k w : ℕ) → index_holds H o ≡ false → k ≡ count_fault o → x ≡ prechecked k [] (targets []) w s → x ≡ emitted_in H tag o s
+  order_counted k w e g q = rw e (order_refused o tag s k _ w (targets []) x g (counted_some o) (counted_goes H o e) q)
 
-  pub order_unsaved : (f : Fault) (ts : List ℕ) (x : Outcome) → index_holds H o ≡ true → saves_hold H.mask o ≡ false → fault_number f ≡ unsaved_fault (fault o) → ts ≡ targets (items o)
-      → x ≡ settled (verdict (earlier (fault_number f) 0) [] ts 0 s) s s → x ≡ emitted_in H tag o s
-  order_unsaved f ts x e g h t q = rw (e, g) (order_refused o tag s f ts x h (unsaved_some (fault o)) t q)
-
-  pub order_goes : index_holds H o ≡ true → saves_hold H.mask o ≡ true → emitted tag o s ≡ emitted_in H tag o s
-  order_goes e f = rw (e, f)
+  pub order_unsaved : (k w : ℕ) (ts : List ℕ) → index_holds H o ≡ true → saves_hold H.mask o ≡ false → k ≡ unsaved_fault (fault o) → ts ≡ targets (items o)
+      → x ≡ prechecked k [] ts w s → x ≡ emitted_in H tag o s
+  order_unsaved k w ts e g h t q = rw (e, g) (order_refused o tag s k _ w ts x h (unsaved_some (fault o)) t q)
 
 -- of an order without a fault of its own
 pub deck_fault : (H : Head) (o : Order) → fault o ≡ 0 → fault_in H o ≡ cond (index_holds H o) (cond (saves_hold H.mask o) 0 11) 9

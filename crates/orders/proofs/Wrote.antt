@@ -2,30 +2,31 @@
 use mathlib.Core.Path.{◌≡◌, refl, sym, ap, ap₂, subst, ◌∙◌}
 use mathlib.Core.Bool.{Bool, true, false, cond}
 use mathlib.Core.List.{List, [], ◌∷◌, ◌++◌, map, map-append, append-nil}
-use Prim.Native.Nat.{ℕ, ◌+◌, ◌-◌, ◌*◌, ◌^◌, ◌≤◌, ◌<◌}
+use Prim.Native.Nat.{ℕ, ◌+◌, ◌*◌, ◌^◌, ◌≤◌, ◌<◌}
 use native.Mathlib.Nat.{mod-eq_of_lt}
 use native.Mathlib.Omega.{arith}
-use borrow.Author.Tests.{lt-ltb, le-ltb, le-leb, lt-leb, leb-true, leb-false}
-use lib.Dec.{leb}
+use borrow.Author.Tests.{lt-ltb, le-ltb, le-leb, leb-true}
 use lib.IntN.{pos}
-use lib.ListN.{length, length-append, length-map, length-drop, take, drop}
-use lib.Seq.{length-take-le, drop-length, drop-drop}
+use lib.ListN.{length, get_or, length-append, length-map, length-drop, take, drop}
+use lib.Seq.{length-take-le, drop-length, drop-drop, take-suc}
+use native.Mathlib.Numerals.{add-one}
+use borrow.Rule.Slice.PartMut.{put_mid}
 use Rattle.isa.specs.Immediate.{hi, lo}
 use Rattle.isa.specs.Instr.{Instr, R, I, U, ADD, LUI, operands, registers_hold, valid}
 use Rattle.isa.specs.Encode.{encode}
 use Rattle.machine.proofs.Placed.{Valids}
 use Rattle.encoder.specs.Answer.{Encoded, word_answer, encoded}
-use Rattle.std.specs.Prelude.{Ok, Err}
+use Rattle.std.specs.Prelude.{Ok, Err, Some, None}
 use Rattle.refusal.specs.declared.Refusal.TheVariants.{Register, Value}
 use Rattle.encoder.proofs.Answers.{good, bad_value, bad_register}
-use Rattle.assembler.specs.Bytes.{bytes, written, room}
-use Rattle.assembler.proofs.Writes.{written_is, written_none, written_then}
+use Rattle.assembler.specs.Bytes.{bytes, written, fitted, room}
+use Rattle.assembler.proofs.Writes.{length_written, written_is, written_none, written_then}
 use Rattle.accesses.specs.Code.{low_op, point_code, access_code}
 use Rattle.accesses.specs.Plans.{answer_of, word_of, access_instr}
 use Rattle.accesses.specs.Inner.Plans.{one_code}
 use Rattle.accesses.specs.declared.Cell.{Cell}
 use Rattle.accesses.proofs.Collect.{answered, li_far, word as answers_word}
-use Rattle.orders.specs.Wrote.{word, no_room, roomy, offset}
+use Rattle.orders.specs.Wrote.{word, roomy, offset}
 use Rattle.orders.specs.Inner.Wrote.{Puts, Fits, Is, far_code}
 
 -- words written at the start
@@ -34,19 +35,27 @@ start_written b ws h =
     let z : 0 + 4 * length ws ≡ 4 * length ws = omega arith in
     written_is b 0 ws (omega arith) ∙ ap (λ (k : ℕ). bytes ws ++ drop k b) z
 
--- words written over a part of the buffer, all of it
-pub part_written : (b : List ℕ) (len : ℕ) (ws : List ℕ) (k : ℕ) {p : List ℕ} → k ≡ 4 * length ws → k ≤ 65536 → len + 4 * length ws ≤ length b
-    → p ≡ cond (leb (4 * length ws) (room (length (take k (drop len b))))) (written (take k (drop len b)) 0 ws) (take k (drop len b))
-    → take len b ++ (p ++ drop k (drop len b)) ≡ written b len ws
-part_written b len ws k {p} i s h e =
-    let m : List ℕ = take k (drop len b) in
-    let n : length m ≡ 4 * length ws = length-take-le k (drop len b) (rw (length-drop len b) (omega (arith, i))) ∙ i in
-    let q : p ≡ bytes ws =
-    rw (le-leb (4 * length ws) (room (length m)) (omega (arith, n))) at e
-    ∙ start_written m ws (omega (arith, n))
-    ∙ ap (λ (l : List ℕ). bytes ws ++ l) (ap (λ (j : ℕ). drop j m) (sym n) ∙ drop-length m)
-    ∙ append-nil (bytes ws) in
-    ap₂ (λ (x y : List ℕ). take len b ++ (x ++ y)) q (drop-drop k len b ∙ ap (λ (j : ℕ). drop (len + j) b) i) ∙ sym (written_is b len ws h)
+-- a word written over a part of the buffer, all of it
+part_written : (b : List ℕ) (at k w : ℕ) {p : List ℕ} → k ≡ 4 → at + 4 ≤ length b → p ≡ fitted (take k (drop at b)) 0 (w ∷ []) → put_mid at k b p ≡ written b at (w ∷ [])
+part_written b at k w {p} i h e =
+    let m : List ℕ = take k (drop at b) in
+    let n : length m ≡ 4 = length-take-le k (drop at b) (rw (length-drop at b) (omega (arith, i))) ∙ i in
+    let q : p ≡ bytes (w ∷ []) =
+    rw (le-leb 4 (room (length m)) (omega (arith, n))) at e
+    ∙ start_written m (w ∷ []) (omega (arith, n))
+    ∙ ap (λ (l : List ℕ). bytes (w ∷ []) ++ l) (ap (λ (j : ℕ). drop j m) (sym n) ∙ drop-length m)
+    ∙ append-nil (bytes (w ∷ [])) in
+    ap₂ (λ (x y : List ℕ). take at b ++ (x ++ y)) q (drop-drop k at b ∙ ap (λ (j : ℕ). drop (at + j) b) i) ∙ sym (written_is b at (w ∷ []) h)
+
+-- one answer's word more, behind those before it
+pub put_next : (b m : List ℕ) (len i k w : ℕ) (es : List Encoded) {p : List ℕ} → k ≡ 4 → i < length es → len + 4 * length es ≤ length b → m ≡ written b len (map word_of (take i es)) → w ≡ word_of (get_or es i (Ok 0))
+    → p ≡ fitted (take k (drop (len + 4 * i) m)) 0 (w ∷ []) → put_mid (len + 4 * i) k m p ≡ written b len (map word_of (take (i + 1) es))
+put_next b m len i k w es c l h e g q =
+    let n : length m ≡ length b = ap length e ∙ length_written b len (map word_of (take i es)) in
+    let j : length (map word_of (take i es)) ≡ i = length-map (take i es) word_of ∙ length-take-le i es (omega arith) in
+    let r : map word_of (take (i + 1) es) ≡ map word_of (take i es) ++ (w ∷ []) =
+    ap (map word_of) (rw add-one (take-suc es i (Ok 0) l)) ∙ map-append word_of (take i es) (get_or es i (Ok 0) ∷ []) ∙ ap (λ (x : ℕ). map word_of (take i es) ++ (x ∷ [])) (sym g) in
+    rw r (written_then b len (map word_of (take i es)) (w ∷ []) e (rw j (part_written m (len + 4 * i) k w c (omega (arith, n)) q)))
 
 -- ---- the words one after the other
 
@@ -61,10 +70,6 @@ put_then b len xs ys {c} p q = (
 
 -- ---- the encoder's answers
 
--- a word of it
-pub word_is : (e : Encoded) (i : Instr) {w : ℕ} → w ≡ word_of e → Is e i → w ≡ word i
-word_is e i h t = h ∙ ap word_of (answered e i t)
-
 -- told by the answer itself
 pub is_answer : (e : Encoded) (i : Instr) → e ≡ answer_of i → Is e i
 is_answer e i h = ap word_answer h ∙ by (registers_hold (operands i)) (valid i) refl refl
@@ -74,20 +79,22 @@ is_answer e i h = ap word_answer h ∙ by (registers_hold (operands i)) (valid i
     by true false p q = bad_value i p q
     by false c p q = bad_register i p
 
-abbrev pub Words : List ℕ → List Instr → Type 0
-Words [] [] = Unit {0}
-Words [] (i ∷ is) = ⊥
-Words (w ∷ ws) [] = ⊥
-Words (w ∷ ws) (i ∷ is) = (w ≡ word i) × Words ws is
+-- an answer and its instruction
+pub record Told : Type 0 where
+  pub answer : Encoded
+  pub of : Instr
+  pub is : Is answer of
 
-same_words : (ws : List ℕ) (is : List Instr) → Words ws is → ws ≡ map word is
-same_words [] [] h = refl
-same_words [] (i ∷ is) h = absurd h
-same_words (w ∷ ws) [] h = absurd h
-same_words (w ∷ ws) (i ∷ is) h = ap₂ ◌∷◌ h.0 (same_words ws is h.1)
+abbrev pub told : (e : Encoded) (i : Instr) → Is e i → Told
+told e i h = record { answer = e; of = i; is = h }
 
-pub wrote : (b : List ℕ) (len : ℕ) (ws : List ℕ) (is : List Instr) {d : List ℕ} {r : ℕ} → Words ws is → Puts ws b len d r → Puts (map word is) b len d r
-wrote b len ws is {d} {r} h g = subst (λ (l : List ℕ). Puts l b len d r) (same_words ws is h) g
+same_words : (ts : List Told) → map word_of (map (λ t. t.answer) ts) ≡ map word (map (λ t. t.of) ts)
+same_words [] = refl
+same_words (t ∷ ts) = ap₂ ◌∷◌ (ap word_of (answered t.answer t.of t.is)) (same_words ts)
+
+-- words of answers are those of their instructions
+pub put_code : (ts : List Told) (b : List ℕ) (len : ℕ) (d : List ℕ) (r : ℕ) → Puts (map word_of (map (λ t. t.answer) ts)) b len d r → Puts (map word (map (λ t. t.of) ts)) b len d r
+put_code ts b len d r g = subst (λ (l : List ℕ). Puts l b len d r) (same_words ts) g
 
 pub wrote_then : (b : List ℕ) (len : ℕ) (is js : List Instr) {c d : List ℕ} {k r : ℕ} → Puts (map word is) b len c k → Puts (map word js) c k d r → Puts (map word (is ++ js)) b len d r
 wrote_then b len is js {d = d} {r = r} p q =
@@ -99,21 +106,14 @@ fits_as len b e h = subst (λ (l : List Instr). Fits l len b) e h
 
 -- ---- where the longest order has room, and where it has none
 
-pub room_test : (n len : ℕ) → len ≤ 65492 → 44 ≤ n → leb len (n - 44) ≡ leb (len + 44) (room n)
-room_test n len h k = by (leb len (n - 44)) refl
-  where
-    by : (t : Bool) → leb len (n - 44) ≡ t → t ≡ leb (len + 44) (room n)
-    by true e = let l : len ≤ n - 44 = leb-true len (n - 44) e in sym (le-leb (len + 44) (room n) (omega arith))
-    by false e = let l : n - 44 < len = leb-false len (n - 44) e in sym (lt-leb (len + 44) (room n) (omega arith))
-
 module _ (b : List ℕ) (len : ℕ) (is : List Instr) {t : Bool} (h : t ≡ roomy len b) where
   pub roomy_fits : t ≡ true → length is ≤ 11 → Fits is len b
   roomy_fits e s = let l = leb-true (len + 44) (room (length b)) (sym h ∙ e) in omega (arith, l, s)
 
-  pub wrote_roomy : {d : List ℕ} {r : ℕ} → t ≡ true → Puts (map word is) b len d r → (d ≡ cond (roomy len b) (written b len (map word is)) b) × (r ≡ cond (roomy len b) (len + 4 * length is) no_room)
-  wrote_roomy e w = rw (sym h ∙ e) (w.0, w.1 ∙ ap (λ (n : ℕ). len + 4 * n) (length-map is word))
+  pub wrote_roomy : {d : List ℕ} {r : ℕ} → t ≡ true → Puts (map word is) b len d r → (d ≡ cond (roomy len b) (written b len (map word is)) b) × (Some r ≡ cond (roomy len b) (Some (len + 4 * length is)) None)
+  wrote_roomy e w = rw (sym h ∙ e) (w.0, ap Some (w.1 ∙ ap (λ (n : ℕ). len + 4 * n) (length-map is word)))
 
-  pub wrote_none : t ≡ false → (b ≡ cond (roomy len b) (written b len (map word is)) b) × (no_room ≡ cond (roomy len b) (len + 4 * length is) no_room)
+  pub wrote_none : t ≡ false → (b ≡ cond (roomy len b) (written b len (map word is)) b) × (None ≡ cond (roomy len b) (Some (len + 4 * length is)) None)
   wrote_none e = rw (sym h ∙ e) (refl, refl)
 
 -- an index whose offset is not cut

@@ -5,30 +5,24 @@ ghost use Rattle.std.specs.Prelude.{◌≡◌, cond, [], ◌++◌, map, ◌≤�
 ghost use Rattle.assembler.specs.Item.{instr};
 ghost use Rattle.assembler.specs.State.{before, after};
 ghost use Rattle.assembler.specs.Put.{targets};
-ghost use Rattle.assembler.specs.Plan.{fault_number, tail_items, tail_fault, goes_to};
+ghost use Rattle.assembler.specs.Plan.{fault_number, tail_items, tail_fault};
+ghost use Rattle.refusal.specs.Number.{number_of};
 ghost use Rattle.orders.specs.Code.{code};
 ghost use Rattle.orders.specs.Fault.{fault as fault_of, operand_fault};
 ghost use Rattle.orders.specs.Emitted.{items, emitted, count_fault, unsaved_fault, emitted_in};
-ghost use Rattle.orders.specs.Inner.Parts.{instrs, rest_of};
+ghost use Rattle.orders.specs.Inner.Parts.{instrs, tail_of};
 
 pub mod named;
 mod write;
 
-use assembler::{Answer, Asm, EmitResult, Fault, Goes, JumpKind, Jumps, Labels, Sets, Tail};
+use assembler::{Assembler, JumpKind, Plan, Tail};
 use ast::{Head, Operand, Order};
 use encoder::ZERO;
+use refusal::{Refusal, Refused};
 pub use write::{
-    NO_ROOM, write_binary, write_fused, write_ifelse, write_load, write_save, write_scratched,
+    is_roomy, write_binary, write_fused, write_ifelse, write_load, write_save, write_scratched,
     write_unary,
 };
-
-// What stands behind the instructions of an order: jumps. Or it has no instructions, and is a label or jumps alone.
-#[derive(Clone, Copy)]
-enum Rest {
-    Jumps(Tail),
-    Label(u32),
-    Alone(Tail),
-}
 
 // ---- refusals
 
@@ -40,187 +34,112 @@ const LAST_CONSTANT: u32 = 1007;
 const LAST_LABEL: u32 = 1023;
 
 // A number that has a last.
-fn up_to(n: u32, last: u32, above: Fault) -> Fault
-    ensures { fault_number result ≡ cond (leb n last) 0 (fault_number above) }
+fn up_to(n: u32, last: u32, above: Refusal) -> Option<Refusal>
+    ensures { fault_number result ≡ cond (leb n last) 0 (number_of above) }
 {
-    if n <= last { Fault::Nothing } else { above }
+    if n <= last { None } else { Some(above) }
 }
 
-fn operand_fault(x: Operand) -> Fault
+fn operand_fault(x: Operand) -> Option<Refusal>
     ensures { fault_number result ≡ operand_fault x }
 {
     match x {
-        Operand::Nothing => Fault::Nothing,
-        Operand::Loaded(_, i) => up_to(i, LAST_CELL, Fault::Value),
-        Operand::Stored(_, i) => up_to(i, LAST_CELL, Fault::Value),
-        Operand::Constant(k) => up_to(k, LAST_CONSTANT, Fault::Count),
-        Operand::GoneTo(l) => up_to(l, LAST_LABEL, Fault::Label),
-        Operand::Set(l) => up_to(l, LAST_LABEL, Fault::Label),
+        Operand::Nothing => None,
+        Operand::Loaded(_, i) | Operand::Stored(_, i) => up_to(i, LAST_CELL, Refusal::Value),
+        Operand::Constant(k) => up_to(k, LAST_CONSTANT, Refusal::Count),
+        Operand::GoneTo(l) | Operand::Set(l) => up_to(l, LAST_LABEL, Refusal::Label),
     }
 }
 
 // What is refused of an order's operands.
-pub fn fault(o: Order) -> Fault
+pub fn fault(o: Order) -> Option<Refusal>
     ensures { fault_number result ≡ fault_of o }
 {
     if ast::registers_fit(o) {
-        let u = ast::uses(o);
-        let x = u.operand;
-        return operand_fault(x);
+        operand_fault(ast::uses(o).operand)
+    } else {
+        Some(Refusal::Register)
     }
-    Fault::Register
 }
 
 // ---- placed
 
-fn behind(o: Order) -> Rest
+// The jumps behind an order's instructions.
+fn tail(o: Order) -> Tail
     requires { fault_of o ≡ 0 }
-    ensures { result ≡ rest_of o }
+    ensures { result ≡ tail_of o }
 {
-    let u = ast::uses(o);
-    let x = u.operand;
-    match x {
-        Operand::Nothing => Rest::Jumps(Tail::Nothing),
-        Operand::Loaded(_, _) => Rest::Jumps(Tail::Nothing),
-        Operand::Stored(_, _) => Rest::Jumps(Tail::Nothing),
-        Operand::Constant(k) => Rest::Alone(Tail::Pair(JumpKind::Fld, 1024 + k, u.a)),
-        Operand::GoneTo(l) => Rest::Jumps(Tail::Pair(JumpKind::Jalr, l, ZERO)),
-        Operand::Set(l) => Rest::Label(l),
+    match o {
+        Order::LoadConst(d, k) => Tail::Pair(JumpKind::Fld, 1024 + k, d),
+        Order::BranchIf(_, l, _) => Tail::Pair(JumpKind::Jalr, l, ZERO),
+        _ => Tail::Nothing,
     }
 }
 
 // Instructions and the jumps behind them: asked for as a whole, then written.
-fn place(
-    o: Order,
-    t: Tail,
-    tag: u32,
-    buf: &mut [u8],
-    labels: &mut Labels,
-    jumps: &mut Jumps,
-    asm: Asm,
-) -> EmitResult
+fn place(asm: &mut Assembler<'_>, o: Order, t: Tail, tag: u32) -> Result<(), Refused>
     requires { (fault_of o ≡ 0) × (code o ≡ map instr (instrs o) ++ tail_items t) × (tail_fault t ≡ 0) }
-    ensures { after result labels jumps buf ≡ emitted tag o (before asm labels jumps buf) }
+    ensures { after result asm.new ≡ emitted tag o (before asm.old) }
 {
-    let g = assembler::goes_of(t);
-    let d = assembler::check_whole(
-        Fault::Nothing,
-        Sets::Nothing,
-        g,
-        write::needed(o, buf.len(), asm.len) + assembler::go_count(g),
-        buf,
-        labels,
-        asm,
-    );
-    let a = d.answer;
-    match a {
-        Answer::Refused(_, _) => d,
-        Answer::Accepted => {
-            let len = write::put_instrs(o, buf, asm.len);
-            let next = Asm {
-                len,
-                jumps: asm.jumps,
-                closed: asm.closed,
-            };
-            assembler::place(assembler::no_plan(), t, tag, buf, labels, jumps, next)
-        }
-    }
+    let n = write::needed(o, asm.buf.len(), asm.asm.len);
+    asm.check_tail(None, n, t)?;
+    asm.asm.len = write::put_instrs(o, asm.buf, asm.asm.len);
+    asm.place(Plan::new(), t, tag)
 }
 
 // Any order: done, or refused and nothing changes. `tag` is the caller's own number, kept with each jump.
-pub fn emit(
-    o: Order,
-    tag: u32,
-    buf: &mut [u8],
-    labels: &mut Labels,
-    jumps: &mut Jumps,
-    asm: Asm,
-) -> EmitResult
-    ensures { after result labels jumps buf ≡ emitted tag o (before asm labels jumps buf) }
+pub fn emit(asm: &mut Assembler<'_>, o: Order, tag: u32) -> Result<(), Refused>
+    ensures { after result asm.new ≡ emitted tag o (before asm.old) }
 {
     let f = fault(o);
-    let k = assembler::fault_number(f);
-    if k != 0 {
-        return assembler::check_whole(f, Sets::Nothing, Goes::Nowhere, 0, buf, labels, asm);
+    if f.is_some() {
+        return asm.check_tail(f, 0, Tail::Nothing);
     }
-    let r = behind(o);
-    match r {
-        Rest::Jumps(t) => place(o, t, tag, buf, labels, jumps, asm),
-        Rest::Label(l) => assembler::set_label(l, buf, labels, jumps, asm),
-        Rest::Alone(t) => assembler::place(assembler::no_plan(), t, tag, buf, labels, jumps, asm),
+    match o {
+        Order::SetLabel(l) => asm.set_label(l),
+        Order::LoadConst(_, _) => asm.place(Plan::new(), tail(o), tag),
+        _ => place(asm, o, tail(o), tag),
     }
 }
 
 // Of an order whose cell is not below its count: 1, then 9.
-fn count_fault(o: Order) -> Fault
+fn count_fault(o: Order) -> Option<Refusal>
     ensures { fault_number result ≡ count_fault o }
 {
     if ast::registers_fit(o) {
-        Fault::Count
+        Some(Refusal::Count)
     } else {
-        Fault::Register
+        Some(Refusal::Register)
     }
 }
 
 // 11, behind what else is refused of the order.
-fn unsaved(f: Fault) -> Fault
+fn unsaved(f: Option<Refusal>) -> Option<Refusal>
     ensures { fault_number result ≡ unsaved_fault (fault_number f) }
 {
-    if assembler::fault_number(f) == 0 {
-        Fault::Unsaved
-    } else {
-        f
-    }
+    f.or(Some(Refusal::Unsaved))
 }
 
-// Where the jumps of an order go, if it has no fault.
-fn goes(o: Order) -> Goes
-    ensures { goes_to result ≡ targets (items o) }
+// The jumps of an order, if it has no fault: the numbers of their labels are looked at.
+fn goes(o: Order) -> Tail
+    ensures { targets (tail_items result) ≡ targets (items o) }
 {
-    if assembler::fault_number(fault(o)) != 0 {
-        return Goes::Nowhere;
-    }
-    let r = behind(o);
-    match r {
-        Rest::Jumps(t) => assembler::goes_of(t),
-        Rest::Label(_) => Goes::Nowhere,
-        Rest::Alone(t) => assembler::goes_of(t),
+    if fault(o).is_some() {
+        Tail::Nothing
+    } else {
+        tail(o)
     }
 }
 
 // An order of a deck with this line 1.
-pub fn emit_in(
-    head: Head,
-    tag: u32,
-    o: Order,
-    buf: &mut [u8],
-    labels: &mut Labels,
-    jumps: &mut Jumps,
-    asm: Asm,
-) -> EmitResult
-    ensures { after result labels jumps buf ≡ emitted_in head tag o (before asm labels jumps buf) }
+pub fn emit_in(asm: &mut Assembler<'_>, head: Head, tag: u32, o: Order) -> Result<(), Refused>
+    ensures { after result asm.new ≡ emitted_in head tag o (before asm.old) }
 {
-    if ast::index_holds(head, o) {
-        if ast::saves_hold(head.mask, o) {
-            return emit(o, tag, buf, labels, jumps, asm);
-        }
-        return assembler::check_whole(
-            unsaved(fault(o)),
-            Sets::Nothing,
-            goes(o),
-            0,
-            buf,
-            labels,
-            asm,
-        );
+    if !ast::index_holds(head, o) {
+        return asm.check_tail(count_fault(o), 0, Tail::Nothing);
     }
-    assembler::check_whole(
-        count_fault(o),
-        Sets::Nothing,
-        Goes::Nowhere,
-        0,
-        buf,
-        labels,
-        asm,
-    )
+    if !ast::saves_hold(head.mask, o) {
+        return asm.check_tail(unsaved(fault(o)), 0, goes(o));
+    }
+    emit(asm, o, tag)
 }

@@ -1,16 +1,18 @@
 // The instructions of the orders, written into the buffer from numbers alone.
-ghost use Rattle.std.specs.Prelude.{◌≡◌, cond, [], ◌∷◌, ◌+◌, ◌≤◌, leb, length};
+ghost use Rattle.std.specs.Prelude.{◌≡◌, cond, map, ◌+◌, ◌*◌, ◌≤◌, leb, length};
 ghost use Rattle.isa.specs.Instr.{Instr, R4};
 ghost use Rattle.assembler.specs.Bytes.{room};
 ghost use Rattle.accesses.specs.Code.{load_float_code, save_float_code};
+ghost use Rattle.accesses.specs.Plans.{word_of};
 ghost use Rattle.accesses.specs.Inner.Plans.{one_code};
 ghost use Rattle.orders.specs.Code.{base, unary_code, scratched_code, binary_code, fused_op, fused_code, choose_code, ifelse_code};
 ghost use Rattle.orders.specs.Fault.{fault as fault_of};
 ghost use Rattle.orders.specs.Inner.Parts.{instrs, skip_code};
 ghost use Rattle.orders.specs.Wrote.{Wrote, offset};
-ghost use Rattle.orders.specs.Inner.Wrote.{Is, PutCode, Fits, bits_code, far_code};
+ghost use Rattle.orders.specs.Inner.Wrote.{Is, Puts, PutCode, Fits, bits_code, far_code};
 
 use accesses::Cell;
+use assembler::ROOM;
 use ast::{Binary, Fused, Order, Place, Scratched, Unary};
 use encoder::{Encoded, S1, S4, S5, T0, T1, T2, ZERO};
 
@@ -38,62 +40,17 @@ fn base_of(p: Place) -> u32
     }
 }
 
-// ---- one to five words, from the encoder's answers for instructions
+// ---- words, from the encoder's answers for instructions
 
-fn put_one(buf: &mut [u8], len: usize, a: Encoded) -> usize
-    requires { len + 4 ≤ length buf.old }
-    ensures { (result ≡ len + 4) × ((i : Instr) → Is a i → PutCode (i ∷ []) len buf result) }
+fn put(buf: &mut [u8], len: usize, es: &[Encoded]) -> usize
+    requires { len + 4 * length es.now ≤ length buf.old }
+    ensures { Puts (map word_of es.now) buf.old len buf.new result }
 {
-    let end = len + 4;
-    assembler::write_word(&mut buf[len..end], 0, a.unwrap_or(0));
-    end
-}
-
-fn put_two(buf: &mut [u8], len: usize, a: Encoded, b: Encoded) -> usize
-    requires { len + 8 ≤ length buf.old }
-    ensures { (result ≡ len + 8) × ((i j : Instr) → Is a i → Is b j → PutCode (i ∷ j ∷ []) len buf result) }
-{
-    let next = put_one(buf, len, a);
-    put_one(buf, next, b)
-}
-
-fn put_three(buf: &mut [u8], len: usize, a: Encoded, b: Encoded, c: Encoded) -> usize
-    requires { len + 12 ≤ length buf.old }
-    ensures { (result ≡ len + 12) × ((i j k : Instr) → Is a i → Is b j → Is c k → PutCode (i ∷ j ∷ k ∷ []) len buf result) }
-{
-    let next = put_two(buf, len, a, b);
-    put_one(buf, next, c)
-}
-
-fn put_four(buf: &mut [u8], len: usize, a: Encoded, b: Encoded, c: Encoded, d: Encoded) -> usize
-    requires { len + 16 ≤ length buf.old }
-    ensures { (result ≡ len + 16)
-        × ((i j k l : Instr) → Is a i → Is b j → Is c k → Is d l → PutCode (i ∷ j ∷ k ∷ l ∷ []) len buf result) }
-{
-    let w = a.unwrap_or(0);
-    let x = b.unwrap_or(0);
-    let y = c.unwrap_or(0);
-    let z = d.unwrap_or(0);
-    let end = len + 16;
-    assembler::write_four(&mut buf[len..end], 0, w, x, y, z);
-    end
-}
-
-fn put_five(
-    buf: &mut [u8],
-    len: usize,
-    a: Encoded,
-    b: Encoded,
-    c: Encoded,
-    d: Encoded,
-    e: Encoded,
-) -> usize
-    requires { len + 20 ≤ length buf.old }
-    ensures { (result ≡ len + 20)
-        × ((i j k l m : Instr) → Is a i → Is b j → Is c k → Is d l → Is e m → PutCode (i ∷ j ∷ k ∷ l ∷ m ∷ []) len buf result) }
-{
-    let next = put_four(buf, len, a, b, c, d);
-    put_one(buf, next, e)
+    for (i, e) in es.iter().enumerate() {
+        let at = len + 4 * i;
+        assembler::write_words(&mut buf[at..at + 4], 0, &[e.unwrap_or(0)]);
+    }
+    len + 4 * es.len()
 }
 
 // ---- the instructions of an order, where they have room
@@ -105,35 +62,38 @@ fn put_unary(k: Unary, d: u32, s: u32, buf: &mut [u8], len: usize) -> usize
     match k {
         Unary::Fmov => {
             if d == s {
-                return len;
+                len
+            } else {
+                put(buf, len, &[encoder::fmv_d(d, s)])
             }
-            put_one(buf, len, encoder::fmv_d(d, s))
         }
-        Unary::Recip => put_three(
+        Unary::Recip => put(
             buf,
             len,
-            encoder::addi(T0, ZERO, 1),
-            encoder::fcvt_d_w(F10, T0),
-            encoder::fdiv_d(d, F10, s),
+            &[
+                encoder::addi(T0, ZERO, 1),
+                encoder::fcvt_d_w(F10, T0),
+                encoder::fdiv_d(d, F10, s),
+            ],
         ),
-        Unary::Round => put_two(
+        Unary::Round => put(
             buf,
             len,
-            encoder::fcvt_l_d(T0, s, 0),
-            encoder::fcvt_d_l(d, T0),
+            &[encoder::fcvt_l_d(T0, s, 0), encoder::fcvt_d_l(d, T0)],
         ),
-        Unary::Floor => put_two(
+        Unary::Floor => put(
             buf,
             len,
-            encoder::fcvt_l_d(T0, s, 2),
-            encoder::fcvt_d_l(d, T0),
+            &[encoder::fcvt_l_d(T0, s, 2), encoder::fcvt_d_l(d, T0)],
         ),
-        Unary::Not => put_three(
+        Unary::Not => put(
             buf,
             len,
-            encoder::fmv_x_d(T0, s),
-            encoder::not(T0, T0),
-            encoder::fmv_d_x(d, T0),
+            &[
+                encoder::fmv_x_d(T0, s),
+                encoder::not(T0, T0),
+                encoder::fmv_d_x(d, T0),
+            ],
         ),
     }
 }
@@ -143,21 +103,25 @@ fn put_scratched(k: Scratched, d: u32, s: u32, t: u32, buf: &mut [u8], len: usiz
     ensures { PutCode (scratched_code k d s t) len buf result }
 {
     match k {
-        Scratched::Sign => put_five(
+        Scratched::Sign => put(
             buf,
             len,
-            encoder::fmv_d_x(t, ZERO),
-            encoder::flt_d(T0, t, s),
-            encoder::flt_d(T1, s, t),
-            encoder::sub(T0, T0, T1),
-            encoder::fcvt_d_w(d, T0),
+            &[
+                encoder::fmv_d_x(t, ZERO),
+                encoder::flt_d(T0, t, s),
+                encoder::flt_d(T1, s, t),
+                encoder::sub(T0, T0, T1),
+                encoder::fcvt_d_w(d, T0),
+            ],
         ),
-        Scratched::Frac => put_three(
+        Scratched::Frac => put(
             buf,
             len,
-            encoder::fcvt_l_d(T0, s, 2),
-            encoder::fcvt_d_l(t, T0),
-            encoder::fsub_d(d, s, t),
+            &[
+                encoder::fcvt_l_d(T0, s, 2),
+                encoder::fcvt_d_l(t, T0),
+                encoder::fsub_d(d, s, t),
+            ],
         ),
     }
 }
@@ -167,13 +131,15 @@ fn put_bits(op: Encoded, d: u32, a: u32, b: u32, buf: &mut [u8], len: usize) -> 
     requires { len + 16 ≤ length buf.old }
     ensures { (i : Instr) → Is op i → PutCode (bits_code i d a b) len buf result }
 {
-    put_four(
+    put(
         buf,
         len,
-        encoder::fmv_x_d(T0, a),
-        encoder::fmv_x_d(T1, b),
-        op,
-        encoder::fmv_d_x(d, T0),
+        &[
+            encoder::fmv_x_d(T0, a),
+            encoder::fmv_x_d(T1, b),
+            op,
+            encoder::fmv_d_x(d, T0),
+        ],
     )
 }
 
@@ -182,9 +148,10 @@ fn put_xor(d: u32, a: u32, b: u32, buf: &mut [u8], len: usize) -> usize
     ensures { PutCode (binary_code Binary.Xor d a b) len buf result }
 {
     if a == b {
-        return put_one(buf, len, encoder::fmv_d_x(d, ZERO));
+        put(buf, len, &[encoder::fmv_d_x(d, ZERO)])
+    } else {
+        put_bits(encoder::xor(T0, T0, T1), d, a, b, buf, len)
     }
-    put_bits(encoder::xor(T0, T0, T1), d, a, b, buf, len)
 }
 
 fn put_binary(k: Binary, d: u32, a: u32, b: u32, buf: &mut [u8], len: usize) -> usize
@@ -192,33 +159,39 @@ fn put_binary(k: Binary, d: u32, a: u32, b: u32, buf: &mut [u8], len: usize) -> 
     ensures { PutCode (binary_code k d a b) len buf result }
 {
     match k {
-        Binary::Minus => put_one(buf, len, encoder::fsub_d(d, a, b)),
-        Binary::Times => put_one(buf, len, encoder::fmul_d(d, a, b)),
-        Binary::Divide => put_one(buf, len, encoder::fdiv_d(d, a, b)),
-        Binary::Gt => put_three(
+        Binary::Minus => put(buf, len, &[encoder::fsub_d(d, a, b)]),
+        Binary::Times => put(buf, len, &[encoder::fmul_d(d, a, b)]),
+        Binary::Divide => put(buf, len, &[encoder::fdiv_d(d, a, b)]),
+        Binary::Gt => put(
             buf,
             len,
-            encoder::fgt_d(T0, a, b),
-            encoder::neg(T0, T0),
-            encoder::fmv_d_x(d, T0),
+            &[
+                encoder::fgt_d(T0, a, b),
+                encoder::neg(T0, T0),
+                encoder::fmv_d_x(d, T0),
+            ],
         ),
-        Binary::Neq => put_four(
+        Binary::Neq => put(
             buf,
             len,
-            encoder::feq_d(T0, a, b),
-            encoder::neg(T0, T0),
-            encoder::not(T0, T0),
-            encoder::fmv_d_x(d, T0),
+            &[
+                encoder::feq_d(T0, a, b),
+                encoder::neg(T0, T0),
+                encoder::not(T0, T0),
+                encoder::fmv_d_x(d, T0),
+            ],
         ),
         Binary::And => put_bits(encoder::and(T0, T0, T1), d, a, b, buf, len),
-        Binary::Andnot => put_five(
+        Binary::Andnot => put(
             buf,
             len,
-            encoder::fmv_x_d(T0, a),
-            encoder::not(T0, T0),
-            encoder::fmv_x_d(T1, b),
-            encoder::and(T0, T0, T1),
-            encoder::fmv_d_x(d, T0),
+            &[
+                encoder::fmv_x_d(T0, a),
+                encoder::not(T0, T0),
+                encoder::fmv_x_d(T1, b),
+                encoder::and(T0, T0, T1),
+                encoder::fmv_d_x(d, T0),
+            ],
         ),
         Binary::Or => put_bits(encoder::or(T0, T0, T1), d, a, b, buf, len),
         Binary::Xor => put_xor(d, a, b, buf, len),
@@ -229,7 +202,7 @@ fn put_fused(k: Fused, d: u32, a: u32, b: u32, c: u32, buf: &mut [u8], len: usiz
     requires { Fits (fused_code k d a b c) len buf.old }
     ensures { PutCode (fused_code k d a b c) len buf result }
 {
-    put_one(buf, len, fused(k, d, a, b, c))
+    put(buf, len, &[fused(k, d, a, b, c)])
 }
 
 // The access `last` through t0 = base + n.
@@ -237,13 +210,15 @@ fn put_far(last: Encoded, base: u32, n: u32, buf: &mut [u8], len: usize) -> usiz
     requires { len + 16 ≤ length buf.old }
     ensures { (i : Instr) → Is last i → PutCode (far_code i base n) len buf result }
 {
-    put_four(
+    put(
         buf,
         len,
-        encoder::lui(T0, encoder::hi(n)),
-        accesses::low_word(T0, n),
-        encoder::add(T0, T0, base),
-        last,
+        &[
+            encoder::lui(T0, encoder::hi(n)),
+            accesses::low_word(T0, n),
+            encoder::add(T0, T0, base),
+            last,
+        ],
     )
 }
 
@@ -253,9 +228,10 @@ fn put_access(k: Cell, r: u32, base: u32, n: u32, buf: &mut [u8], len: usize) ->
     ensures { PutCode (one_code k r base n) len buf result }
 {
     if n < 2048 {
-        return put_one(buf, len, accesses::access_at(k, r, base, n as i32));
+        put(buf, len, &[accesses::access_at(k, r, base, n as i32)])
+    } else {
+        put_far(accesses::access_at(k, r, T0, 0), base, n, buf, len)
     }
-    put_far(accesses::access_at(k, r, T0, 0), base, n, buf, len)
 }
 
 // t0 holds the cell's bits.
@@ -263,20 +239,18 @@ fn put_choose(d: u32, a: u32, b: u32, buf: &mut [u8], len: usize) -> usize
     requires { Fits (choose_code d a b) len buf.old }
     ensures { PutCode (choose_code d a b) len buf result }
 {
-    let next = put_four(
+    put(
         buf,
         len,
-        encoder::fmv_x_d(T1, a),
-        encoder::fmv_x_d(T2, b),
-        encoder::and(T1, T1, T0),
-        encoder::not(T0, T0),
-    );
-    put_three(
-        buf,
-        next,
-        encoder::and(T2, T2, T0),
-        encoder::or(T0, T1, T2),
-        encoder::fmv_d_x(d, T0),
+        &[
+            encoder::fmv_x_d(T1, a),
+            encoder::fmv_x_d(T2, b),
+            encoder::and(T1, T1, T0),
+            encoder::not(T0, T0),
+            encoder::and(T2, T2, T0),
+            encoder::or(T0, T1, T2),
+            encoder::fmv_d_x(d, T0),
+        ],
     )
 }
 
@@ -293,11 +267,12 @@ fn put_skip(c: u32, e: bool, buf: &mut [u8], len: usize) -> usize
     requires { Fits (skip_code c e) len buf.old }
     ensures { PutCode (skip_code c e) len buf result }
 {
-    let first = encoder::fmv_x_d(T0, c);
-    if e {
-        return put_two(buf, len, first, encoder::beq(T0, ZERO, 12));
-    }
-    put_two(buf, len, first, encoder::bne(T0, ZERO, 12))
+    let branch = if e {
+        encoder::beq(T0, ZERO, 12)
+    } else {
+        encoder::bne(T0, ZERO, 12)
+    };
+    put(buf, len, &[encoder::fmv_x_d(T0, c), branch])
 }
 
 // Of an order that is not refused.
@@ -311,27 +286,20 @@ pub(crate) fn put_instrs(o: Order, buf: &mut [u8], len: usize) -> usize
         Order::Binary(k, d, a, b) => put_binary(k, d, a, b, buf, len),
         Order::Fused(k, d, a, b, c) => put_fused(k, d, a, b, c, buf, len),
         Order::Ifelse(d, a, b, i) => put_ifelse(d, a, b, 8 * i, buf, len),
-        Order::LoadConst(_, _) => len,
         Order::Load(d, p, i) => put_access(Cell::LoadFloat, d, base_of(p), 8 * i, buf, len),
         Order::Save(s, p, i) => put_access(Cell::SaveFloat, s, base_of(p), 8 * i, buf, len),
         Order::BranchIf(c, _, e) => put_skip(c, e, buf, len),
-        Order::SetLabel(_) => len,
+        Order::LoadConst(_, _) | Order::SetLabel(_) => len,
     }
 }
 
 // ---- room
 
 // Whether the longest order, of eleven words, has room behind len in a buffer of n bytes.
-fn is_roomy(n: usize, len: usize) -> bool
+pub fn is_roomy(n: usize, len: usize) -> bool
     ensures { result ≡ leb (len + 44) (room n) }
 {
-    if 65492 < len {
-        return false;
-    }
-    if n < 44 {
-        return false;
-    }
-    len <= n - 44
+    len <= ROOM - 44 && len + 44 <= n
 }
 
 // How many instructions an order has, found by writing them elsewhere; 0 where the longest order has room, and no count is needed.
@@ -342,49 +310,65 @@ pub(crate) fn needed(o: Order, n: usize, len: usize) -> usize
     if is_roomy(n, len) {
         return 0;
     }
-    let mut own: [u8; 44] = [0; 44];
+    let mut own = [0u8; 44];
     put_instrs(o, &mut own, 0) / 4
 }
 
 // ---- the orders of instructions alone, written where the longest order has room
 
-// No length: there is no room.
-pub const NO_ROOM: usize = 0x100000000;
-
-pub fn write_unary(k: Unary, d: u32, s: u32, buf: &mut [u8], len: usize) -> usize
+pub fn write_unary(k: Unary, d: u32, s: u32, buf: &mut [u8], len: usize) -> Option<usize>
     ensures { Wrote (unary_code k d s) len buf result }
 {
     if is_roomy(buf.len(), len) {
-        return put_unary(k, d, s, buf, len);
+        Some(put_unary(k, d, s, buf, len))
+    } else {
+        None
     }
-    NO_ROOM
 }
 
-pub fn write_scratched(k: Scratched, d: u32, s: u32, t: u32, buf: &mut [u8], len: usize) -> usize
+pub fn write_scratched(
+    k: Scratched,
+    d: u32,
+    s: u32,
+    t: u32,
+    buf: &mut [u8],
+    len: usize,
+) -> Option<usize>
     ensures { Wrote (scratched_code k d s t) len buf result }
 {
     if is_roomy(buf.len(), len) {
-        return put_scratched(k, d, s, t, buf, len);
+        Some(put_scratched(k, d, s, t, buf, len))
+    } else {
+        None
     }
-    NO_ROOM
 }
 
-pub fn write_binary(k: Binary, d: u32, a: u32, b: u32, buf: &mut [u8], len: usize) -> usize
+pub fn write_binary(k: Binary, d: u32, a: u32, b: u32, buf: &mut [u8], len: usize) -> Option<usize>
     ensures { Wrote (binary_code k d a b) len buf result }
 {
     if is_roomy(buf.len(), len) {
-        return put_binary(k, d, a, b, buf, len);
+        Some(put_binary(k, d, a, b, buf, len))
+    } else {
+        None
     }
-    NO_ROOM
 }
 
-pub fn write_fused(k: Fused, d: u32, a: u32, b: u32, c: u32, buf: &mut [u8], len: usize) -> usize
+pub fn write_fused(
+    k: Fused,
+    d: u32,
+    a: u32,
+    b: u32,
+    c: u32,
+    buf: &mut [u8],
+    len: usize,
+) -> Option<usize>
     ensures { Wrote (fused_code k d a b c) len buf result }
 {
     if is_roomy(buf.len(), len) {
-        return put_fused(k, d, a, b, c, buf, len);
+        Some(put_fused(k, d, a, b, c, buf, len))
+    } else {
+        None
     }
-    NO_ROOM
 }
 
 // 8 * i, of 32 bits
@@ -394,29 +378,32 @@ fn offset_of(i: u32) -> u32
     8 * (i % 0x20000000)
 }
 
-pub fn write_ifelse(d: u32, a: u32, b: u32, i: u32, buf: &mut [u8], len: usize) -> usize
+pub fn write_ifelse(d: u32, a: u32, b: u32, i: u32, buf: &mut [u8], len: usize) -> Option<usize>
     ensures { Wrote (ifelse_code d a b (offset i)) len buf result }
 {
     if is_roomy(buf.len(), len) {
-        return put_ifelse(d, a, b, offset_of(i), buf, len);
+        Some(put_ifelse(d, a, b, offset_of(i), buf, len))
+    } else {
+        None
     }
-    NO_ROOM
 }
 
-pub fn write_load(d: u32, p: Place, i: u32, buf: &mut [u8], len: usize) -> usize
+pub fn write_load(d: u32, p: Place, i: u32, buf: &mut [u8], len: usize) -> Option<usize>
     ensures { Wrote (load_float_code d (base p) (offset i)) len buf result }
 {
     if is_roomy(buf.len(), len) {
-        return put_access(Cell::LoadFloat, d, base_of(p), offset_of(i), buf, len);
+        Some(put_access(Cell::LoadFloat, d, base_of(p), offset_of(i), buf, len))
+    } else {
+        None
     }
-    NO_ROOM
 }
 
-pub fn write_save(s: u32, p: Place, i: u32, buf: &mut [u8], len: usize) -> usize
+pub fn write_save(s: u32, p: Place, i: u32, buf: &mut [u8], len: usize) -> Option<usize>
     ensures { Wrote (save_float_code s (base p) (offset i)) len buf result }
 {
     if is_roomy(buf.len(), len) {
-        return put_access(Cell::SaveFloat, s, base_of(p), offset_of(i), buf, len);
+        Some(put_access(Cell::SaveFloat, s, base_of(p), offset_of(i), buf, len))
+    } else {
+        None
     }
-    NO_ROOM
 }

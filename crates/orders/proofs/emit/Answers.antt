@@ -1,43 +1,31 @@
 use mathlib.Core.Path.{◌≡◌, sym, ◌∙◌}
-use mathlib.Core.List.{[], ◌++◌, map}
-use Rattle.assembler.specs.Item.{instr}
-use Rattle.assembler.specs.State.{State, state}
-use Rattle.ast.specs.declared.Order.{Order}
-use Rattle.orders.specs.Code.{code}
+use Rattle.assembler.specs.State.{before}
 use Rattle.orders.specs.Fault.{fault}
-use Rattle.orders.specs.Inner.Parts.{instrs}
-use Rattle.orders.specs.declared.Rest.{Rest}
-use Rattle.orders.proofs.Whole.{rest_items, rest_fault, Bare, behind_as, items_none, order_refused, order_label, order_alone}
+use Rattle.orders.proofs.Whole.{fault_some, fault_none, items_none, order_refused, order_label, order_alone, tail_right, tail_fits}
 use Rattle.orders.proofs.emit.Goals as goal
 
-pub returns-then-k-ne0 : goal.returns-then-k-ne0
-returns-then-k-ne0 c =
-    let whole : State = let a = c.args in state a.asm a.labels.now a.jumps.now a.buf.now in
-    let bad : fault c.args.o ≡ 0 → ⊥ = λ q. c.if-k-ne0.true (c.fault_number-k.ensures.0 ∙ c.fault-f.ensures ∙ q) in
-    order_refused c.args.o c.args.tag whole c.fault-f.result [] _ c.fault-f.ensures bad (items_none c.args.o bad) (c.check_whole.ensures c.args.jumps.now)
+pub returns-then-is_some : goal.returns-then-is_some
+returns-then-is_some c =
+    let a = c.args in
+    let bad : fault a.o ≡ 0 → ⊥ = λ q. fault_some _ (sym c.is_some.ensures ∙ c.if-is_some.true) (c.fault-f.ensures ∙ q) in
+    order_refused a.o a.tag (before a.asm.now) _ _ _ _ _ c.fault-f.ensures bad (items_none a.o bad) c.check_tail.ensures.whole
 
-pub place-requires : goal.place-requires
-place-requires c =
-    let order : Order = c.args.o in
-    let good : fault order ≡ 0 = sym (c.fault_number-k.ensures.0 ∙ c.fault-f.ensures) ∙ c.if-k-ne0.false in
-    let rest : (r : Rest) → c.behind-r.result ≡ r → (code order ≡ map instr (instrs order) ++ rest_items r) × (rest_fault r ≡ 0) × Bare r (instrs order) = λ r e. behind_as order good _ (sym c.behind-r.ensures ∙ e) in
-    let q = rest _ c.in-Jumps.is in
-    (good, q.0, q.1)
+pub place-requires-in_default : goal.place-requires-in_default
+place-requires-in_default c =
+    let o = c.args.o in
+    let good : fault o ≡ 0 = sym c.fault-f.ensures ∙ fault_none _ (sym c.is_some.ensures ∙ c.if-is_some.false) in
+    rw c.tail-in_default.ensures (good, tail_right o c.in_default.not-SetLabel, tail_fits o good)
 
-pub returns-in-Label : goal.returns-in-Label
-returns-in-Label c =
-    let whole : State = let a = c.args in state a.asm a.labels.now a.jumps.now a.buf.now in
-    let order : Order = c.args.o in
-    let good : fault order ≡ 0 = sym (c.fault_number-k.ensures.0 ∙ c.fault-f.ensures) ∙ c.if-k-ne0.false in
-    let rest : (r : Rest) → c.behind-r.result ≡ r → (code order ≡ map instr (instrs order) ++ rest_items r) × (rest_fault r ≡ 0) × Bare r (instrs order) = λ r e. behind_as order good _ (sym c.behind-r.ensures ∙ e) in
-    let q = rest _ c.in-Label.is in
-    c.set_label.ensures ∙ order_label order c.args.tag whole _ good q.0 q.1 q.2
+pub returns-in-SetLabel : goal.returns-in-SetLabel
+returns-in-SetLabel c =
+    let a = c.args in
+    let good : fault a.o ≡ 0 = sym c.fault-f.ensures ∙ fault_none _ (sym c.is_some.ensures ∙ c.if-is_some.false) in
+    rw c.in-SetLabel.is (c.set_label.ensures ∙ order_label c.in-SetLabel.l a.tag (before a.asm.now) (rw c.in-SetLabel.is at good))
 
-pub returns-in-Alone : goal.returns-in-Alone
-returns-in-Alone c =
-    let whole : State = let a = c.args in state a.asm a.labels.now a.jumps.now a.buf.now in
-    let order : Order = c.args.o in
-    let good : fault order ≡ 0 = sym (c.fault_number-k.ensures.0 ∙ c.fault-f.ensures) ∙ c.if-k-ne0.false in
-    let rest : (r : Rest) → c.behind-r.result ≡ r → (code order ≡ map instr (instrs order) ++ rest_items r) × (rest_fault r ≡ 0) × Bare r (instrs order) = λ r e. behind_as order good _ (sym c.behind-r.ensures ∙ e) in
-    let q = rest _ c.in-Alone.is in
-    c.place-in-Alone.ensures ∙ order_alone order c.args.tag whole c.in-Alone.t _ good q.0 q.1 q.2 c.no_plan.ensures
+pub returns-in-LoadConst : goal.returns-in-LoadConst
+returns-in-LoadConst c =
+    let a = c.args in
+    let k = c.in-LoadConst in
+    let good : fault a.o ≡ 0 = sym c.fault-f.ensures ∙ fault_none _ (sym c.is_some.ensures ∙ c.if-is_some.false) in
+    let d = order_alone k.field-0 k.field-1 a.tag (before a.asm.now) (rw k.is at good) in
+    rw k.is ((rw (c.new.ensures, c.tail.ensures, k.is) at c.place.ensures) ∙ d)

@@ -1,18 +1,16 @@
 use mathlib.Core.Path.{sym, ap, ◌∙◌}
-use Rattle.assembler.specs.Plan.{goes_to}
-use Rattle.assembler.specs.State.{State, state}
+use Rattle.assembler.specs.State.{before}
 use Rattle.orders.specs.Emitted.{unsaved_fault}
 use Rattle.orders.proofs.Whole.{order_counted, order_unsaved}
 use Rattle.orders.proofs.emit_in.Goals as goal
 
-pub returns-then-index_holds : goal.returns-then-index_holds
-returns-then-index_holds c =
-    let whole : State = let a = c.args in state a.asm a.labels.now a.jumps.now a.buf.now in
+pub returns-then-not-index_holds : goal.returns-then-not-index_holds
+returns-then-not-index_holds c =
     let a = c.args in
-    order_unsaved a.head a.tag a.o whole c.unsaved.result (goes_to c.goes.result) _ (sym c.index_holds.ensures ∙ c.if-index_holds.true) (sym c.saves_hold.ensures ∙ c.if-saves_hold.false) (c.unsaved.ensures ∙ ap unsaved_fault c.fault.ensures) c.goes.ensures (c.check_whole.ensures a.jumps.now)
+    order_counted a.head a.tag a.o (before a.asm.now) _ _ _ (sym c.index_holds.ensures ∙ c.if-not-index_holds.true) c.count_fault.ensures c.check_tail.ensures.whole
 
-pub returns : goal.returns
-returns c =
-    let whole : State = let a = c.args in state a.asm a.labels.now a.jumps.now a.buf.now in
+pub returns-then-not-saves_hold : goal.returns-then-not-saves_hold
+returns-then-not-saves_hold c =
     let a = c.args in
-    order_counted a.head a.tag a.o whole c.count_fault.result _ (sym c.index_holds.ensures ∙ c.if-index_holds.false) c.count_fault.ensures (c.check_whole-2.ensures a.jumps.now)
+    let f = c.unsaved.ensures ∙ ap unsaved_fault c.fault.ensures in
+    order_unsaved a.head a.tag a.o (before a.asm.now) _ _ _ _ (sym c.index_holds.ensures ∙ c.if-not-index_holds.false) (sym c.saves_hold.ensures ∙ c.if-not-saves_hold.true) f c.goes.ensures c.check_tail-then-not-saves_hold.ensures.whole

@@ -1,19 +1,14 @@
 -- An order's items apart: its instructions, and what stands behind them.
-use Rattle.std.specs.Prelude.{Bool, List, [], ◌∷◌, ℕ, ◌*◌, pos, get_or}
+use Rattle.std.specs.Prelude.{Bool, List, [], ◌∷◌, ℕ, ◌*◌, pos}
 use Rattle.isa.specs.Register.{zero, t0}
 use Rattle.isa.specs.Instr.{Instr, M, B, FMV_X_D}
 use Rattle.accesses.specs.Code.{load_float_code, save_float_code}
-use Rattle.assembler.specs.declared.Tail.TheVariants as Tail
+use Rattle.assembler.specs.declared.Tail.{Tail}
 use Rattle.assembler.specs.declared.JumpKind.TheVariants.{Jalr, Fld}
-use Rattle.ast.specs.Uses.{uses}
 use Rattle.ast.specs.Constant.{constant_label}
-use Rattle.ast.specs.declared.Operand.{Operand}
-use Rattle.ast.specs.declared.Operand.TheVariants.{Nothing, Loaded, Stored, Constant, GoneTo, Set}
 use Rattle.ast.specs.declared.Order.{Order}
 use Rattle.ast.specs.declared.Order.TheVariants.{Unary, Scratched, Binary, Fused, Ifelse, LoadConst, Load, Save, BranchIf, SetLabel}
 use Rattle.orders.specs.Code.{base, unary_code, scratched_code, binary_code, fused_code, ifelse_code, skip}
-use Rattle.orders.specs.declared.Rest.{Rest}
-use Rattle.orders.specs.declared.Rest.TheVariants.{Jumps, Label, Alone}
 
 -- the branch over a jump
 abbrev pub skip_code : (c : ℕ) → Bool → List Instr
@@ -31,14 +26,15 @@ instrs (Save s p i) = save_float_code s (base p) (8 * i)
 instrs (BranchIf c l e) = skip_code c e
 instrs (SetLabel l) = []
 
--- by the operand that is no register, and the first register
-abbrev pub behind_operand : Operand → (d : ℕ) → Rest
-behind_operand Nothing d = Jumps Tail.Nothing
-behind_operand (Loaded p i) d = Jumps Tail.Nothing
-behind_operand (Stored p i) d = Jumps Tail.Nothing
-behind_operand (Constant k) d = Alone (Tail.Pair Fld (constant_label k) d)
-behind_operand (GoneTo l) d = Jumps (Tail.Pair Jalr l zero)
-behind_operand (Set l) d = Label l
-
-abbrev pub rest_of : Order → Rest
-rest_of o = behind_operand (uses o).operand (get_or (uses o).registers 0 0)
+-- the jumps behind them
+abbrev pub tail_of : Order → Tail
+tail_of (Unary k d s) = Tail.Nothing
+tail_of (Scratched k d s t) = Tail.Nothing
+tail_of (Binary k d a b) = Tail.Nothing
+tail_of (Fused k d a b c) = Tail.Nothing
+tail_of (Ifelse d a b i) = Tail.Nothing
+tail_of (LoadConst d k) = Tail.Pair Fld (constant_label k) d
+tail_of (Load d p i) = Tail.Nothing
+tail_of (Save s p i) = Tail.Nothing
+tail_of (BranchIf c l e) = Tail.Pair Jalr l zero
+tail_of (SetLabel l) = Tail.Nothing

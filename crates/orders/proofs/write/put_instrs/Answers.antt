@@ -1,4 +1,7 @@
 use mathlib.Core.Path.{◌≡◌, ap}
+use mathlib.Core.Logic.{inl, inr}
+use mathlib.Core.List.{[]}
+use Rattle.orders.specs.Inner.Parts.{instrs}
 use native.Mathlib.Omega.{arith}
 use Rattle.orders.proofs.Whole.{Small, order_small}
 use Rattle.orders.proofs.Wrote.{put_none}
@@ -22,7 +25,7 @@ overflow_mul-i c =
     omega (arith, index _ c.in-Ifelse.is)
 
 pub returns-in-LoadConst : goal.returns-in-LoadConst
-returns-in-LoadConst c = let a = c.args in rw c.in-LoadConst.is (put_none a.buf.now a.len)
-
-pub returns-in-SetLabel : goal.returns-in-SetLabel
-returns-in-SetLabel c = let a = c.args in rw c.in-SetLabel.is (put_none a.buf.now a.len)
+returns-in-LoadConst c =
+    let a = c.args in
+    let bare : instrs a.o ≡ [] = elim c.in-LoadConst.is [ inl w ↦ ap instrs w.2 | inr w ↦ ap instrs w.1 ] in
+    rw bare (put_none a.buf.now a.len)
