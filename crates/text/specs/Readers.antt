@@ -2,10 +2,10 @@
 use Rattle.std.specs.Prelude.{Bool, true, false, cond, ◌&&◌, not, List, [], ◌∷◌, ℕ, zero, suc, ◌+◌, ◌*◌, ◌-◌, ◌^◌, eqb, ltb, leb, ℤ, pos, negsuc, length, take, drop}
 use Rattle.std.proofs.Math.Option.{Option, some, none, map}
 use Rattle.text.specs.Fields.{onto}
+use Rattle.std.specs.Prelude as rust
+use Rattle.std.specs.Prelude.{Some, None}
 use Rattle.text.specs.declared.Number.{Number}
-use Rattle.text.specs.declared.Numeral.{Numeral}
 use Rattle.text.specs.declared.Integer.{Integer}
-use Rattle.text.specs.declared.Word.{Word}
 
 -- ---- numbers
 
@@ -78,16 +78,16 @@ same (a ∷ xs) (b ∷ bs) = eqb a b && same xs bs
 abbrev pub sized : ℕ → Number
 sized n = cond (ltb n (2 ^ 64)) (Number.Value n) Number.TooBig
 
-abbrev pub numeral : Option ℕ → Numeral
-numeral none = Numeral.Malformed
-numeral (some n) = Numeral.Is (sized n)
+abbrev pub numeral : Option ℕ → rust.Option Number
+numeral none = None
+numeral (some n) = Some (sized n)
 
 -- with its minus, and its magnitude
-abbrev pub integer : Option ℤ → Integer
-integer none = Integer.Malformed
-integer (some (pos n)) = Integer.Is false (sized n)
-integer (some (negsuc n)) = Integer.Is true (sized (suc n))
+abbrev pub integer : Option ℤ → rust.Option Integer
+integer none = None
+integer (some (pos n)) = Some (record { minus = false; magnitude = sized n })
+integer (some (negsuc n)) = Some (record { minus = true; magnitude = sized (suc n) })
 
-abbrev pub word : Option ℕ → Word
-word none = Word.Malformed
-word (some n) = Word.Is n
+abbrev pub word : Option ℕ → rust.Option ℕ
+word none = None
+word (some n) = Some n
