@@ -11,7 +11,7 @@ use lib.Dec.{eqb, ltb}
 use lib.IntN.{pos}
 use lib.ListN.{length, get_or, take, drop, length-drop, drop_of_length-le}
 use lib.Seq.{drop-drop, take_all}
-use Rattle.text.specs.Readers.{digit_value, read_from, read_decimal, read_integer, read_word, sized, numeral, negative, integer, word}
+use Rattle.text.specs.Readers.{digit_value, read_from, read_decimal, read_integer, read_word, sized, as_option, numeral, negative, integer, word}
 use Rattle.text.specs.Readers.{upto, end_from, next_from, split, fields_from}
 use Rattle.text.specs.Fields.{onto}
 use Rattle.text.specs.declared.Number.{Number}
@@ -51,6 +51,17 @@ module _ (s : List ℕ) (h : length s ≡ 0 → ⊥) (k : length s ≡ 1 → ⊥
       go : (s : List ℕ) → (length s ≡ 0 → ⊥) → (get_or s 0 0 ≡ 48 → ⊥) → read_decimal s ≡ read_from 10 0 s
       go [] h e = absurd (h refl)
       go (c ∷ cs) h e = rw (ne_eqb c 48 e)
+
+-- ---- the code's own `Option`
+
+module _ {A : Type 0} where
+  pub as_some : (o : Option A) (x : A) → as_option o ≡ Some x → o ≡ some x
+  as_some none x e = absurd (let z : ◌≡◌ {A = ℕ} 0 1 = cc in omega arith)
+  as_some (some y) x e = cc
+
+  pub as_none : (o : Option A) → as_option o ≡ None → o ≡ none
+  as_none none e = refl
+  as_none (some y) e = absurd (let z : ◌≡◌ {A = ℕ} 0 1 = cc in omega arith)
 
 -- ---- a minus
 

@@ -3,7 +3,7 @@ use Rattle.std.specs.Prelude.{Bool, true, false, cond, ◌&&◌, not, List, [], 
 use Rattle.std.proofs.Math.Option.{Option, some, none, map}
 use Rattle.text.specs.Fields.{onto}
 use Rattle.std.specs.Prelude as rust
-use Rattle.std.specs.Prelude.{Some, None}
+use Rattle.std.specs.Prelude.{Some, None, option_map}
 use Rattle.text.specs.declared.Number.{Number}
 use Rattle.text.specs.declared.Integer.{Integer}
 
@@ -74,13 +74,17 @@ same (a ∷ xs) (b ∷ bs) = eqb a b && same xs bs
 
 -- ---- as the code has it
 
+-- the code's own `Option`
+abbrev pub as_option : {A : Type 0} → Option A → rust.Option A
+as_option none = None
+as_option (some x) = Some x
+
 -- a number of any size as 64 bits hold it
 abbrev pub sized : ℕ → Number
 sized n = cond (ltb n (2 ^ 64)) (Number.Value n) Number.TooBig
 
 abbrev pub numeral : Option ℕ → rust.Option Number
-numeral none = None
-numeral (some n) = Some (sized n)
+numeral o = option_map sized (as_option o)
 
 -- with its minus, and its magnitude
 abbrev pub integer : Option ℤ → rust.Option Integer
@@ -89,5 +93,4 @@ integer (some (pos n)) = Some (record { minus = false; magnitude = sized n })
 integer (some (negsuc n)) = Some (record { minus = true; magnitude = sized (suc n) })
 
 abbrev pub word : Option ℕ → rust.Option ℕ
-word none = None
-word (some n) = Some n
+word o = as_option o
