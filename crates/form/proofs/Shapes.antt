@@ -5,7 +5,7 @@ use mathlib.Core.Option.{Option, some, none, map}
 use mathlib.Core.List.{List, [], ◌∷◌, ◌++◌, append-nil, append_assoc}
 use Prim.Native.Nat.{ℕ, zero, suc, ◌+◌, ◌-◌, ◌<◌, ◌≤◌}
 use native.Mathlib.Omega.{arith}
-use borrow.Author.Tests.{le-ltb, ltb-true, ltb-false, eq-eqb, ne_eqb}
+use borrow.Author.Tests.{le-ltb, ltb-true, ltb-false, eq-eqb, ne_eqb, eqb-true, eqb-false}
 use lib.Dec.{eqb, ltb}
 use lib.IntN.{ℤ, pos, negsuc}
 use lib.ListN.{length, get_or, take, drop, set, replicate, length-drop, length-set, length-replicate, drop_of_length-le}
@@ -336,10 +336,16 @@ last_byte (c ∷ cs) =
     rw (at (c ∷ cs) (length (c ∷ cs) - 1) (omega arith), e) (and-true _)
 
 module _ (l : List ℕ) where
-  pub no_newline : pointwise eqb (drop (length l - 1) l) (10 ∷ []) ≡ false → None ≡ form_of l
+  pub not_ended : (get_or l (length l - 1) 0 ≡ 10 → ⊥) → None ≡ form_of l
   unfolding form_of said read
-  no_newline h = rw (sym (last_byte l) ∙ h)
+  not_ended h = rw (ne_eqb (get_or l (length l - 1) 0) 10 h)
+
+  pub ended : get_or l (length l - 1) 0 ≡ 10 → formed (fields_say (split (take (length l - 1) l))) ≡ form_of l
+  unfolding form_of said read
+  ended h = rw (eq-eqb (get_or l (length l - 1) 0) 10 h)
+
+  pub no_newline : pointwise eqb (drop (length l - 1) l) (10 ∷ []) ≡ false → None ≡ form_of l
+  no_newline h = not_ended (eqb-false (get_or l (length l - 1) 0) 10 (sym (last_byte l) ∙ h))
 
   pub newline : pointwise eqb (drop (length l - 1) l) (10 ∷ []) ≡ true → formed (fields_say (split (take (length l - 1) l))) ≡ form_of l
-  unfolding form_of said read
-  newline h = rw (sym (last_byte l) ∙ h)
+  newline h = ended (eqb-true (get_or l (length l - 1) 0) 10 (sym (last_byte l) ∙ h))
