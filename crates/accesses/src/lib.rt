@@ -6,7 +6,7 @@ ghost use Rattle.std.specs.Prelude.{◌≡◌, [], ◌∷◌, map, ◌+◌, ◌�
 ghost use Rattle.isa.specs.Immediate.{lo};
 ghost use Rattle.isa.specs.Instr.{I};
 ghost use Rattle.assembler.specs.Item.{instr};
-ghost use Rattle.assembler.specs.State.{before, after};
+ghost use Rattle.assembler.specs.State.{SameLent, before, after};
 ghost use Rattle.assembler.specs.Put.{put};
 ghost use Rattle.assembler.specs.Plan.{fault_number, pushed};
 ghost use Rattle.accesses.specs.Code.{low_op, li_code, point_code, load_float_code, save_float_code, load_int_code};
@@ -232,7 +232,8 @@ fn allocate_stack_plan(n: u32) -> Plan
 // The plan placed; or, where there is a fault, refused for that.
 #[tactic(auto, unfolding(crate::specs::Inner::Plans::settled_plan))]
 fn settle(asm: &mut Assembler<'_>, fault: Option<Refusal>, p: Plan) -> Result<(), Refused>
-    ensures { after result asm.new ≡ settled_plan (fault_number fault) p (before asm.old) }
+    ensures whole { after result asm.new ≡ settled_plan (fault_number fault) p (before asm.old) }
+    ensures lent { SameLent asm.old asm.new }
 {
     match fault {
         None => asm.place(p, Tail::Nothing, 0),
@@ -309,7 +310,8 @@ fn stack_refusal(n: u32) -> Option<Refusal>
 }
 
 pub fn li(asm: &mut Assembler<'_>, d: u32, z: i32) -> Result<(), Refused>
-    ensures { after result asm.new ≡ put 0 (li_fault d) (map instr (li_code d z)) (before asm.old) }
+    ensures whole { after result asm.new ≡ put 0 (li_fault d) (map instr (li_code d z)) (before asm.old) }
+    ensures lent { SameLent asm.old asm.new }
 {
     let f = li_refusal(d);
     settle(asm, f, li_plan(d, z))
@@ -317,7 +319,8 @@ pub fn li(asm: &mut Assembler<'_>, d: u32, z: i32) -> Result<(), Refused>
 
 // An access of one cell.
 fn place_one(asm: &mut Assembler<'_>, k: Cell, r: u32, base: u32, n: u32) -> Result<(), Refused>
-    ensures { after result asm.new ≡ put 0 (one_fault r base n) (map instr (one_code k r base n)) (before asm.old) }
+    ensures whole { after result asm.new ≡ put 0 (one_fault r base n) (map instr (one_code k r base n)) (before asm.old) }
+    ensures lent { SameLent asm.old asm.new }
 {
     let f = one_refusal(r, base, n);
     settle(asm, f, one_plan(k, r, base, n))
@@ -325,7 +328,8 @@ fn place_one(asm: &mut Assembler<'_>, k: Cell, r: u32, base: u32, n: u32) -> Res
 
 // An access of two cells.
 fn place_pair(asm: &mut Assembler<'_>, k: Cell, r: u32, base: u32, n: u32) -> Result<(), Refused>
-    ensures { after result asm.new ≡ put 0 (pair_fault r base n) (map instr (pair_code k r base n)) (before asm.old) }
+    ensures whole { after result asm.new ≡ put 0 (pair_fault r base n) (map instr (pair_code k r base n)) (before asm.old) }
+    ensures lent { SameLent asm.old asm.new }
 {
     let f = pair_refusal(r, base, n);
     let p = pair_plan(k, r.min(LAST_PAIR), base, n.min(LIMIT));
@@ -333,37 +337,43 @@ fn place_pair(asm: &mut Assembler<'_>, k: Cell, r: u32, base: u32, n: u32) -> Re
 }
 
 pub fn load_float(asm: &mut Assembler<'_>, d: u32, base: u32, n: u32) -> Result<(), Refused>
-    ensures { after result asm.new ≡ put 0 (one_fault d base n) (map instr (load_float_code d base n)) (before asm.old) }
+    ensures whole { after result asm.new ≡ put 0 (one_fault d base n) (map instr (load_float_code d base n)) (before asm.old) }
+    ensures lent { SameLent asm.old asm.new }
 {
     place_one(asm, Cell::LoadFloat, d, base, n)
 }
 
 pub fn save_float(asm: &mut Assembler<'_>, s: u32, base: u32, n: u32) -> Result<(), Refused>
-    ensures { after result asm.new ≡ put 0 (one_fault s base n) (map instr (save_float_code s base n)) (before asm.old) }
+    ensures whole { after result asm.new ≡ put 0 (one_fault s base n) (map instr (save_float_code s base n)) (before asm.old) }
+    ensures lent { SameLent asm.old asm.new }
 {
     place_one(asm, Cell::SaveFloat, s, base, n)
 }
 
 pub fn load_int(asm: &mut Assembler<'_>, d: u32, base: u32, n: u32) -> Result<(), Refused>
-    ensures { after result asm.new ≡ put 0 (one_fault d base n) (map instr (load_int_code d base n)) (before asm.old) }
+    ensures whole { after result asm.new ≡ put 0 (one_fault d base n) (map instr (load_int_code d base n)) (before asm.old) }
+    ensures lent { SameLent asm.old asm.new }
 {
     place_one(asm, Cell::LoadInt, d, base, n)
 }
 
 pub fn load_complex(asm: &mut Assembler<'_>, r: u32, base: u32, n: u32) -> Result<(), Refused>
-    ensures { after result asm.new ≡ put 0 (pair_fault r base n) (map instr (load_complex_code r base n)) (before asm.old) }
+    ensures whole { after result asm.new ≡ put 0 (pair_fault r base n) (map instr (load_complex_code r base n)) (before asm.old) }
+    ensures lent { SameLent asm.old asm.new }
 {
     place_pair(asm, Cell::LoadFloat, r, base, n)
 }
 
 pub fn save_complex(asm: &mut Assembler<'_>, r: u32, base: u32, n: u32) -> Result<(), Refused>
-    ensures { after result asm.new ≡ put 0 (pair_fault r base n) (map instr (save_complex_code r base n)) (before asm.old) }
+    ensures whole { after result asm.new ≡ put 0 (pair_fault r base n) (map instr (save_complex_code r base n)) (before asm.old) }
+    ensures lent { SameLent asm.old asm.new }
 {
     place_pair(asm, Cell::SaveFloat, r, base, n)
 }
 
 pub fn sub_stack(asm: &mut Assembler<'_>, n: u32) -> Result<(), Refused>
-    ensures { after result asm.new ≡ put 0 (stack_fault n) (map instr (sub_stack_code n)) (before asm.old) }
+    ensures whole { after result asm.new ≡ put 0 (stack_fault n) (map instr (sub_stack_code n)) (before asm.old) }
+    ensures lent { SameLent asm.old asm.new }
 {
     let f = stack_refusal(n);
     let p = sub_stack_plan(n.min(LIMIT));
@@ -371,7 +381,8 @@ pub fn sub_stack(asm: &mut Assembler<'_>, n: u32) -> Result<(), Refused>
 }
 
 pub fn add_stack(asm: &mut Assembler<'_>, n: u32) -> Result<(), Refused>
-    ensures { after result asm.new ≡ put 0 (stack_fault n) (map instr (add_stack_code n)) (before asm.old) }
+    ensures whole { after result asm.new ≡ put 0 (stack_fault n) (map instr (add_stack_code n)) (before asm.old) }
+    ensures lent { SameLent asm.old asm.new }
 {
     let f = stack_refusal(n);
     let p = add_stack_plan(n.min(LIMIT));
@@ -379,7 +390,8 @@ pub fn add_stack(asm: &mut Assembler<'_>, n: u32) -> Result<(), Refused>
 }
 
 pub fn allocate_stack(asm: &mut Assembler<'_>, n: u32) -> Result<(), Refused>
-    ensures { after result asm.new ≡ put 0 (stack_fault n) (map instr (allocate_stack_code n)) (before asm.old) }
+    ensures whole { after result asm.new ≡ put 0 (stack_fault n) (map instr (allocate_stack_code n)) (before asm.old) }
+    ensures lent { SameLent asm.old asm.new }
 {
     let f = stack_refusal(n);
     let p = allocate_stack_plan(n.min(LIMIT));
@@ -403,7 +415,8 @@ pub enum Access {
 }
 
 pub fn lay_access(asm: &mut Assembler<'_>, a: Access) -> Result<(), Refused>
-    ensures { after result asm.new ≡ accessed a (before asm.old) }
+    ensures whole { after result asm.new ≡ accessed a (before asm.old) }
+    ensures lent { SameLent asm.old asm.new }
 {
     match a {
         Access::Li(d, z) => li(asm, d, z),

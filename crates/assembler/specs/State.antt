@@ -1,5 +1,5 @@
 -- The assembler's state: the record, and the memory that is lent with it.
-use Rattle.std.specs.Prelude.{Bool, ◌&&◌, List, ℕ, ◌+◌, ◌*◌, ◌%◌, leb, eqb, Result}
+use Rattle.std.specs.Prelude.{◌≡◌, Bool, ◌&&◌, List, ℕ, ◌+◌, ◌*◌, ◌%◌, leb, eqb, Result}
 use Rattle.std.specs.Borrow.{Bor, MutBor}
 use denote.Triple.Both.{Both}
 use Rattle.refusal.specs.Answer.{Answer, answer_of_result}
@@ -36,6 +36,10 @@ before a = state a.asm a.labels.now a.jumps.now a.buf.now
 
 abbrev pub after : Result (Unit {0}) Refused → Assembler → Outcome
 after r a = outcome r a.asm a.labels.now a.jumps.now a.buf.now
+
+-- The memory that a method was lent is what it lends on: so a caller's memory is known again behind the last method.
+abbrev pub SameLent : Assembler → Assembler → Type 0
+SameLent a b = (b.buf.ghost_name ≡ a.buf.ghost_name) × (b.labels.ghost_name ≡ a.labels.ghost_name) × (b.jumps.ghost_name ≡ a.jumps.ghost_name)
 
 -- lent memory at a function's entry and at its exit
 abbrev pub Lent : Type 0

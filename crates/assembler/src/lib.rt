@@ -9,7 +9,7 @@ ghost use Rattle.assembler.specs.Jump.{kind_number, kind_said};
 ghost use Rattle.assembler.specs.Limit.{room_limit, label_limit, jump_limit};
 ghost use Rattle.assembler.specs.Bytes.{written, fitted};
 ghost use Rattle.assembler.specs.Label.{is_set, with_place, made};
-ghost use Rattle.assembler.specs.State.{sound, fits, before, after};
+ghost use Rattle.assembler.specs.State.{SameLent, sound, fits, before, after};
 ghost use Rattle.assembler.specs.Inner.State.{Fits, Roomy, with_words};
 ghost use Rattle.assembler.specs.Put.{targets, twice, times, number_holds, numbers_sound, numbers_fit};
 ghost use Rattle.assembler.specs.Put.{verdict, prechecked, with_jump, with_label, placed, put};
@@ -450,7 +450,8 @@ impl Assembler<'_> {
     // Words behind the others.
     fn lay(&mut self, ws: &[u32])
         requires { self.old.asm.len + 4 * length ws.now ≤ length self.old.buf.now }
-        ensures { before self.new ≡ with_words ws.now (before self.old) }
+        ensures whole { before self.new ≡ with_words ws.now (before self.old) }
+        ensures lent { SameLent self.old self.new }
     {
         put_words(self.buf, self.asm.len, ws);
         self.asm.len += 4 * ws.len();
@@ -460,7 +461,8 @@ impl Assembler<'_> {
     #[tactic(auto, unfolding(crate::specs::Put::with_label))]
     fn mark(&mut self, l: u32)
         requires { (l < label_limit) × (self.old.asm.len ≤ room_limit) }
-        ensures { before self.new ≡ with_label l (before self.old) }
+        ensures whole { before self.new ≡ with_label l (before self.old) }
+        ensures lent { SameLent self.old self.new }
     {
         let i = l as usize;
         self.labels[i] = label_at(self.labels[i], self.asm.len);
@@ -470,7 +472,8 @@ impl Assembler<'_> {
     #[tactic(auto, unfolding(crate::specs::Put::with_jump))]
     fn reserve(&mut self, k: JumpKind, l: u32, r: u32, tag: u32)
         requires { Fits (length self.old.buf.now) self.old.asm 1 1 × (l < label_limit) × (made (get_or self.old.labels.now l 0) < jump_limit) }
-        ensures { before self.new ≡ with_jump (kind_number k) l r tag (before self.old) }
+        ensures whole { before self.new ≡ with_jump (kind_number k) l r tag (before self.old) }
+        ensures lent { SameLent self.old self.new }
     {
         note(
             self.jumps,
@@ -484,7 +487,8 @@ impl Assembler<'_> {
 
     fn reserve_tail(&mut self, t: Tail, tag: u32)
         requires { Roomy (length (targets (tail_items t))) (targets (tail_items t)) (before self.old) }
-        ensures { before self.new ≡ placed tag (tail_items t) (before self.old) }
+        ensures whole { before self.new ≡ placed tag (tail_items t) (before self.old) }
+        ensures lent { SameLent self.old self.new }
     {
         match t {
             Tail::Nothing => {}
@@ -499,7 +503,8 @@ impl Assembler<'_> {
     // ---- done, or refused
 
     pub fn append_word(&mut self, w: u32) -> Result<(), Refused>
-        ensures { after result self.new ≡ put 0 0 (raw w ∷ []) (before self.old) }
+        ensures whole { after result self.new ≡ put 0 0 (raw w ∷ []) (before self.old) }
+        ensures lent { SameLent self.old self.new }
     {
         self.check_whole(None, &[], &[], 1)?;
         self.lay(&[w]);
@@ -508,7 +513,8 @@ impl Assembler<'_> {
 
     // The low word first.
     pub fn append_quad(&mut self, q: u64) -> Result<(), Refused>
-        ensures { after result self.new ≡ put 0 0 (quad q) (before self.old) }
+        ensures whole { after result self.new ≡ put 0 0 (quad q) (before self.old) }
+        ensures lent { SameLent self.old self.new }
     {
         self.check_whole(None, &[], &[], 2)?;
         self.lay(&[(q % HALF) as u32, (q / HALF) as u32]);
@@ -516,7 +522,8 @@ impl Assembler<'_> {
     }
 
     pub fn set_label(&mut self, l: u32) -> Result<(), Refused>
-        ensures { after result self.new ≡ put 0 (label_fault l) (label l ∷ []) (before self.old) }
+        ensures whole { after result self.new ≡ put 0 (label_fault l) (label l ∷ []) (before self.old) }
+        ensures lent { SameLent self.old self.new }
     {
         self.check_whole(None, &[l], &[], 0)?;
         self.mark(l);
@@ -524,7 +531,8 @@ impl Assembler<'_> {
     }
 
     pub fn jump(&mut self, k: JumpKind, l: u32, r: u32, tag: u32) -> Result<(), Refused>
-        ensures { after result self.new ≡ put tag (jump_fault r) (jump_item k l r ∷ []) (before self.old) }
+        ensures whole { after result self.new ≡ put tag (jump_fault r) (jump_item k l r ∷ []) (before self.old) }
+        ensures lent { SameLent self.old self.new }
     {
         self.check_whole(jump_fault(r), &[], &[l], 1)?;
         self.reserve(k, l, r, tag);
@@ -533,7 +541,8 @@ impl Assembler<'_> {
 
     // The words of a plan and the jumps behind them, all or nothing.
     pub fn place(&mut self, p: Plan, t: Tail, tag: u32) -> Result<(), Refused>
-        ensures { after result self.new ≡ put tag (plan_fault p t) (plan_items p t) (before self.old) }
+        ensures whole { after result self.new ≡ put tag (plan_fault p t) (plan_items p t) (before self.old) }
+        ensures lent { SameLent self.old self.new }
     {
         let n = p.n.min(12);
         self.check_tail(first_fault(p.fault, tail_fault(t)), n, t)?;
@@ -544,7 +553,8 @@ impl Assembler<'_> {
 
     // Constant k at its label.
     pub fn append_const(&mut self, k: u32, c: Constant) -> Result<(), Refused>
-        ensures { after result self.new ≡ put 0 (constant_fault k) (constant_items k c) (before self.old) }
+        ensures whole { after result self.new ≡ put 0 (constant_fault k) (constant_items k c) (before self.old) }
+        ensures lent { SameLent self.old self.new }
     {
         if 1007 < k {
             return self.check_whole(Some(Refusal::Count), &[], &[], 2);

@@ -8,11 +8,11 @@ use Rattle.accesses.proofs.LoadImmediate.{li_valid, li_accepted}
 use Rattle.accesses.proofs.Lengths.{li_length}
 use Rattle.accesses.proofs.li.Goals as goal
 
-pub returns : goal.returns
-returns c =
+pub returns-clause-whole : goal.returns-clause-whole
+returns-clause-whole c =
     let a = c.args in
     let h = c.ranges.z in
-    settled_as _ _ _ _ c.settle.ensures (li_code a.d a.z) _
+    settled_as _ _ _ _ c.settle.ensures.whole (li_code a.d a.z) _
     c.li_refusal-f.ensures
     (λ e. (
       handed (λ (z : ℤ). plan_of (li_code a.d z)) a.z h c.li_plan.ensures,

@@ -5,7 +5,7 @@ use Rattle.accesses.proofs.Lengths.{sub_stack_length}
 use Rattle.accesses.proofs.Placed.{stack_as}
 use Rattle.accesses.proofs.sub_stack.Goals as goal
 
-pub returns : goal.returns
-returns c =
+pub returns-clause-whole : goal.returns-clause-whole
+returns-clause-whole c =
     let n = c.args.n in
-    stack_as _ _ _ _ c.settle.ensures sub_stack_code n c.stack_refusal-f.ensures (sub_stack_valid n) (omega (arith, sub_stack_length n)) c.min.ensures c.sub_stack_plan-p.ensures
+    stack_as _ _ _ _ c.settle.ensures.whole sub_stack_code n c.stack_refusal-f.ensures (sub_stack_valid n) (omega (arith, sub_stack_length n)) c.min.ensures c.sub_stack_plan-p.ensures

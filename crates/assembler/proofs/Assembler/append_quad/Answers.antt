@@ -9,13 +9,13 @@ use Rattle.assembler.proofs.Items.{placed_raw}
 use Rattle.assembler.proofs.Steps.{put_refused, put_taken}
 use Rattle.assembler.proofs.Assembler.append_quad.Goals as goal
 
-pub returns-in_err-check_whole : goal.returns-in_err-check_whole
+pub returns-in_err-check_whole-clause-whole : goal.returns-in_err-check_whole-clause-whole
 unfolding words targets labels
-returns-in_err-check_whole c = put_refused 0 0 (quad c.args.q) (before c.args.self.now) _ _ _ refl (search rules) c.in_err-check_whole.ensures.whole
+returns-in_err-check_whole-clause-whole c = put_refused 0 0 (quad c.args.q) (before c.args.self.now) _ _ _ refl (search rules) c.in_err-check_whole.ensures.whole
 
-pub returns : goal.returns
+pub returns-clause-whole : goal.returns-clause-whole
 unfolding words targets labels
-returns c =
+returns-clause-whole c =
     let s = before c.args.self.now in
     let q = c.args.q in
-    put_taken 0 0 (quad q) s _ _ refl c.in_ok-check_whole.ensures.whole (c.lay.ensures ∙ sym (placed_raw 0 (q % 2 ^ 32 ∷ q / 2 ^ 32 ∷ []) s))
+    put_taken 0 0 (quad q) s _ _ refl c.in_ok-check_whole.ensures.whole (c.lay.ensures.whole ∙ sym (placed_raw 0 (q % 2 ^ 32 ∷ q / 2 ^ 32 ∷ []) s))

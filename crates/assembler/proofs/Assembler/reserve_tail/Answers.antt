@@ -29,21 +29,21 @@ reserve-requires-in-Pair-2 c =
     let m = c.args.self.now.labels.now in
     let l = c.in-Pair.l in
     let k = two_fit m l h.1 in
-    let e = c.reserve-in-Pair.ensures in
+    let e = c.reserve-in-Pair.ensures.whole in
     let n = ap (λ (s : State). s.asm.len) e in
     let j = ap (λ (s : State). s.asm.jumps) e in
     let b = ap (λ (s : State). length s.buf) e in
     let v = ap (λ (s : State). made (get_or s.labels l 0)) e in
     omega (arith, h.0, k, n, j, b, length_written, v, second_fits m l k.1)
 
-pub returns-in-Nothing : goal.returns-in-Nothing
+pub returns-in-Nothing-clause-whole : goal.returns-in-Nothing-clause-whole
 unfolding placed
-returns-in-Nothing c = rw c.in-Nothing.is
+returns-in-Nothing-clause-whole c = rw c.in-Nothing.is
 
-pub returns-in-One : goal.returns-in-One
+pub returns-in-One-clause-whole : goal.returns-in-One-clause-whole
 unfolding placed place
-returns-in-One c = rw c.in-One.is c.reserve.ensures
+returns-in-One-clause-whole c = rw c.in-One.is c.reserve.ensures.whole
 
-pub returns-in-Pair : goal.returns-in-Pair
+pub returns-in-Pair-clause-whole : goal.returns-in-Pair-clause-whole
 unfolding placed place
-returns-in-Pair c = rw c.in-Pair.is (c.reserve-in-Pair-2.ensures ∙ rw c.reserve-in-Pair.ensures)
+returns-in-Pair-clause-whole c = rw c.in-Pair.is (c.reserve-in-Pair-2.ensures.whole ∙ rw c.reserve-in-Pair.ensures.whole)
