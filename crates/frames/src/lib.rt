@@ -71,6 +71,7 @@ fn used_access(k: Cell, r: u32) -> Encoded
 }
 
 // How many registers a mask saves: its ones among the bits of f8, f9 and f18..f27.
+#[tactic(auto, using(crate::proofs::Ones::ones_saved, crate::proofs::Pushes::saved_few))]
 fn used_count(mask: u32) -> usize
     ensures { (result ≡ length (saved_of mask)) × (result ≤ 12) }
 {
@@ -149,7 +150,7 @@ fn opening_plan(frame: Frame) -> Plan
     let size = save_size(frame);
     let mut p = accesses::plan([encoder::addi(SP, SP, 0 - size)]);
     for (i, r) in kept(frame).iter().enumerate() {
-        p = p.push(encoder::sd(*r, SP, 8 * i as i32));
+        p = p.push(encoder::sd(*r, SP, (8 * i) as i32));
     }
     p.push(encoder::mv(FP, SP))
 }
@@ -160,7 +161,7 @@ fn closing_plan(p: Plan, frame: Frame) -> Plan
 {
     let mut q = p.push(encoder::mv(SP, FP));
     for (i, r) in kept(frame).iter().enumerate() {
-        q = q.push(encoder::ld(*r, SP, 8 * i as i32));
+        q = q.push(encoder::ld(*r, SP, (8 * i) as i32));
     }
     q = q.push(encoder::addi(SP, SP, save_size(frame)));
     q = q.push(encoder::xor(A0, A0, A0));
@@ -217,12 +218,14 @@ fn states_plan(states: u32) -> Plan
 
 // ---- how many words
 
+#[tactic(auto, using(crate::proofs::Sizes::li_one, crate::proofs::Sizes::li_two))]
 fn li_words(n: u32) -> usize
     ensures { ((d : ℕ) → result ≡ length (li_code d (pos n))) × (result ≤ 2) }
 {
     if n < 2048 { 1 } else { 2 }
 }
 
+#[tactic(auto, using(crate::proofs::Sizes::sub_near, crate::proofs::Sizes::sub_edge, crate::proofs::Sizes::sub_far))]
 fn sub_words(n: u32) -> usize
     ensures { (result ≡ length (sub_stack_code n)) × (result ≤ 3) }
 {
@@ -232,6 +235,7 @@ fn sub_words(n: u32) -> usize
     if n == 2048 { 2 } else { 3 }
 }
 
+#[tactic(auto, using(crate::proofs::Sizes::allocate_near, crate::proofs::Sizes::allocate_far))]
 fn allocate_words(n: u32) -> usize
     ensures { (result ≡ length (allocate_stack_code n)) × (result ≤ 4) }
 {
@@ -332,11 +336,7 @@ fn fast_start(asm: &mut Assembler<'_>, head: Head) -> Result<(), Refused>
     asm.check_whole(None, &[], &[], w)?;
     asm.place(opening_plan(Frame::Fast), Tail::Nothing, 0)?;
     accesses::sub_stack(asm, mem)?;
-    asm.place(
-        accesses::plan([encoder::mv(MEM, SP)]),
-        Tail::Nothing,
-        0,
-    )?;
+    asm.place(accesses::plan([encoder::mv(MEM, SP)]), Tail::Nothing, 0)?;
     accesses::sub_stack(asm, stack)?;
     asm.place(states_plan(head.states), Tail::Nothing, 0)
 }
