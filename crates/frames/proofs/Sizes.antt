@@ -165,9 +165,6 @@ pub code_number : (is : List Instr) (w : ℕ) (s : State) → w ≡ length is �
 code_number is w s e = rw (words_code is, targets_instrs is, labels_instrs is, e)
 
 module _ (out : Bool) (m n : ℕ) where
-  pub row_number : (s : State) → verdict 0 [] [] (6 * n) s ≡ put_number 0 (code (times_over n (copy_each out))) s
-  row_number s = code_number (times_over n (copy_each out)) (6 * n) s (sym (row_length out m n))
-
   pub straight_number : (w : ℕ) (s : State) → w ≡ length (copy_first out m) → verdict 0 [] [] (w + 6 * n) s ≡ put_number 0 (code (copy_first out m ++ times_over n (copy_each out))) s
   straight_number w s e = code_number (copy_first out m ++ times_over n (copy_each out)) (w + 6 * n) s (ap (λ (k : ℕ). k + 6 * n) e ∙ sym (length-append (copy_first out m) (times_over n (copy_each out)) ∙ ap (λ (k : ℕ). length (copy_first out m) + k) (row_length out m n)))
 
