@@ -29,7 +29,7 @@ const TOP: u32 = 0x7FFFF800;
 // The last register that starts a pair.
 const LAST_PAIR: u32 = 30;
 
-// ---- plans of one to five words
+// ---- plans of up to twelve words
 
 pub fn one(a: Encoded) -> Plan
     ensures { result ≡ pushes (a ∷ []) }
@@ -66,18 +66,15 @@ pub fn four(a: Encoded, b: Encoded, c: Encoded, d: Encoded) -> Plan
     p.push(d)
 }
 
-#[tactic(auto, unfolding(assembler::specs::Plan::pushed))]
-pub fn five(a: Encoded, b: Encoded, c: Encoded, d: Encoded, e: Encoded) -> Plan
-    ensures { result ≡ pushes (a ∷ b ∷ c ∷ d ∷ e ∷ []) }
+// Of these words.
+pub fn plan<const N: usize>(words: [Encoded; N]) -> Plan
+    ensures { result ≡ pushes words.entry }
 {
-    if let (Ok(x), Ok(y), Ok(z), Ok(u), Ok(v)) = (a, b, c, d, e) {
-        return Plan {
-            n: 5,
-            fault: None,
-            w: [x, y, z, u, v, 0, 0, 0, 0, 0, 0, 0],
-        };
+    let mut p = Plan::new();
+    for e in words {
+        p = p.push(e);
     }
-    four(a, b, c, d).push(e)
+    p
 }
 
 // ---- li

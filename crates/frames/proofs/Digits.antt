@@ -12,6 +12,7 @@ use lib.Pow.{shr_lt}
 use lib.Arith.{lt-one}
 use lib.Count.{count_trailing_zeros, under}
 use lib.Dec.{eqb}
+use lib.ListN.{length}
 use Rattle.ast.specs.Mask.{preserved, in_mask, chosen, saved, is_preserved}
 use Rattle.frame_code.proofs.Rows.{from}
 
@@ -139,3 +140,16 @@ module _ (mask d : ℕ) (rs : List ℕ) (e : rs ≡ from 0 d) where
 pub walked : (mask : ℕ) → chosen is_preserved (digits 32 0 mask) ≡ saved mask
 unfolding saved
 walked mask = walk mask 32 registers registers_are ∙ ap (chosen (in_mask mask)) preserved_are
+
+-- the lowest set bit of m, whose bits stand for registers from p on, and the rest above it
+abbrev pub Lowest : ℕ → ℕ → ℕ → Type 0
+Lowest p m t = (p + t + 1 ≤ 32) × (m / 2 ^ t / 2 < 2 ^ (32 - (p + t + 1))) × (digits (32 - p) p m ≡ (p + t) ∷ digits (32 - (p + t + 1)) (p + t + 1) (m / 2 ^ t / 2))
+
+-- while preserved registers are to come
+pub lowest : (p m n : ℕ) → p ≤ 32 → m < 2 ^ (32 - p) → n ≡ length (chosen is_preserved (digits (32 - p) p m)) → 0 < n → Lowest p m (count_trailing_zeros 32 m)
+lowest p zero n h l e k = let z = rw no_digits at e in absurd (omega arith)
+lowest p (suc m) n h l e k =
+    let t = count_trailing_zeros 32 (suc m) in
+    let s = subst (First (32 - p) p (suc m)) (sym (same_place (32 - p) 32 (suc m) (omega arith) (omega arith) l)) (first (32 - p) p (suc m) (omega arith) l) in
+    let d : 32 - (p + t + 1) ≡ 32 - p - suc t = omega (arith, s.0) in
+    (omega (arith, s.0), rw d s.1, rw d s.2)

@@ -1,5 +1,4 @@
 pub mod Digits
-pub mod Tests
 pub mod Pushes
 pub mod Parts
 pub mod Ones

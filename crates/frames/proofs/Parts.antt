@@ -1,14 +1,13 @@
 -- A part placed piece by piece is the part placed whole, where the whole was asked for first. Assumes nothing.
 use mathlib.Core.Path.{◌≡◌, refl, sym, ap, subst, ◌∙◌}
-use mathlib.Core.Bool.{true, false}
 use mathlib.Core.List.{List, [], ◌∷◌, ◌++◌, append_assoc, map-append}
-use Prim.Native.Nat.{ℕ, zero, suc, ◌+◌, ◌-◌, ◌≤◌, ◌<◌}
+use Prim.Native.Nat.{ℕ, suc, ◌+◌, ◌-◌, ◌≤◌, ◌<◌}
 use native.Mathlib.Omega.{arith}
 use borrow.Author.Tests.{lt-ltb, le-leb}
 use lib.ListN.{length}
 use Rattle.isa.specs.Instr.{Instr}
 use Rattle.isa.specs.Encode.{encode}
-use Rattle.refusal.specs.Answer.{accepted}
+use Rattle.refusal.specs.Answer.{Answer, accepted, refused}
 use Rattle.assembler.specs.Limit.{label_limit}
 use Rattle.assembler.specs.Item.{Item, instr, raw, jump, label}
 use Rattle.assembler.specs.State.{State, Outcome}
@@ -17,7 +16,7 @@ use Rattle.assembler.specs.Plan.{label_fault, plan_fault, plan_items}
 use Rattle.assembler.specs.declared.Plan.{Plan}
 use Rattle.assembler.specs.declared.Tail.TheVariants.{One}
 use Rattle.assembler.specs.declared.JumpKind.{JumpKind}
-use Rattle.assembler.proofs.Tests.{no}
+use Rattle.assembler.proofs.Steps.{none_refused, put_done}
 use Rattle.assembler.proofs.Items.{targets_instrs}
 use Rattle.assembler.proofs.Plans.{put_asked}
 use Rattle.accesses.specs.Fault.{offset_limit, stack_fault}
@@ -27,7 +26,6 @@ use Rattle.accesses.proofs.Placed.{plan_tail}
 use Rattle.finish.proofs.All.{accepts}
 use Rattle.finish.proofs.Both.{Accepts, put_split}
 use Rattle.frame_code.specs.Items.{code, times_over}
-use Rattle.frames.specs.Inner.Whole.{is_accepted}
 
 -- ---- code alone
 
@@ -80,73 +78,57 @@ size_put tag is n m s e h = rw (le-leb n offset_limit (omega arith), e) (untagge
 
 -- ---- asked, then placed
 
--- what a function's equation is about
-abbrev pub left_of : {A : Type 0} {x y : A} → x ≡ y → A
-left_of {A} {x} e = x
+abbrev Refusing : (n p : ℕ) → State → Outcome
+Refusing n p s = record { answer = refused n p; state = s }
 
--- the whole checked before it is placed
-abbrev pub checked : List Item → State → Outcome
-checked is s = settled (put_number 0 is s) s s
+abbrev Accepting : State → Outcome
+Accepting s = record { answer = accepted tt; state = s }
 
-pub checks : (is : List Item) (s : State) (o : Outcome) (k : ℕ) → o ≡ settled k s s → k ≡ put_number 0 is s → o ≡ checked is s
-checks is s o k e q = e ∙ ap (λ (n : ℕ). settled n s s) q
+-- `all` is accepted in s, and of it js is left to place in t
+pub record Left (tag : ℕ) (all : List Item) (s : State) (js : List Item) (t : State) : Type 0 where
+  pub whole : Accepts tag all s (placed tag all s)
+  pub rest : Accepts tag js t (placed tag all s)
 
-settled_as_it_was : (k : ℕ) (s t : State) (o : Outcome) → o ≡ settled k s s → is_accepted o.answer ≡ false → o ≡ settled k s t
-unfolding settled
-settled_as_it_was zero s t o e q = no (sym q ∙ ap (λ (x : Outcome). is_accepted x.answer) e)
-settled_as_it_was (suc k) s t o e q = e
+-- the whole's number as it was asked for
+module _ (tag : ℕ) (all : List Item) (s : State) (k : ℕ) (e : k ≡ put_number 0 all s) where
+  -- accepted, and all of it is left
+  pub opens : ◌≡◌ {A = Outcome} (Accepting s) (settled k s s) → Left tag all s all s
+  opens h = let a = sym (put_done tag 0 all s (placed tag all s) (sym e ∙ none_refused k s h) refl) in record { whole = a; rest = a }
 
-settled_zero : (k : ℕ) (s : State) (o : Outcome) → o ≡ settled k s s → is_accepted o.answer ≡ true → (k ≡ 0) × (o.state ≡ s)
-unfolding settled
-settled_zero zero s o e q = (refl, ap (λ (x : Outcome). x.state) e)
-settled_zero (suc k) s o e q = no (sym (ap (λ (x : Outcome). is_accepted x.answer) e) ∙ q)
+module _ {tag : ℕ} {all : List Item} {s : State} where
+  module _ (is js : List Item) {t : State} (a : Left tag all s (is ++ js) t) where
+    -- a piece placed, and the rest is left
+    pub piece : {u : State} → ◌≡◌ {A = Outcome} (Accepting u) (put tag 0 is t) → Left tag all s js u
+    piece e =
+        let p = put_split tag is js t (placed tag all s) a.rest in
+        record { whole = a.whole; rest = subst (λ (x : Outcome). Accepts tag js x.state (placed tag all s)) (sym (e ∙ p.0)) p.1 }
 
-module _ (tag : ℕ) (is : List Item) (s : State) (o : Outcome) where
-  -- refused as the whole is
-  pub refuses : o ≡ checked is s → is_accepted o.answer ≡ false → o ≡ put tag 0 is s
-  unfolding put
-  refuses g q = settled_as_it_was (put_number 0 is s) s (placed tag is s) o g q
+    -- which is not refused
+    pub not_refused : {u : State} {n p : ℕ} {X : Type 0} → ◌≡◌ {A = Outcome} (Refusing n p u) (put tag 0 is t) → X
+    not_refused e = absurd (differ (ap (λ (o : Outcome). o.answer) (e ∙ (put_split tag is js t (placed tag all s) a.rest).0)))
+      where
+        differ : {n p : ℕ} → ◌≡◌ {A = Answer (Unit {0})} (refused n p) (accepted tt) → ⊥
+        differ q = let z : ◌≡◌ {A = ℕ} 0 1 = cc in omega arith
 
-  -- or else accepted, and nothing has changed
-  pub record Open : Type 0 where
-    pub goal : Accepts tag is s (placed tag is s)
-    pub left : Accepts tag is o.state (placed tag is s)
+  -- pieces of code
+  module _ (is js : List Instr) {t : State} where
+    pub coded : Left tag all s (code (is ++ js)) t → Left tag all s (code is ++ code js) t
+    coded a = subst (λ (x : List Item). Left tag all s x t) (map-append instr is js) a
 
-  pub opens : o ≡ checked is s → is_accepted o.answer ≡ true → Open
-  unfolding put settled
-  opens g q =
-      let z = settled_zero (put_number 0 is s) s o g q in
-      let a : Accepts tag is s (placed tag is s) = ap (λ (m : ℕ). settled m s (placed tag is s)) z.0 in
-      record { goal = a; left = subst (λ (x : State). Accepts tag is x (placed tag is s)) (sym z.1) a }
-
-module _ (tag : ℕ) where
-  -- a piece placed, and the rest is left
-  pub piece : (is js : List Item) (s u : State) (o : Outcome) → Accepts tag (is ++ js) s u → o ≡ put tag 0 is s → Accepts tag js o.state u
-  piece is js s u o a e = let p = put_split tag is js s u a in subst (λ (x : Outcome). Accepts tag js x.state u) (sym (e ∙ p.0)) p.1
-
-  -- the last piece
-  pub closes : (is js : List Item) (s t : State) (o p : Outcome) → Open tag is s o → Accepts tag js t (placed tag is s) → p ≡ put tag 0 js t → p ≡ put tag 0 is s
-  closes is js s t o p a b e = e ∙ b ∙ sym a.goal
-
-  -- nothing is left
-  pub closed : (is js : List Item) (s t : State) (o : Outcome) → Open tag is s o → js ≡ [] → Accepts tag js t (placed tag is s) → ◌≡◌ {A = Outcome} (record { answer = accepted tt; state = t }) (put tag 0 is s)
-  unfolding placed
-  closed is js s t o a z b =
-      let e : placed tag is s ≡ t = (accepts tag 0 [] t (placed tag is s) (subst (λ (x : List Item). Accepts tag x t (placed tag is s)) z b)).1 in
-      ap (λ (x : State). record { answer = accepted tt; state = x }) (sym e) ∙ sym a.goal
-
-  -- a piece of code placed
-  module _ (is js : List Instr) (s u : State) (o : Outcome) (e : o ≡ put tag 0 (code is) s) where
-    pub code_piece : Accepts tag (code (is ++ js)) s u → Accepts tag (code js) o.state u
-    code_piece a = piece (code is) (code js) s u o (subst (λ (x : List Item). Accepts tag x s u) (map-append instr is js) a) e
-
-    pub front_piece : (rest : List Item) → Accepts tag (code (is ++ js) ++ rest) s u → Accepts tag (code js ++ rest) o.state u
-    front_piece rest a =
-        let q : code (is ++ js) ++ rest ≡ code is ++ (code js ++ rest) = ap (λ (x : List Item). x ++ rest) (map-append instr is js) ∙ append_assoc (code is) (code js) rest in
-        piece (code is) (code js ++ rest) s u o (subst (λ (x : List Item). Accepts tag x s u) q a) e
+    pub fronted : (rest : List Item) → Left tag all s (code (is ++ js) ++ rest) t → Left tag all s (code is ++ (code js ++ rest)) t
+    fronted rest a = subst (λ (x : List Item). Left tag all s x t) (ap (λ (x : List Item). x ++ rest) (map-append instr is js) ∙ append_assoc (code is) (code js) rest) a
 
   -- one of n in a row
-  pub row_piece : (each : List Instr) (n i : ℕ) (s u : State) (o : Outcome) → i < n → o ≡ put tag 0 (code each) s → Accepts tag (code (times_over (n - i) each)) s u → Accepts tag (code (times_over (n - (i + 1)) each)) o.state u
-  row_piece each n i s u o h e a =
+  pub one_of_row : (each : List Instr) (n i : ℕ) {t : State} → i < n → Left tag all s (code (times_over (n - i) each)) t → Left tag all s (code each ++ code (times_over (n - (i + 1)) each)) t
+  one_of_row each n i {t} h a =
       let k : n - i ≡ suc (n - (i + 1)) = omega arith in
-      code_piece each (times_over (n - (i + 1)) each) s u o e (subst (λ (x : ℕ). Accepts tag (code (times_over x each)) s u) k a)
+      coded each (times_over (n - (i + 1)) each) (subst (λ (x : ℕ). Left tag all s (code (times_over x each)) t) k a)
+
+  -- the last piece
+  pub closes : {js : List Item} {t : State} {o : Outcome} → Left tag all s js t → o ≡ put tag 0 js t → o ≡ put tag 0 all s
+  closes a e = e ∙ a.rest ∙ sym a.whole
+
+  -- nothing is left
+  pub closed : {t : State} → Left tag all s [] t → ◌≡◌ {A = Outcome} (Accepting t) (put tag 0 all s)
+  unfolding placed
+  closed {t} a = let e : placed tag all s ≡ t = (accepts tag 0 [] _ _ a.rest).1 in ap Accepting (sym e) ∙ sym a.whole

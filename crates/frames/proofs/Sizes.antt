@@ -13,10 +13,12 @@ use Rattle.isa.specs.Instr.{Instr, R, ADD}
 use Rattle.assembler.specs.Item.{Item, jump, label}
 use Rattle.assembler.specs.State.{State}
 use Rattle.assembler.specs.Put.{words, targets, labels, verdict, put_number}
+use Rattle.assembler.specs.Plan.{earlier, sets_fault}
 use Rattle.assembler.specs.declared.JumpKind.TheVariants.{Bne}
 use Rattle.assembler.proofs.Items.{words_append, targets_append, labels_append, targets_instrs, labels_instrs}
 use Rattle.accesses.specs.Code.{li_code, sub_stack_code, allocate_stack_code}
 use Rattle.accesses.proofs.Collect.{li_near, li_far}
+use Rattle.accesses.proofs.Lengths.{li_length}
 use Rattle.ast.specs.Mask.{saved}
 use Rattle.frame_code.specs.Items.{code, count_down, times_over, repeated, reload, reloads, at_success, at_epilogue}
 use Rattle.frame_code.specs.Inner.Copies.{copy_first, copy_each, copy_label, copies}
@@ -64,6 +66,21 @@ six false = refl
 
 pub first_out : (m : ℕ) → length (li_code 6 (pos (8 * m))) + 1 ≡ length (copy_first true m)
 first_out m = sym (length-append (li_code 6 (pos (8 * m))) (R ADD 6 6 9 ∷ []))
+
+pub first_few : (out : Bool) (m : ℕ) → length (copy_first out m) ≤ 12
+first_few true m = omega (arith, first_out m, li_length 6 (pos (8 * m)))
+first_few false m = omega arith
+
+pub each_few : (out : Bool) → length (copy_each out) ≤ 12
+each_few out = omega (arith, six out)
+
+a_label : (out : Bool) → earlier 0 (sets_fault (copy_label out ∷ [])) ≡ 0
+a_label true = refl
+a_label false = refl
+
+pub copy_label_is : (out : Bool) → copy_label out < 2039
+copy_label_is true = omega arith
+copy_label_is false = omega arith
 
 module _ (out : Bool) (m n : ℕ) where
   pub row_length : length (times_over n (copy_each out)) ≡ 6 * n
@@ -140,17 +157,14 @@ module _ (out : Bool) (m n : ℕ) where
   -- ---- the numbers of copies
 
   pub looped_number : (l x y : ℕ) (s : State) → l ≡ copy_label out → x ≡ length (copy_first out m) → y ≡ length (li_code 7 (pos n))
-      → verdict 0 (l ∷ []) (l ∷ []) (x + y + 8) s ≡ put_number 0 (looped out m n) s
-  looped_number l x y s e f g = rw (looped_words, looped_targets, looped_labels, e, f, g)
+      → verdict (earlier 0 (sets_fault (l ∷ []))) (l ∷ []) (l ∷ []) (x + y + 8) s ≡ put_number 0 (looped out m n) s
+  looped_number l x y s e f g = rw (looped_words, looped_targets, looped_labels, e, f, g, a_label out)
 
 -- code alone
 pub code_number : (is : List Instr) (w : ℕ) (s : State) → w ≡ length is → verdict 0 [] [] w s ≡ put_number 0 (code is) s
 code_number is w s e = rw (words_code is, targets_instrs is, labels_instrs is, e)
 
 module _ (out : Bool) (m n : ℕ) where
-  pub row_number : (s : State) → verdict 0 [] [] (6 * n) s ≡ put_number 0 (code (times_over n (copy_each out))) s
-  row_number s = code_number (times_over n (copy_each out)) (6 * n) s (sym (row_length out m n))
-
   pub straight_number : (w : ℕ) (s : State) → w ≡ length (copy_first out m) → verdict 0 [] [] (w + 6 * n) s ≡ put_number 0 (code (copy_first out m ++ times_over n (copy_each out))) s
   straight_number w s e = code_number (copy_first out m ++ times_over n (copy_each out)) (w + 6 * n) s (ap (λ (k : ℕ). k + 6 * n) e ∙ sym (length-append (copy_first out m) (times_over n (copy_each out)) ∙ ap (λ (k : ℕ). length (copy_first out m) + k) (row_length out m n)))
 

@@ -1,13 +1,15 @@
 -- How many words the whole frames have, their labels, where their jumps go, and how they are parted. Assumes nothing.
 use mathlib.Core.Path.{◌≡◌, refl, sym, ap, subst, ◌∙◌}
 use mathlib.Core.Bool.{true, false, cond}
-use mathlib.Core.List.{List, [], ◌∷◌, ◌++◌, append_assoc, append-nil}
+use mathlib.Core.List.{List, [], ◌∷◌, ◌++◌, map, append_assoc, append-nil}
 use Prim.Native.Nat.{ℕ, ◌+◌, ◌*◌, ◌≤◌}
 use native.Mathlib.Omega.{arith}
 use lib.Dec.{ltb}
-use lib.IntN.{pos}
+use lib.IntN.{ℤ, pos, neg_ℤ, ◌-ℤ◌}
+use mir.Syntax.{w32}
+use mir.Val.{to_z, of_z}
 use lib.ListN.{length, length-append}
-use Rattle.isa.specs.Instr.{Instr, I, Shift, FLD, SLLI}
+use Rattle.isa.specs.Instr.{Instr, I, Shift, ADDI, FLD, SLLI}
 use Rattle.ast.specs.declared.Frame.{Frame}
 use Rattle.ast.specs.declared.Frame.TheVariants.{Fast, Indirect}
 use Rattle.ast.specs.declared.Head.{Head}
@@ -16,14 +18,15 @@ use Rattle.assembler.specs.State.{State}
 use Rattle.assembler.specs.Put.{words, targets, labels, verdict, put_number, put}
 use Rattle.assembler.specs.declared.JumpKind.TheVariants.{Beq}
 use Rattle.assembler.proofs.Items.{words_append, targets_append, labels_append, targets_instrs, labels_instrs}
+use Rattle.assembler.specs.Plan.{no_words, pushed, earlier, sets_fault}
+use Rattle.accesses.specs.Plans.{answer_of, pushes_from, plan_of}
 use Rattle.accesses.specs.Code.{sub_stack_code, add_stack_code, allocate_stack_code}
-use Rattle.finish.proofs.Both.{Accepts}
-use Rattle.reading.specs.Size.{frame_size, stack_size}
-use Rattle.frame_code.specs.Items.{code, mv, opening, closing, states_from, prologue_fast, prologue_indirect, epilogue_fast, epilogue_indirect, by_frame, prologue, epilogue, at_main, at_done, at_self, at_pro, at_epi}
+use Rattle.reading.specs.Size.{frame_size, stack_size, save_size}
+use Rattle.frame_code.specs.Items.{code, mv, kept, stores_from, opening, closing, states_from, prologue_fast, prologue_indirect, epilogue_fast, epilogue_indirect, by_frame, prologue, epilogue, at_main, at_done, at_self, at_pro, at_epi}
 use Rattle.frame_code.specs.Inner.Copies.{copies}
 use Rattle.frame_code.proofs.Fast.{states_length}
 use Rattle.frames.specs.Inner.Whole.{entry}
-use Rattle.frames.proofs.Parts.{words_code, jumps_code, untagged}
+use Rattle.frames.proofs.Parts.{Left, words_code, jumps_code, untagged}
 use Rattle.frames.proofs.Sizes.{code_number, copies_targets, copies_labels}
 
 pub opening_few : (F : Frame) → length (opening F) ≤ 12
@@ -35,6 +38,25 @@ pub closing_few : (F : Frame) → length (closing F) ≤ 11
 unfolding add_stack_code
 closing_few Fast = omega arith
 closing_few Indirect = omega arith
+
+-- a frame's registers, and the bytes for them as they are handed on
+pub opening_starts : (F : Frame) → plan_of (opening F) ≡ pushes_from (pushed no_words (answer_of (I ADDI 2 2 (neg_ℤ (pos (save_size F)))))) (map answer_of (stores_from 0 (kept F) ++ (mv 8 2 ∷ [])))
+unfolding sub_stack_code
+opening_starts Fast = refl
+opening_starts Indirect = refl
+
+pub added : (F : Frame) → add_stack_code (save_size F) ≡ I ADDI 2 2 (pos (save_size F)) ∷ []
+unfolding add_stack_code
+added Fast = refl
+added Indirect = refl
+
+pub size_back : (F : Frame) (z : ℤ) → z ≡ pos (save_size F) → (to_z w32 (of_z w32 z) ≡ pos (save_size F)) × (to_z w32 (of_z w32 (pos 0 -ℤ to_z w32 (of_z w32 z))) ≡ neg_ℤ (pos (save_size F)))
+size_back Fast z e = rw e (refl, refl)
+size_back Indirect z e = rw e (refl, refl)
+
+pub kept_few : (F : Frame) → length (kept F) ≤ 7
+kept_few Fast = omega arith
+kept_few Indirect = omega arith
 
 -- ---- the fast frame
 
@@ -100,8 +122,8 @@ start_parts : (H : Head) → prologue_indirect H ≡ entry ++ (code (down H) ++ 
 unfolding entry
 start_parts H = ap (λ (is : List Item). label at_self ∷ is) (sym (append_assoc (code (opening Indirect ++ arguments)) (jump Beq at_main 0 ∷ []) (code (down H) ++ up H)))
 
-pub start_left : (H : Head) (tag : ℕ) (t u : State) → Accepts tag (prologue_indirect H) t u → Accepts tag (entry ++ (code (down H) ++ up H)) t u
-start_left H tag t u a = subst (λ (is : List Item). Accepts tag is t u) (start_parts H) a
+pub start_left : (H : Head) (tag : ℕ) {all : List Item} {s t : State} → Left tag all s (prologue_indirect H) t → Left tag all s (entry ++ (code (down H) ++ up H)) t
+start_left H tag {all} {s} {t} a = subst (λ (is : List Item). Left tag all s is t) (start_parts H) a
 
 module _ (H : Head) where
   abbrev n : ℕ
@@ -127,10 +149,10 @@ module _ (H : Head) where
       ∙ rw (entry_labels, labels_append (code (down H)) (up H), labels_instrs (down H), then_labels (copies false n n) at_main (allocate_stack_code (stack_size H)), copies_labels false n n)
 
   -- x, y and z words for `mem`, the copies and `stack`
-  pub start_number : (s : State) (ls ts : List ℕ) (x y z : ℕ) → ls ≡ at_self ∷ (cond (ltb 16 n) (at_pro ∷ []) [] ++ (at_main ∷ [])) → ts ≡ at_main ∷ cond (ltb 16 n) (at_pro ∷ []) []
+  pub start_number : (s : State) (ls ts : List ℕ) (x y z : ℕ) → ls ≡ at_self ∷ (cond (ltb 16 n) (at_pro ∷ []) [] ++ (at_main ∷ [])) → sets_fault ls ≡ 0 → ts ≡ at_main ∷ cond (ltb 16 n) (at_pro ∷ []) []
       → x ≡ length (sub_stack_code (frame_size H)) → y ≡ length (words (copies false n n)) → z ≡ length (allocate_stack_code (stack_size H))
-      → verdict 0 ls ts (16 + x + y + z) s ≡ put_number 0 (prologue_indirect H) s
-  start_number s ls ts x y z e i f g h = rw (start_words, start_targets, start_labels, e, i, f, g, h)
+      → verdict (earlier 0 (sets_fault ls)) ls ts (16 + x + y + z) s ≡ put_number 0 (prologue_indirect H) s
+  start_number s ls ts x y z e k i f g h = rw (k, start_words, start_targets, start_labels, e, i, f, g, h)
 
   abbrev c : List Item
   c = copies true n H.obs
@@ -148,9 +170,9 @@ module _ (H : Head) where
   end_labels = then_labels c at_done (closing Indirect) ∙ rw (copies_labels true n H.obs)
 
   -- y words of the copies
-  pub end_number : (s : State) (ls ts : List ℕ) (y : ℕ) → ls ≡ cond (ltb 16 H.obs) (at_epi ∷ []) [] ++ (at_done ∷ []) → ts ≡ at_done ∷ cond (ltb 16 H.obs) (at_epi ∷ []) [] → y ≡ length (words c)
-      → verdict 0 ls ts (12 + y) s ≡ put_number 0 (epilogue_indirect H) s
-  end_number s ls ts y e g f = rw (end_words, end_targets, end_labels, e, g, f)
+  pub end_number : (s : State) (ls ts : List ℕ) (y : ℕ) → ls ≡ cond (ltb 16 H.obs) (at_epi ∷ []) [] ++ (at_done ∷ []) → sets_fault ls ≡ 0 → ts ≡ at_done ∷ cond (ltb 16 H.obs) (at_epi ∷ []) [] → y ≡ length (words c)
+      → verdict (earlier 0 (sets_fault ls)) ls ts (12 + y) s ≡ put_number 0 (epilogue_indirect H) s
+  end_number s ls ts y e k g f = rw (k, end_words, end_targets, end_labels, e, g, f)
 
 -- ---- by the frame
 

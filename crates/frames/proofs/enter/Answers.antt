@@ -1,38 +1,55 @@
+use borrow.Author.Rules.{rules}
 use native.Mathlib.Omega.{arith}
-use mathlib.Core.Path.{refl, sym, ◌∙◌, ◌≡◌}
+use mathlib.Core.Path.{refl, ◌∙◌}
 use mathlib.Core.List.{[], ◌∷◌, ◌++◌}
+use Rattle.assembler.specs.State.{before}
 use Rattle.assembler.specs.Item.{jump, label}
-use Rattle.assembler.specs.State.{state, State}
-use Rattle.assembler.specs.declared.JumpKind.TheVariants.{Beq}
-use Rattle.frame_code.specs.Items.{code, opening, at_main, at_self}
-use Rattle.accesses.proofs.Placed.{plan_code}
-use Rattle.frames.proofs.Parts.{label_set, plan_jump, refuses, opens, closes, front_piece, piece, left_of, checked, checks}
-use Rattle.ast.specs.declared.Frame.TheVariants.{Indirect}
+use Rattle.assembler.proofs.Steps.{put_refused}
 use Rattle.accesses.proofs.Collect.{answered, collected}
+use Rattle.accesses.proofs.Placed.{plan_code}
+use Rattle.frames.proofs.Parts.{opens, piece, not_refused, closes, fronted, label_set, plan_jump}
+use Rattle.assembler.specs.declared.JumpKind.TheVariants.{Beq}
+use Rattle.ast.specs.declared.Frame.TheVariants.{Indirect}
+use Rattle.frame_code.specs.Items.{code, opening, at_main, at_self}
 use Rattle.frame_code.proofs.Valid.{opening_valid}
 use Rattle.frames.proofs.Wholes.{opening_few, arguments, entry_number}
 use Rattle.frames.specs.Inner.Whole.{entry}
 use Rattle.frames.proofs.enter.Goals as goal
 
-pub returns-then-ok : goal.returns-then-ok
+pub returns-in_err-check_whole : goal.returns-in_err-check_whole
 unfolding entry
-returns-then-ok c =
-    let first : State = state c.args.asm c.args.labels.now c.args.jumps.now c.args.buf.now in
-    let whole : left_of c.precheck-d.ensures ≡ checked entry first = checks entry first _ _ c.precheck-d.ensures (entry_number first) in
-    let tag = c.args.tag in
+returns-in_err-check_whole c =
+    let a = c.args in
+    let s = before a.asm.now in
     let past = jump Beq at_main 0 ∷ [] in
-    let o = opens tag entry first _ whole (sym c.accepted-ok.ensures ∙ c.if-ok.true) in
-    let e1 = c.set_label-a.ensures ∙ label_set tag at_self at_self refl (omega arith) _ in
-    let e2 = c.place-b.ensures ∙ plan_code _ (opening Indirect) c.opening_indirect-p.ensures (opening_few Indirect) (opening_valid Indirect) tag _ in
-    let moves = c.mv.result ∷ c.mv-then-ok.result ∷ c.mv-then-ok-2.result ∷ c.mv-then-ok-3.result ∷ [] in
-    let r = collected moves arguments (answered _ _ c.mv.ensures, (answered _ _ c.mv-then-ok.ensures, (answered _ _ c.mv-then-ok-2.ensures, (answered _ _ c.mv-then-ok-3.ensures, tt)))) in
-    let e3 = c.place.ensures ∙ plan_jump tag at_main at_main refl (omega arith) _ Beq _ arguments (c.four-q.ensures ∙ r) (omega arith) (omega arith) in
-    let f1 = piece tag (label at_self ∷ []) (code (opening Indirect ++ arguments) ++ past) _ _ _ o.left e1 in
-    let f2 = front_piece tag (opening Indirect) arguments _ _ _ e2 past f1 in
-    closes tag entry (code arguments ++ past) first _ _ _ o f2 e3
+    put_refused a.tag 0 (entry) s _ _ _ (entry_number s) (search rules) c.in_err-check_whole.ensures.whole
+
+pub returns-in_err-set_label : goal.returns-in_err-set_label
+unfolding entry
+returns-in_err-set_label c =
+    let a = c.args in
+    let s = before a.asm.now in
+    let past = jump Beq at_main 0 ∷ [] in
+    let l0 = opens a.tag (entry) s _ (entry_number s) c.in_ok-check_whole.ensures.whole in
+    not_refused (label at_self ∷ []) (code (opening Indirect ++ arguments) ++ past) (l0) (c.in_err-set_label.ensures ∙ label_set a.tag at_self at_self refl (omega arith) _)
+
+pub returns-in_err-place : goal.returns-in_err-place
+unfolding entry
+returns-in_err-place c =
+    let a = c.args in
+    let s = before a.asm.now in
+    let past = jump Beq at_main 0 ∷ [] in
+    let l0 = opens a.tag (entry) s _ (entry_number s) c.in_ok-check_whole.ensures.whole in
+    let l1 = piece (label at_self ∷ []) (code (opening Indirect ++ arguments) ++ past) (l0) (c.in_ok-set_label.ensures ∙ label_set a.tag at_self at_self refl (omega arith) _) in
+    not_refused (code (opening Indirect)) (code arguments ++ past) (fronted (opening Indirect) arguments past l1) (c.in_err-place.ensures ∙ plan_code _ (opening Indirect) c.opening_plan.ensures (opening_few Indirect) (opening_valid Indirect) a.tag _)
 
 pub returns : goal.returns
+unfolding entry
 returns c =
-    let first : State = state c.args.asm c.args.labels.now c.args.jumps.now c.args.buf.now in
-    let whole : left_of c.precheck-d.ensures ≡ checked entry first = checks entry first _ _ c.precheck-d.ensures (entry_number first) in
-    refuses c.args.tag entry first _ whole (sym c.accepted-ok.ensures ∙ c.if-ok.false)
+    let a = c.args in
+    let s = before a.asm.now in
+    let past = jump Beq at_main 0 ∷ [] in
+    let l0 = opens a.tag (entry) s _ (entry_number s) c.in_ok-check_whole.ensures.whole in
+    let l1 = piece (label at_self ∷ []) (code (opening Indirect ++ arguments) ++ past) (l0) (c.in_ok-set_label.ensures ∙ label_set a.tag at_self at_self refl (omega arith) _) in
+    let l2 = piece (code (opening Indirect)) (code arguments ++ past) (fronted (opening Indirect) arguments past l1) (c.in_ok-place.ensures ∙ plan_code _ (opening Indirect) c.opening_plan.ensures (opening_few Indirect) (opening_valid Indirect) a.tag _) in
+    closes l2 (c.place-2.ensures ∙ plan_jump a.tag at_main at_main refl (omega arith) _ Beq _ arguments (c.plan-p.ensures ∙ collected (c.mv.result ∷ c.mv-2.result ∷ c.mv-3.result ∷ c.mv-4.result ∷ []) arguments (answered _ _ c.mv.ensures, (answered _ _ c.mv-2.ensures, (answered _ _ c.mv-3.ensures, (answered _ _ c.mv-4.ensures, tt))))) (omega arith) (omega arith))

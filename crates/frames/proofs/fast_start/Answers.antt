@@ -1,50 +1,99 @@
+use borrow.Author.Rules.{rules}
 use native.Mathlib.Omega.{arith}
-use mathlib.Core.Path.{sym, ap, ◌∙◌, ◌≡◌}
+use mathlib.Core.Path.{ap, ◌∙◌}
 use mathlib.Core.List.{[], ◌∷◌, ◌++◌}
 use Prim.Native.Nat.{ℕ}
 use lib.ListN.{length}
-use Rattle.assembler.specs.State.{state, State}
-use Rattle.frame_code.specs.Items.{code, mv, opening, states_from, prologue_fast}
+use Rattle.assembler.specs.State.{before}
+use Rattle.assembler.proofs.Steps.{put_refused}
+use Rattle.accesses.proofs.Collect.{answered, collected}
 use Rattle.accesses.proofs.Placed.{plan_code}
-use Rattle.frames.proofs.Parts.{refuses, opens, closes, code_piece, size_put, left_of, checked, checks}
+use Rattle.frames.proofs.Parts.{opens, piece, not_refused, closes, coded, size_put}
 use Rattle.ast.specs.declared.Frame.TheVariants.{Fast}
 use Rattle.accesses.specs.Code.{sub_stack_code}
-use Rattle.accesses.proofs.Collect.{answered, collected}
 use Rattle.reading.specs.Size.{frame_size, stack_size}
+use Rattle.frame_code.specs.Items.{code, mv, opening, states_from, prologue_fast}
 use Rattle.frame_code.proofs.Valid.{opening_valid, states_valid}
 use Rattle.frames.proofs.Wholes.{opening_few, states_few, fast_number}
 use Rattle.frames.proofs.fast_start.Goals as goal
 
-pub returns-then-ok : goal.returns-then-ok
-returns-then-ok c =
-    let first : State = state c.args.asm c.args.labels.now c.args.jumps.now c.args.buf.now in
-    let whole : left_of c.precheck-d.ensures ≡ checked (prologue_fast c.args.head) first = let mem = c.sub_words.ensures.0 ∙ ap (λ (k : ℕ). length (sub_stack_code k)) c.size_of-mem.ensures.0 in
-    let stack = c.sub_words-2.ensures.0 ∙ ap (λ (k : ℕ). length (sub_stack_code k)) c.size_of-stack.ensures.0 in
-    checks (prologue_fast c.args.head) first _ _ c.precheck-d.ensures (fast_number c.args.head _ _ first mem stack) in
-    let s = first in
-    let H = c.args.head in
-    let few = c.requires.2 in
+pub returns-in_err-check_whole : goal.returns-in_err-check_whole
+returns-in_err-check_whole c =
+    let a = c.args in
+    let s = before a.asm.now in
+    let H = a.head in
+    let sub_length = λ (k : ℕ). length (sub_stack_code k) in
     let mem = sub_stack_code (frame_size H) in
     let stack = sub_stack_code (stack_size H) in
     let states = mv 21 2 ∷ states_from 0 H.states in
-    let o = opens 0 (prologue_fast H) s _ whole (sym c.accepted-ok.ensures ∙ c.if-ok.true) in
-    let e1 = c.place-a.ensures ∙ plan_code _ (opening Fast) c.opening_fast-p.ensures (opening_few Fast) (opening_valid Fast) 0 _ in
-    let e2 = c.sub_stack-b.ensures ∙ size_put 0 sub_stack_code _ (frame_size H) _ c.size_of-mem.ensures.0 c.size_of-mem.ensures.1 in
-    let r = collected (c.mv.result ∷ []) (mv 9 2 ∷ []) (answered _ _ c.mv.ensures, tt) in
-    let e3 = c.place-c.ensures ∙ plan_code _ (mv 9 2 ∷ []) (c.one-q.ensures ∙ r) (omega arith) (omega arith) 0 _ in
-    let e4 = c.sub_stack-e.ensures ∙ size_put 0 sub_stack_code _ (stack_size H) _ c.size_of-stack.ensures.0 c.size_of-stack.ensures.1 in
-    let v = states_valid 0 H.states (omega (arith, few)) in
-    let e5 = c.place.ensures ∙ plan_code _ states c.states_plan-t.ensures (states_few H.states few) (omega arith, v) 0 _ in
-    let f1 = code_piece 0 (opening Fast) (mem ++ (mv 9 2 ∷ (stack ++ states))) _ _ _ e1 o.left in
-    let f2 = code_piece 0 mem (mv 9 2 ∷ (stack ++ states)) _ _ _ e2 f1 in
-    let f3 = code_piece 0 (mv 9 2 ∷ []) (stack ++ states) _ _ _ e3 f2 in
-    let f4 = code_piece 0 stack states _ _ _ e4 f3 in
-    closes 0 (prologue_fast H) (code states) s _ _ _ o f4 e5
+    put_refused 0 0 (prologue_fast H) s _ _ _ (fast_number H _ _ s (c.sub_words.ensures.0 ∙ ap sub_length c.size_of-mem.ensures.0) (c.sub_words-2.ensures.0 ∙ ap sub_length c.size_of-stack.ensures.0)) (search rules) c.in_err-check_whole.ensures.whole
+
+pub returns-in_err-place : goal.returns-in_err-place
+returns-in_err-place c =
+    let a = c.args in
+    let s = before a.asm.now in
+    let H = a.head in
+    let sub_length = λ (k : ℕ). length (sub_stack_code k) in
+    let mem = sub_stack_code (frame_size H) in
+    let stack = sub_stack_code (stack_size H) in
+    let states = mv 21 2 ∷ states_from 0 H.states in
+    let l0 = opens 0 (prologue_fast H) s _ (fast_number H _ _ s (c.sub_words.ensures.0 ∙ ap sub_length c.size_of-mem.ensures.0) (c.sub_words-2.ensures.0 ∙ ap sub_length c.size_of-stack.ensures.0)) c.in_ok-check_whole.ensures.whole in
+    not_refused (code (opening Fast)) (code (mem ++ (mv 9 2 ∷ (stack ++ states)))) (coded (opening Fast) (mem ++ (mv 9 2 ∷ (stack ++ states))) l0) (c.in_err-place.ensures ∙ plan_code _ (opening Fast) c.opening_plan.ensures (opening_few Fast) (opening_valid Fast) 0 _)
+
+pub returns-in_err-sub_stack : goal.returns-in_err-sub_stack
+returns-in_err-sub_stack c =
+    let a = c.args in
+    let s = before a.asm.now in
+    let H = a.head in
+    let sub_length = λ (k : ℕ). length (sub_stack_code k) in
+    let mem = sub_stack_code (frame_size H) in
+    let stack = sub_stack_code (stack_size H) in
+    let states = mv 21 2 ∷ states_from 0 H.states in
+    let l0 = opens 0 (prologue_fast H) s _ (fast_number H _ _ s (c.sub_words.ensures.0 ∙ ap sub_length c.size_of-mem.ensures.0) (c.sub_words-2.ensures.0 ∙ ap sub_length c.size_of-stack.ensures.0)) c.in_ok-check_whole.ensures.whole in
+    let l1 = piece (code (opening Fast)) (code (mem ++ (mv 9 2 ∷ (stack ++ states)))) (coded (opening Fast) (mem ++ (mv 9 2 ∷ (stack ++ states))) l0) (c.in_ok-place.ensures ∙ plan_code _ (opening Fast) c.opening_plan.ensures (opening_few Fast) (opening_valid Fast) 0 _) in
+    not_refused (code mem) (code (mv 9 2 ∷ (stack ++ states))) (coded mem (mv 9 2 ∷ (stack ++ states)) l1) (c.in_err-sub_stack.ensures ∙ size_put 0 sub_stack_code _ (frame_size H) _ c.size_of-mem.ensures.0 c.size_of-mem.ensures.1)
+
+pub returns-in_err-place-2 : goal.returns-in_err-place-2
+returns-in_err-place-2 c =
+    let a = c.args in
+    let s = before a.asm.now in
+    let H = a.head in
+    let sub_length = λ (k : ℕ). length (sub_stack_code k) in
+    let mem = sub_stack_code (frame_size H) in
+    let stack = sub_stack_code (stack_size H) in
+    let states = mv 21 2 ∷ states_from 0 H.states in
+    let l0 = opens 0 (prologue_fast H) s _ (fast_number H _ _ s (c.sub_words.ensures.0 ∙ ap sub_length c.size_of-mem.ensures.0) (c.sub_words-2.ensures.0 ∙ ap sub_length c.size_of-stack.ensures.0)) c.in_ok-check_whole.ensures.whole in
+    let l1 = piece (code (opening Fast)) (code (mem ++ (mv 9 2 ∷ (stack ++ states)))) (coded (opening Fast) (mem ++ (mv 9 2 ∷ (stack ++ states))) l0) (c.in_ok-place.ensures ∙ plan_code _ (opening Fast) c.opening_plan.ensures (opening_few Fast) (opening_valid Fast) 0 _) in
+    let l2 = piece (code mem) (code (mv 9 2 ∷ (stack ++ states))) (coded mem (mv 9 2 ∷ (stack ++ states)) l1) (c.in_ok-sub_stack.ensures ∙ size_put 0 sub_stack_code _ (frame_size H) _ c.size_of-mem.ensures.0 c.size_of-mem.ensures.1) in
+    not_refused (code (mv 9 2 ∷ [])) (code (stack ++ states)) (l2) (c.in_err-place-2.ensures ∙ plan_code _ (mv 9 2 ∷ []) (c.plan.ensures ∙ collected (c.mv.result ∷ []) (mv 9 2 ∷ []) (answered _ _ c.mv.ensures, tt)) (omega arith) (omega arith) 0 _)
+
+pub returns-in_err-sub_stack-2 : goal.returns-in_err-sub_stack-2
+returns-in_err-sub_stack-2 c =
+    let a = c.args in
+    let s = before a.asm.now in
+    let H = a.head in
+    let sub_length = λ (k : ℕ). length (sub_stack_code k) in
+    let mem = sub_stack_code (frame_size H) in
+    let stack = sub_stack_code (stack_size H) in
+    let states = mv 21 2 ∷ states_from 0 H.states in
+    let l0 = opens 0 (prologue_fast H) s _ (fast_number H _ _ s (c.sub_words.ensures.0 ∙ ap sub_length c.size_of-mem.ensures.0) (c.sub_words-2.ensures.0 ∙ ap sub_length c.size_of-stack.ensures.0)) c.in_ok-check_whole.ensures.whole in
+    let l1 = piece (code (opening Fast)) (code (mem ++ (mv 9 2 ∷ (stack ++ states)))) (coded (opening Fast) (mem ++ (mv 9 2 ∷ (stack ++ states))) l0) (c.in_ok-place.ensures ∙ plan_code _ (opening Fast) c.opening_plan.ensures (opening_few Fast) (opening_valid Fast) 0 _) in
+    let l2 = piece (code mem) (code (mv 9 2 ∷ (stack ++ states))) (coded mem (mv 9 2 ∷ (stack ++ states)) l1) (c.in_ok-sub_stack.ensures ∙ size_put 0 sub_stack_code _ (frame_size H) _ c.size_of-mem.ensures.0 c.size_of-mem.ensures.1) in
+    let l3 = piece (code (mv 9 2 ∷ [])) (code (stack ++ states)) (l2) (c.in_ok-place-2.ensures ∙ plan_code _ (mv 9 2 ∷ []) (c.plan.ensures ∙ collected (c.mv.result ∷ []) (mv 9 2 ∷ []) (answered _ _ c.mv.ensures, tt)) (omega arith) (omega arith) 0 _) in
+    not_refused (code stack) (code states) (coded stack states l3) (c.in_err-sub_stack-2.ensures ∙ size_put 0 sub_stack_code _ (stack_size H) _ c.size_of-stack.ensures.0 c.size_of-stack.ensures.1)
 
 pub returns : goal.returns
 returns c =
-    let first : State = state c.args.asm c.args.labels.now c.args.jumps.now c.args.buf.now in
-    let whole : left_of c.precheck-d.ensures ≡ checked (prologue_fast c.args.head) first = let mem = c.sub_words.ensures.0 ∙ ap (λ (k : ℕ). length (sub_stack_code k)) c.size_of-mem.ensures.0 in
-    let stack = c.sub_words-2.ensures.0 ∙ ap (λ (k : ℕ). length (sub_stack_code k)) c.size_of-stack.ensures.0 in
-    checks (prologue_fast c.args.head) first _ _ c.precheck-d.ensures (fast_number c.args.head _ _ first mem stack) in
-    refuses 0 (prologue_fast c.args.head) first _ whole (sym c.accepted-ok.ensures ∙ c.if-ok.false)
+    let a = c.args in
+    let s = before a.asm.now in
+    let H = a.head in
+    let sub_length = λ (k : ℕ). length (sub_stack_code k) in
+    let mem = sub_stack_code (frame_size H) in
+    let stack = sub_stack_code (stack_size H) in
+    let states = mv 21 2 ∷ states_from 0 H.states in
+    let l0 = opens 0 (prologue_fast H) s _ (fast_number H _ _ s (c.sub_words.ensures.0 ∙ ap sub_length c.size_of-mem.ensures.0) (c.sub_words-2.ensures.0 ∙ ap sub_length c.size_of-stack.ensures.0)) c.in_ok-check_whole.ensures.whole in
+    let l1 = piece (code (opening Fast)) (code (mem ++ (mv 9 2 ∷ (stack ++ states)))) (coded (opening Fast) (mem ++ (mv 9 2 ∷ (stack ++ states))) l0) (c.in_ok-place.ensures ∙ plan_code _ (opening Fast) c.opening_plan.ensures (opening_few Fast) (opening_valid Fast) 0 _) in
+    let l2 = piece (code mem) (code (mv 9 2 ∷ (stack ++ states))) (coded mem (mv 9 2 ∷ (stack ++ states)) l1) (c.in_ok-sub_stack.ensures ∙ size_put 0 sub_stack_code _ (frame_size H) _ c.size_of-mem.ensures.0 c.size_of-mem.ensures.1) in
+    let l3 = piece (code (mv 9 2 ∷ [])) (code (stack ++ states)) (l2) (c.in_ok-place-2.ensures ∙ plan_code _ (mv 9 2 ∷ []) (c.plan.ensures ∙ collected (c.mv.result ∷ []) (mv 9 2 ∷ []) (answered _ _ c.mv.ensures, tt)) (omega arith) (omega arith) 0 _) in
+    let l4 = piece (code stack) (code states) (coded stack states l3) (c.in_ok-sub_stack-2.ensures ∙ size_put 0 sub_stack_code _ (stack_size H) _ c.size_of-stack.ensures.0 c.size_of-stack.ensures.1) in
+    closes l4 (c.place-3.ensures ∙ plan_code _ states c.states_plan.ensures (states_few H.states c.requires.2) (omega arith, states_valid 0 H.states (omega (arith, c.requires.2))) 0 _)

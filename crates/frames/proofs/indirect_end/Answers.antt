@@ -1,39 +1,74 @@
-use mathlib.Core.Bool.{true}
+use borrow.Author.Rules.{rules}
 use native.Mathlib.Omega.{arith}
-use mathlib.Core.Path.{refl, sym, ◌∙◌, ◌≡◌}
-use mathlib.Core.List.{[], ◌∷◌, ◌++◌}
+use mathlib.Core.Path.{refl, ap, ◌∙◌}
+use mathlib.Core.Bool.{true}
+use mathlib.Core.List.{[], ◌∷◌, ◌++◌, map}
+use Rattle.assembler.specs.State.{before}
 use Rattle.assembler.specs.Item.{jump, label}
-use Rattle.assembler.specs.State.{state, State}
+use Rattle.assembler.proofs.Steps.{put_refused}
+use Rattle.accesses.proofs.Placed.{plan_code}
+use Rattle.frames.proofs.Parts.{opens, piece, not_refused, closes, label_set}
 use Rattle.assembler.specs.declared.JumpKind.TheVariants.{Beq}
+use Rattle.ast.specs.declared.Frame.TheVariants.{Indirect}
+use Rattle.assembler.specs.declared.Plan.{Plan}
+use Rattle.accesses.specs.Plans.{answer_of, pushes_from}
 use Rattle.frame_code.specs.Items.{code, closing, epilogue_indirect, at_done}
 use Rattle.frame_code.specs.Inner.Copies.{copies}
-use Rattle.accesses.proofs.Placed.{plan_code}
-use Rattle.frames.proofs.Parts.{label_set, refuses, opens, closes, piece, left_of, checked, checks}
-use Rattle.ast.specs.declared.Frame.TheVariants.{Indirect}
 use Rattle.frame_code.proofs.Valid.{closing_valid}
 use Rattle.frames.proofs.Wholes.{closing_few, end_number}
 use Rattle.frames.proofs.indirect_end.Goals as goal
 
-pub returns-then-ok : goal.returns-then-ok
-returns-then-ok c =
-    let first : State = state c.args.asm c.args.labels.now c.args.jumps.now c.args.buf.now in
-    let whole : left_of c.precheck-d.ensures ≡ checked (epilogue_indirect c.args.head) first = checks (epilogue_indirect c.args.head) first _ _ c.precheck-d.ensures
-    (end_number c.args.head first _ _ _ c.end_sets-sets.ensures.0 c.end_goes-goes.ensures c.copy_words-w.ensures.0) in
-    let H = c.args.head in
-    let tag = c.args.tag in
+pub returns-in_err-check_whole : goal.returns-in_err-check_whole
+returns-in_err-check_whole c =
+    let a = c.args in
+    let s = before a.asm.now in
+    let H = a.head in
     let cs = copies true H.states H.obs in
     let end = closing Indirect in
-    let o = opens tag (epilogue_indirect H) first _ whole (sym c.accepted-ok.ensures ∙ c.if-ok.true) in
-    let e3 = c.set_label-c.ensures ∙ label_set tag at_done at_done refl (omega arith) _ in
-    let e4 = c.place.ensures ∙ plan_code _ end c.closing_indirect-p.ensures (omega (arith, closing_few Indirect)) (closing_valid Indirect) tag _ in
-    let f1 = piece tag (jump Beq at_done 0 ∷ []) (cs ++ (label at_done ∷ code end)) _ _ _ o.left c.jump-a.ensures in
-    let f2 = piece tag cs (label at_done ∷ code end) _ _ _ f1 c.copies-b.ensures in
-    let f3 = piece tag (label at_done ∷ []) (code end) _ _ _ f2 e3 in
-    closes tag (epilogue_indirect H) (code end) first _ _ _ o f3 e4
+    put_refused a.tag 0 (epilogue_indirect H) s _ _ _ (end_number H s _ _ _ c.end_sets-sets.ensures.0 c.end_sets-sets.ensures.1 c.end_goes.ensures c.copy_words-w.ensures.0) (search rules) c.in_err-check_whole.ensures.whole
+
+pub returns-in_err-jump : goal.returns-in_err-jump
+returns-in_err-jump c =
+    let a = c.args in
+    let s = before a.asm.now in
+    let H = a.head in
+    let cs = copies true H.states H.obs in
+    let end = closing Indirect in
+    let l0 = opens a.tag (epilogue_indirect H) s _ (end_number H s _ _ _ c.end_sets-sets.ensures.0 c.end_sets-sets.ensures.1 c.end_goes.ensures c.copy_words-w.ensures.0) c.in_ok-check_whole.ensures.whole in
+    not_refused (jump Beq at_done 0 ∷ []) (cs ++ (label at_done ∷ code end)) (l0) (c.in_err-jump.ensures)
+
+pub returns-in_err-copies : goal.returns-in_err-copies
+returns-in_err-copies c =
+    let a = c.args in
+    let s = before a.asm.now in
+    let H = a.head in
+    let cs = copies true H.states H.obs in
+    let end = closing Indirect in
+    let l0 = opens a.tag (epilogue_indirect H) s _ (end_number H s _ _ _ c.end_sets-sets.ensures.0 c.end_sets-sets.ensures.1 c.end_goes.ensures c.copy_words-w.ensures.0) c.in_ok-check_whole.ensures.whole in
+    let l1 = piece (jump Beq at_done 0 ∷ []) (cs ++ (label at_done ∷ code end)) (l0) (c.in_ok-jump.ensures) in
+    not_refused (cs) (label at_done ∷ code end) (l1) (c.in_err-copies.ensures)
+
+pub returns-in_err-set_label : goal.returns-in_err-set_label
+returns-in_err-set_label c =
+    let a = c.args in
+    let s = before a.asm.now in
+    let H = a.head in
+    let cs = copies true H.states H.obs in
+    let end = closing Indirect in
+    let l0 = opens a.tag (epilogue_indirect H) s _ (end_number H s _ _ _ c.end_sets-sets.ensures.0 c.end_sets-sets.ensures.1 c.end_goes.ensures c.copy_words-w.ensures.0) c.in_ok-check_whole.ensures.whole in
+    let l1 = piece (jump Beq at_done 0 ∷ []) (cs ++ (label at_done ∷ code end)) (l0) (c.in_ok-jump.ensures) in
+    let l2 = piece (cs) (label at_done ∷ code end) (l1) (c.in_ok-copies.ensures) in
+    not_refused (label at_done ∷ []) (code end) (l2) (c.in_err-set_label.ensures ∙ label_set a.tag at_done at_done refl (omega arith) _)
 
 pub returns : goal.returns
 returns c =
-    let first : State = state c.args.asm c.args.labels.now c.args.jumps.now c.args.buf.now in
-    let whole : left_of c.precheck-d.ensures ≡ checked (epilogue_indirect c.args.head) first = checks (epilogue_indirect c.args.head) first _ _ c.precheck-d.ensures
-    (end_number c.args.head first _ _ _ c.end_sets-sets.ensures.0 c.end_goes-goes.ensures c.copy_words-w.ensures.0) in
-    refuses c.args.tag (epilogue_indirect c.args.head) first _ whole (sym c.accepted-ok.ensures ∙ c.if-ok.false)
+    let a = c.args in
+    let s = before a.asm.now in
+    let H = a.head in
+    let cs = copies true H.states H.obs in
+    let end = closing Indirect in
+    let l0 = opens a.tag (epilogue_indirect H) s _ (end_number H s _ _ _ c.end_sets-sets.ensures.0 c.end_sets-sets.ensures.1 c.end_goes.ensures c.copy_words-w.ensures.0) c.in_ok-check_whole.ensures.whole in
+    let l1 = piece (jump Beq at_done 0 ∷ []) (cs ++ (label at_done ∷ code end)) (l0) (c.in_ok-jump.ensures) in
+    let l2 = piece (cs) (label at_done ∷ code end) (l1) (c.in_ok-copies.ensures) in
+    let l3 = piece (label at_done ∷ []) (code end) (l2) (c.in_ok-set_label.ensures ∙ label_set a.tag at_done at_done refl (omega arith) _) in
+    closes l3 (c.place.ensures ∙ plan_code _ end (c.closing_plan-p.ensures ∙ ap (λ (p : Plan). pushes_from p (map answer_of end)) c.new.ensures) (omega (arith, closing_few Indirect)) (closing_valid Indirect) a.tag _)

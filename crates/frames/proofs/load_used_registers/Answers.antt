@@ -1,43 +1,73 @@
-use Prim.Native.Nat.{◌≤◌}
-use mathlib.Core.List.{[], ◌∷◌, ◌++◌, map}
-use lib.IntN.{ℤ, pos}
-use Rattle.isa.specs.Instr.{I, ADDI}
-use Rattle.assembler.specs.Item.{label}
-use Rattle.frame_code.specs.Items.{code, reload, reloads, at_success, at_epilogue}
-use Rattle.accesses.proofs.Placed.{plan_code}
-use Rattle.frames.proofs.Parts.{refuses, opens, closes, piece, left_of, checked, checks}
-use Rattle.accesses.proofs.Collect.{collected}
-use Rattle.accesses.proofs.Numbers.{answered_at}
-use lib.ListN.{length-map, length}
-use Rattle.ast.specs.Mask.{saved}
-use Rattle.frame_code.proofs.Listed.{reload_list_valid}
-use Rattle.frames.proofs.Pushes.{saved_few}
-use Rattle.frames.proofs.Sizes.{reload_number}
+use borrow.Author.Rules.{rules}
 use native.Mathlib.Omega.{arith}
-use mathlib.Core.Path.{refl, sym, ◌∙◌, ◌≡◌}
-use Rattle.assembler.specs.State.{state, State}
+use mathlib.Core.Path.{◌∙◌}
+use mathlib.Core.List.{[], ◌∷◌, ◌++◌, map}
+use lib.IntN.{pos}
+use Rattle.assembler.specs.State.{before}
+use Rattle.assembler.specs.Item.{label}
+use Rattle.assembler.proofs.Steps.{put_refused}
+use Rattle.accesses.proofs.Collect.{answered, collected}
+use Rattle.accesses.proofs.Placed.{plan_code}
+use Rattle.frames.proofs.Parts.{opens, piece, not_refused, closes}
+use Rattle.isa.specs.Instr.{I, ADDI}
+use Rattle.ast.specs.Mask.{saved}
+use Rattle.frame_code.specs.Items.{code, reload, reloads, at_success, at_epilogue}
+use Rattle.frame_code.proofs.Listed.{reload_list_valid}
+use Rattle.frames.proofs.Pushes.{used_put}
+use Rattle.frames.proofs.Sizes.{reload_number}
 use Rattle.frames.proofs.load_used_registers.Goals as goal
 
-pub returns-then-ok : goal.returns-then-ok
+pub returns-in_err-check_whole : goal.returns-in_err-check_whole
 unfolding reloads
-returns-then-ok c =
-    let first : State = state c.args.asm c.args.labels.now c.args.jumps.now c.args.buf.now in
-    let whole : left_of c.precheck-d.ensures ≡ checked (reloads c.args.mask) first = checks (reloads c.args.mask) first _ _ c.precheck-d.ensures (reload_number c.args.mask _ first c.used_count-n.ensures.0) in
-    let mask = c.args.mask in
-    let is = map reload (saved mask) in
+returns-in_err-check_whole c =
+    let a = c.args in
+    let s = before a.asm.now in
+    let is = map reload (saved a.mask) in
     let zero = I ADDI 10 0 (pos 0) ∷ [] in
-    let o = opens 0 (reloads mask) first _ whole (sym c.accepted-ok.ensures ∙ c.if-ok.true) in
-    let r = collected (c.addi.result ∷ []) zero (answered_at _ (λ (k : ℤ). I ADDI 10 0 k) c.addi.ensures refl, tt) in
-    let e2 = c.place-b.ensures ∙ plan_code _ zero (c.one-p.ensures ∙ r) (omega arith) (omega arith) 0 _ in
-    let few : length is ≤ 12 = omega (arith, saved_few mask, length-map (saved mask) reload) in
-    let e4 = c.place.ensures ∙ plan_code _ is c.used_plan-q.ensures few (reload_list_valid mask) 0 _ in
-    let f1 = piece 0 (label at_success ∷ []) (code zero ++ (label at_epilogue ∷ code is)) _ _ _ o.left c.set_label-a.ensures in
-    let f2 = piece 0 (code zero) (label at_epilogue ∷ code is) _ _ _ f1 e2 in
-    let f3 = piece 0 (label at_epilogue ∷ []) (code is) _ _ _ f2 c.set_label-c.ensures in
-    closes 0 (reloads mask) (code is) first _ _ _ o f3 e4
+    put_refused 0 0 (reloads a.mask) s _ _ _ (reload_number a.mask _ s c.used_count-n.ensures.0) (search rules) c.in_err-check_whole.ensures.whole
+
+pub returns-in_err-set_label : goal.returns-in_err-set_label
+unfolding reloads
+returns-in_err-set_label c =
+    let a = c.args in
+    let s = before a.asm.now in
+    let is = map reload (saved a.mask) in
+    let zero = I ADDI 10 0 (pos 0) ∷ [] in
+    let l0 = opens 0 (reloads a.mask) s _ (reload_number a.mask _ s c.used_count-n.ensures.0) c.in_ok-check_whole.ensures.whole in
+    not_refused (label at_success ∷ []) (code zero ++ (label at_epilogue ∷ code is)) (l0) (c.in_err-set_label.ensures)
+
+pub returns-in_err-place : goal.returns-in_err-place
+unfolding reloads
+returns-in_err-place c =
+    let a = c.args in
+    let s = before a.asm.now in
+    let is = map reload (saved a.mask) in
+    let zero = I ADDI 10 0 (pos 0) ∷ [] in
+    let l0 = opens 0 (reloads a.mask) s _ (reload_number a.mask _ s c.used_count-n.ensures.0) c.in_ok-check_whole.ensures.whole in
+    let l1 = piece (label at_success ∷ []) (code zero ++ (label at_epilogue ∷ code is)) (l0) (c.in_ok-set_label.ensures) in
+    not_refused (code zero) (label at_epilogue ∷ code is) (l1) (c.in_err-place.ensures ∙ plan_code _ zero (c.plan.ensures ∙ collected (c.addi.result ∷ []) zero (answered _ _ c.addi.ensures, tt)) (omega arith) (omega arith) 0 _)
+
+pub returns-in_err-set_label-2 : goal.returns-in_err-set_label-2
+unfolding reloads
+returns-in_err-set_label-2 c =
+    let a = c.args in
+    let s = before a.asm.now in
+    let is = map reload (saved a.mask) in
+    let zero = I ADDI 10 0 (pos 0) ∷ [] in
+    let l0 = opens 0 (reloads a.mask) s _ (reload_number a.mask _ s c.used_count-n.ensures.0) c.in_ok-check_whole.ensures.whole in
+    let l1 = piece (label at_success ∷ []) (code zero ++ (label at_epilogue ∷ code is)) (l0) (c.in_ok-set_label.ensures) in
+    let l2 = piece (code zero) (label at_epilogue ∷ code is) (l1) (c.in_ok-place.ensures ∙ plan_code _ zero (c.plan.ensures ∙ collected (c.addi.result ∷ []) zero (answered _ _ c.addi.ensures, tt)) (omega arith) (omega arith) 0 _) in
+    not_refused (label at_epilogue ∷ []) (code is) (l2) (c.in_err-set_label-2.ensures)
 
 pub returns : goal.returns
+unfolding reloads
 returns c =
-    let first : State = state c.args.asm c.args.labels.now c.args.jumps.now c.args.buf.now in
-    let whole : left_of c.precheck-d.ensures ≡ checked (reloads c.args.mask) first = checks (reloads c.args.mask) first _ _ c.precheck-d.ensures (reload_number c.args.mask _ first c.used_count-n.ensures.0) in
-    refuses 0 (reloads c.args.mask) first _ whole (sym c.accepted-ok.ensures ∙ c.if-ok.false)
+    let a = c.args in
+    let s = before a.asm.now in
+    let is = map reload (saved a.mask) in
+    let zero = I ADDI 10 0 (pos 0) ∷ [] in
+    let l0 = opens 0 (reloads a.mask) s _ (reload_number a.mask _ s c.used_count-n.ensures.0) c.in_ok-check_whole.ensures.whole in
+    let l1 = piece (label at_success ∷ []) (code zero ++ (label at_epilogue ∷ code is)) (l0) (c.in_ok-set_label.ensures) in
+    let l2 = piece (code zero) (label at_epilogue ∷ code is) (l1) (c.in_ok-place.ensures ∙ plan_code _ zero (c.plan.ensures ∙ collected (c.addi.result ∷ []) zero (answered _ _ c.addi.ensures, tt)) (omega arith) (omega arith) 0 _) in
+    let l3 = piece (label at_epilogue ∷ []) (code is) (l2) (c.in_ok-set_label-2.ensures) in
+    closes l3 (c.place-2.ensures ∙ used_put reload a.mask _ _ c.used_plan.ensures (reload_list_valid a.mask))

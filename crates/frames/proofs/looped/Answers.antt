@@ -1,66 +1,107 @@
+use borrow.Author.Rules.{rules}
 use native.Mathlib.Omega.{arith}
-use mathlib.Core.Path.{refl, sym, ap, ◌∙◌, ◌≡◌}
+use mathlib.Core.Path.{ap, ◌∙◌}
 use mathlib.Core.List.{[], ◌∷◌, ◌++◌}
-use Prim.Native.Nat.{◌≤◌}
 use lib.IntN.{ℤ, pos}
-use lib.ListN.{length-append, length}
-use Rattle.isa.specs.Instr.{I, ADDI}
+use lib.ListN.{length-append}
+use Rattle.assembler.specs.State.{before}
 use Rattle.assembler.specs.Item.{jump, label}
-use Rattle.assembler.specs.State.{state, State}
-use Rattle.assembler.specs.declared.JumpKind.TheVariants.{Bne}
-use Rattle.frame_code.specs.Items.{code, count_down}
-use Rattle.frame_code.specs.Inner.Copies.{copy_first, copy_each, copy_label}
-use Rattle.frames.specs.Inner.Whole.{looped}
+use Rattle.assembler.proofs.Steps.{put_refused}
+use Rattle.accesses.proofs.Collect.{answered, pushed_last}
+use Rattle.accesses.proofs.Numbers.{back_small}
 use Rattle.accesses.proofs.Placed.{plan_code}
-use Rattle.frames.proofs.Parts.{label_set, plan_jump, refuses, opens, closes, front_piece, piece, left_of, checked, checks}
-use Rattle.frame_code.proofs.Valid.{first_valid, each_valid}
-use Rattle.accesses.specs.Plans.{plan_of}
-use Rattle.accesses.specs.Code.{li_code}
+use Rattle.frames.proofs.Parts.{opens, piece, not_refused, closes, fronted, label_set, plan_jump}
 use Rattle.assembler.specs.Plan.{pushed}
 use Rattle.assembler.specs.declared.Plan.{Plan}
-use Rattle.accesses.proofs.Then.{valids_join}
-use Rattle.accesses.proofs.LoadImmediate.{li_valid}
+use Rattle.assembler.specs.declared.JumpKind.TheVariants.{Bne}
+use Rattle.accesses.specs.Code.{li_code}
+use Rattle.accesses.specs.Plans.{plan_of}
 use Rattle.accesses.proofs.Lengths.{li_length}
-use Rattle.accesses.proofs.Collect.{pushed_last}
-use Rattle.accesses.proofs.Numbers.{answered_at, back_small}
-use Rattle.frames.proofs.Sizes.{six, looped_number}
+use Rattle.accesses.proofs.LoadImmediate.{li_valid}
+use Rattle.accesses.proofs.Then.{valids_join}
+use Rattle.frame_code.specs.Items.{code, count_down}
+use Rattle.frame_code.specs.Inner.Copies.{copy_first, copy_each, copy_label}
+use Rattle.frame_code.proofs.Valid.{first_valid, each_valid}
+use Rattle.frames.specs.Inner.Whole.{is_out, looped}
+use Rattle.frames.proofs.Sizes.{six, first_few, looped_number}
 use Rattle.frames.proofs.looped.Goals as goal
 
-pub returns-then-ok : goal.returns-then-ok
+pub returns-in_err-check_whole : goal.returns-in_err-check_whole
 unfolding looped
-returns-then-ok c =
-    let first : State = state c.args.asm c.args.labels.now c.args.jumps.now c.args.buf.now in
-    let whole : left_of c.precheck-d.ensures ≡ checked (looped c.args.out c.args.states c.args.n) first = let a = c.args in
-    checks (looped a.out a.states a.n) first _ _ c.precheck-d.ensures
-    (looped_number a.out a.states a.n _ _ _ first c.label_of-l.ensures.0 c.first_words.ensures.0 (c.li_words.ensures.0 7)) in
+returns-in_err-check_whole c =
     let a = c.args in
-    let s = first in
-    let part = copy_first a.out a.states in
-    let l = copy_label a.out in
+    let s = before a.asm.now in
+    let out = is_out a.way in
+    let part = copy_first out a.states in
     let li = li_code 7 (pos a.n) in
-    let each = copy_each a.out ++ (count_down ∷ []) in
+    let l = copy_label out in
+    let each = copy_each out ++ (count_down ∷ []) in
     let inner = code each ++ (jump Bne l 0 ∷ []) in
-    let h = c.label_of-l.ensures in
-    let o = opens a.tag (looped a.out a.states a.n) s _ whole (sym c.accepted-ok.ensures ∙ c.if-ok.true) in
-    let few : length part ≤ 12 = omega (arith, c.first_words.ensures.0, c.first_words.ensures.1) in
-    let e1 = c.place-a.ensures ∙ plan_code _ part c.first_plan-p.ensures few (first_valid a.out a.states) a.tag _ in
-    let i = c.li_plan-m.ensures ∙ ap (λ (k : ℤ). plan_of (li_code 7 k)) (back_small a.n (omega (arith, c.requires))) in
-    let e2 = c.place-b.ensures ∙ plan_code _ li i (omega (arith, li_length 7 (pos a.n))) (li_valid 7 (pos a.n) (omega arith)) a.tag _ in
-    let e3 = c.set_label-c.ensures ∙ label_set a.tag _ l h.0 h.1 _ in
-    let d = answered_at _ (λ (k : ℤ). I ADDI 7 7 k) c.addi.ensures refl in
-    let p = c.push-q.ensures ∙ ap (λ (k : Plan). pushed k c.addi.result) c.copy_plan.ensures ∙ pushed_last (copy_each a.out) count_down d in
-    let b : length each ≤ 12 = omega (arith, length-append (copy_each a.out) (count_down ∷ []), six a.out) in
-    let v = valids_join (copy_each a.out) (count_down ∷ []) (each_valid a.out) (omega arith) in
-    let e4 = c.place.ensures ∙ plan_jump a.tag _ l h.0 h.1 _ Bne _ each p b v in
-    let f1 = front_piece a.tag part li _ _ _ e1 (label l ∷ inner) o.left in
-    let f2 = piece a.tag (code li) (label l ∷ inner) _ _ _ f1 e2 in
-    let f3 = piece a.tag (label l ∷ []) inner _ _ _ f2 e3 in
-    closes a.tag (looped a.out a.states a.n) inner s _ _ _ o f3 e4
+    let rest = label l ∷ inner in
+    put_refused a.tag 0 (looped out a.states a.n) s _ _ _ (looped_number out a.states a.n _ _ _ s c.label_of-l.ensures.0 c.first_words.ensures.0 (c.li_words.ensures.0 7)) (search rules) c.in_err-check_whole.ensures.whole
+
+pub returns-in_err-place : goal.returns-in_err-place
+unfolding looped
+returns-in_err-place c =
+    let a = c.args in
+    let s = before a.asm.now in
+    let out = is_out a.way in
+    let part = copy_first out a.states in
+    let li = li_code 7 (pos a.n) in
+    let l = copy_label out in
+    let each = copy_each out ++ (count_down ∷ []) in
+    let inner = code each ++ (jump Bne l 0 ∷ []) in
+    let rest = label l ∷ inner in
+    let l0 = opens a.tag (looped out a.states a.n) s _ (looped_number out a.states a.n _ _ _ s c.label_of-l.ensures.0 c.first_words.ensures.0 (c.li_words.ensures.0 7)) c.in_ok-check_whole.ensures.whole in
+    not_refused (code part) (code li ++ rest) (fronted part li rest l0) (c.in_err-place.ensures ∙ plan_code _ part c.first_plan.ensures (first_few out a.states) (first_valid out a.states) a.tag _)
+
+pub returns-in_err-place-2 : goal.returns-in_err-place-2
+unfolding looped
+returns-in_err-place-2 c =
+    let a = c.args in
+    let s = before a.asm.now in
+    let out = is_out a.way in
+    let part = copy_first out a.states in
+    let li = li_code 7 (pos a.n) in
+    let l = copy_label out in
+    let each = copy_each out ++ (count_down ∷ []) in
+    let inner = code each ++ (jump Bne l 0 ∷ []) in
+    let rest = label l ∷ inner in
+    let l0 = opens a.tag (looped out a.states a.n) s _ (looped_number out a.states a.n _ _ _ s c.label_of-l.ensures.0 c.first_words.ensures.0 (c.li_words.ensures.0 7)) c.in_ok-check_whole.ensures.whole in
+    let l1 = piece (code part) (code li ++ rest) (fronted part li rest l0) (c.in_ok-place.ensures ∙ plan_code _ part c.first_plan.ensures (first_few out a.states) (first_valid out a.states) a.tag _) in
+    not_refused (code li) (rest) (l1) (c.in_err-place-2.ensures ∙ plan_code _ li (c.li_plan.ensures ∙ ap (λ (k : ℤ). plan_of (li_code 7 k)) (back_small a.n (omega (arith, c.requires)))) (omega (arith, li_length 7 (pos a.n))) (li_valid 7 (pos a.n) (omega arith)) a.tag _)
+
+pub returns-in_err-set_label : goal.returns-in_err-set_label
+unfolding looped
+returns-in_err-set_label c =
+    let a = c.args in
+    let s = before a.asm.now in
+    let out = is_out a.way in
+    let part = copy_first out a.states in
+    let li = li_code 7 (pos a.n) in
+    let l = copy_label out in
+    let each = copy_each out ++ (count_down ∷ []) in
+    let inner = code each ++ (jump Bne l 0 ∷ []) in
+    let rest = label l ∷ inner in
+    let l0 = opens a.tag (looped out a.states a.n) s _ (looped_number out a.states a.n _ _ _ s c.label_of-l.ensures.0 c.first_words.ensures.0 (c.li_words.ensures.0 7)) c.in_ok-check_whole.ensures.whole in
+    let l1 = piece (code part) (code li ++ rest) (fronted part li rest l0) (c.in_ok-place.ensures ∙ plan_code _ part c.first_plan.ensures (first_few out a.states) (first_valid out a.states) a.tag _) in
+    let l2 = piece (code li) (rest) (l1) (c.in_ok-place-2.ensures ∙ plan_code _ li (c.li_plan.ensures ∙ ap (λ (k : ℤ). plan_of (li_code 7 k)) (back_small a.n (omega (arith, c.requires)))) (omega (arith, li_length 7 (pos a.n))) (li_valid 7 (pos a.n) (omega arith)) a.tag _) in
+    not_refused (label l ∷ []) (inner) (l2) (c.in_err-set_label.ensures ∙ label_set a.tag _ l c.label_of-l.ensures.0 c.label_of-l.ensures.1 _)
 
 pub returns : goal.returns
+unfolding looped
 returns c =
-    let first : State = state c.args.asm c.args.labels.now c.args.jumps.now c.args.buf.now in
-    let whole : left_of c.precheck-d.ensures ≡ checked (looped c.args.out c.args.states c.args.n) first = let a = c.args in
-    checks (looped a.out a.states a.n) first _ _ c.precheck-d.ensures
-    (looped_number a.out a.states a.n _ _ _ first c.label_of-l.ensures.0 c.first_words.ensures.0 (c.li_words.ensures.0 7)) in
-    refuses c.args.tag (looped c.args.out c.args.states c.args.n) first _ whole (sym c.accepted-ok.ensures ∙ c.if-ok.false)
+    let a = c.args in
+    let s = before a.asm.now in
+    let out = is_out a.way in
+    let part = copy_first out a.states in
+    let li = li_code 7 (pos a.n) in
+    let l = copy_label out in
+    let each = copy_each out ++ (count_down ∷ []) in
+    let inner = code each ++ (jump Bne l 0 ∷ []) in
+    let rest = label l ∷ inner in
+    let l0 = opens a.tag (looped out a.states a.n) s _ (looped_number out a.states a.n _ _ _ s c.label_of-l.ensures.0 c.first_words.ensures.0 (c.li_words.ensures.0 7)) c.in_ok-check_whole.ensures.whole in
+    let l1 = piece (code part) (code li ++ rest) (fronted part li rest l0) (c.in_ok-place.ensures ∙ plan_code _ part c.first_plan.ensures (first_few out a.states) (first_valid out a.states) a.tag _) in
+    let l2 = piece (code li) (rest) (l1) (c.in_ok-place-2.ensures ∙ plan_code _ li (c.li_plan.ensures ∙ ap (λ (k : ℤ). plan_of (li_code 7 k)) (back_small a.n (omega (arith, c.requires)))) (omega (arith, li_length 7 (pos a.n))) (li_valid 7 (pos a.n) (omega arith)) a.tag _) in
+    let l3 = piece (label l ∷ []) (inner) (l2) (c.in_ok-set_label.ensures ∙ label_set a.tag _ l c.label_of-l.ensures.0 c.label_of-l.ensures.1 _) in
+    closes l3 (c.place-3.ensures ∙ plan_jump a.tag _ l c.label_of-l.ensures.0 c.label_of-l.ensures.1 _ Bne _ each (c.push-p.ensures ∙ ap (λ (k : Plan). pushed k c.addi.result) c.copy_plan.ensures ∙ pushed_last (copy_each out) count_down (answered _ _ c.addi.ensures)) (omega (arith, length-append (copy_each out) (count_down ∷ []), six out)) (valids_join (copy_each out) (count_down ∷ []) (each_valid out) (omega arith)))

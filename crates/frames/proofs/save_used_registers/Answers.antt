@@ -1,7 +1,9 @@
 use mathlib.Core.Path.{◌∙◌}
-use Rattle.frames.proofs.Pushes.{saves_put}
+use Rattle.frame_code.specs.Items.{save, saves}
+use Rattle.frame_code.proofs.Listed.{save_list_valid}
+use Rattle.frames.proofs.Pushes.{used_put}
 use Rattle.frames.proofs.save_used_registers.Goals as goal
 
 pub returns : goal.returns
-returns c =
-    c.place.ensures ∙ saves_put c.args.mask c.used_plan.result _ c.used_plan.ensures
+unfolding saves
+returns c = c.place.ensures ∙ used_put save c.args.mask _ _ c.used_plan.ensures (save_list_valid c.args.mask)

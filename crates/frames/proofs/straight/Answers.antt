@@ -1,34 +1,57 @@
-use lib.ListN.{length}
-use Prim.Native.Nat.{◌≤◌}
-use Rattle.isa.specs.Instr.{Instr}
+use borrow.Author.Rules.{rules}
 use native.Mathlib.Omega.{arith}
-use mathlib.Core.Path.{sym, ◌∙◌, ◌≡◌}
-use mathlib.Core.List.{◌++◌, List}
-use Rattle.assembler.specs.State.{state, State}
+use mathlib.Core.Path.{◌≡◌, ◌∙◌}
+use mathlib.Core.List.{◌++◌}
+use Prim.Native.Nat.{◌-◌}
+use Rattle.assembler.specs.State.{before}
+use Rattle.assembler.proofs.Steps.{put_refused}
 use Rattle.frame_code.specs.Items.{code, times_over}
 use Rattle.frame_code.specs.Inner.Copies.{copy_first, copy_each}
+use Rattle.frame_code.proofs.Valid.{first_valid, each_valid}
 use Rattle.accesses.proofs.Placed.{plan_code}
-use Rattle.frames.proofs.Parts.{refuses, opens, closes, code_piece, left_of, checked, checks}
-use Rattle.frame_code.proofs.Valid.{first_valid}
-use Rattle.frames.proofs.Sizes.{straight_number}
+use Rattle.frames.specs.Inner.Whole.{is_out}
+use Rattle.frames.proofs.Parts.{opens, piece, not_refused, closed, coded, one_of_row}
+use Rattle.frames.proofs.Sizes.{first_few, each_few, straight_number}
 use Rattle.frames.proofs.straight.Goals as goal
 
-pub returns-then-ok : goal.returns-then-ok
-returns-then-ok c =
-    let first : State = state c.args.asm c.args.labels.now c.args.jumps.now c.args.buf.now in
-    let all : List Instr = copy_first c.args.out c.args.states ++ times_over c.args.n (copy_each c.args.out) in
-    let whole : left_of c.precheck-d.ensures ≡ checked (code all) first = checks (code all) first _ _ c.precheck-d.ensures (straight_number c.args.out c.args.states c.args.n _ first c.first_words.ensures.0) in
+pub returns-in_err-check_whole : goal.returns-in_err-check_whole
+returns-in_err-check_whole c =
     let a = c.args in
-    let part = copy_first a.out a.states in
-    let rest = times_over a.n (copy_each a.out) in
-    let o = opens 0 (code all) first _ whole (sym c.accepted-ok.ensures ∙ c.if-ok.true) in
-    let few : length part ≤ 12 = omega (arith, c.first_words.ensures.0, c.first_words.ensures.1) in
-    let e = c.place-a.ensures ∙ plan_code _ part c.first_plan-p.ensures few (first_valid a.out a.states) 0 _ in
-    closes 0 (code all) (code rest) first _ _ _ o (code_piece 0 part rest _ _ _ e o.left) c.copy_row.ensures
+    let o = is_out a.way in
+    put_refused 0 0 (code (copy_first o a.states ++ times_over a.n (copy_each o))) (before a.asm.now) _ _ _ (straight_number o a.states a.n _ (before a.asm.now) c.first_words.ensures.0) (search rules) c.in_err-check_whole.ensures.whole
+
+pub returns-in_err-place : goal.returns-in_err-place
+returns-in_err-place c =
+    let a = c.args in
+    let o = is_out a.way in
+    let part = copy_first o a.states in
+    let row = times_over a.n (copy_each o) in
+    let l0 = opens 0 (code (part ++ row)) (before a.asm.now) _ (straight_number o a.states a.n _ (before a.asm.now) c.first_words.ensures.0) c.in_ok-check_whole.ensures.whole in
+    not_refused (code part) (code row) (coded part row l0) (c.in_err-place.ensures ∙ plan_code _ part c.first_plan.ensures (first_few o a.states) (first_valid o a.states) 0 _)
+
+pub loop-init : goal.loop-init
+loop-init c =
+    let a = c.args in
+    let o = is_out a.way in
+    let part = copy_first o a.states in
+    let row = times_over a.n (copy_each o) in
+    let l0 = opens 0 (code (part ++ row)) (before a.asm.now) _ (straight_number o a.states a.n _ (before a.asm.now) c.first_words.ensures.0) c.in_ok-check_whole.ensures.whole in
+    let z : a.n - 0 ≡ a.n = omega arith in
+    rw z (piece (code part) (code row) (coded part row l0) (c.in_ok-place.ensures ∙ plan_code _ part c.first_plan.ensures (first_few o a.states) (first_valid o a.states) 0 _))
+
+pub returns-in_err-place-2 : goal.returns-in_err-place-2
+returns-in_err-place-2 c =
+    let o = is_out c.args.way in
+    let each = copy_each o in
+    not_refused (code each) _ (one_of_row each c.args.n c.loop.counter c.loop-test.true c.loop.invariant) (c.in_err-place-2.ensures ∙ plan_code _ each c.copy_plan-p.ensures (each_few o) (each_valid o) 0 _)
+
+pub loop-preserved : goal.loop-preserved
+loop-preserved c =
+    let o = is_out c.args.way in
+    let each = copy_each o in
+    piece (code each) _ (one_of_row each c.args.n c.loop.counter c.loop-test.true c.loop.invariant) (c.in_ok-place-2.ensures ∙ plan_code _ each c.copy_plan-p.ensures (each_few o) (each_valid o) 0 _)
 
 pub returns : goal.returns
 returns c =
-    let first : State = state c.args.asm c.args.labels.now c.args.jumps.now c.args.buf.now in
-    let all : List Instr = copy_first c.args.out c.args.states ++ times_over c.args.n (copy_each c.args.out) in
-    let whole : left_of c.precheck-d.ensures ≡ checked (code all) first = checks (code all) first _ _ c.precheck-d.ensures (straight_number c.args.out c.args.states c.args.n _ first c.first_words.ensures.0) in
-    refuses 0 (code all) first _ whole (sym c.accepted-ok.ensures ∙ c.if-ok.false)
+    let z : c.args.n - c.loop.counter ≡ 0 = omega arith in
+    closed (rw z at c.loop.invariant)
