@@ -2,30 +2,26 @@
 // It takes an accepted order where the longest order would have room; all other lines go the general way.
 #![tactic(auto)]
 
-ghost use Rattle.std.specs.Prelude.{◌≡◌, true, ◌+◌, ◌*◌, ◌/◌, ◌%◌, ◌≤◌, ◌<◌, leb, length};
-ghost use Rattle.std.proofs.Math.Option.{map};
+ghost use Rattle.std.specs.Prelude.{◌≡◌, true, ℕ, ◌+◌, ◌*◌, ◌/◌, ◌%◌, ◌≤◌, ◌<◌, length};
+ghost use Rattle.std.proofs.Math.Option.{map, some};
 ghost use Rattle.text.specs.Readers.{fields_from};
 ghost use Rattle.base.specs.Tests.{all};
 ghost use Rattle.ast.specs.Mask.{free};
 ghost use Rattle.ast.specs.Uses.{unary_writes, index_holds, saves_hold};
-ghost use Rattle.assembler.specs.Bytes.{room};
 ghost use Rattle.assembler.specs.State.{before};
 ghost use Rattle.orders.specs.Emitted.{emitted};
 ghost use Rattle.orders.specs.Inner.Parts.{instrs};
 ghost use Rattle.orders.specs.Wrote.{Wrote, roomy};
-ghost use Rattle.fast.specs.Inner.Fast.{order_said, taken, fast_line, Leaves};
-ghost use Rattle.fast.specs.Inner.Plain.{ready, Kept, LeavesBuf};
+ghost use Rattle.fast.specs.Inner.Fast.{order_said, taken, placed_in, fast_line, Leaves};
+ghost use Rattle.fast.specs.Inner.Plain.{ready, Kept};
 ghost use Rattle.form.specs.Inner.Names.{unary_at};
 ghost use Rattle.fast.specs.Inner.Packed.{place_at, place_number, flag_number, number, numbered, pack, unpacked};
 ghost use Rattle.fast.specs.Inner.Fields.{onto, operands, numbers_packed, numeric, registers_of, bound_of, behind, fields_packed};
 ghost use Rattle.fast.specs.Inner.Fields.{cell as cell_packed, branch as branch_packed};
 
-use assembler::{Answer, Asm, Jumps, Labels};
+use assembler::{Asm, Assembler};
 use ast::{Head, Order, Place};
 use form::{Flag, Where};
-
-// Not this path's: nothing is said of the line, and nothing changes.
-pub const NOT_MINE: u64 = 0x8000000000000000;
 
 // ---- an order as one number: a shape, an operation within it, operands
 
@@ -306,19 +302,6 @@ fn keeps(mask: u32, q: u64) -> bool
     true
 }
 
-// Whether the longest order has room behind len in a buffer of n bytes.
-fn is_roomy(n: usize, len: usize) -> bool
-    ensures { result ≡ leb (len + 44) (room n) }
-{
-    if 65492 < len {
-        return false;
-    }
-    if n < 44 {
-        return false;
-    }
-    len <= n - 44
-}
-
 // ---- orders of instructions alone
 
 // 9: the cell that it names is below its count.
@@ -351,7 +334,7 @@ fn is_ready(asm: Asm) -> bool
 }
 
 // The words of an order of registers alone.
-fn write_registers(q: u64, buf: &mut [u8], len: usize) -> usize
+fn write_registers(q: u64, buf: &mut [u8], len: usize) -> Option<usize>
     requires { q % 16 < 4 }
     ensures { Wrote (instrs (unpacked q)) len buf result }
 {
@@ -376,7 +359,7 @@ fn write_registers(q: u64, buf: &mut [u8], len: usize) -> usize
 }
 
 // The words of any order of instructions alone.
-fn write(q: u64, buf: &mut [u8], len: usize) -> usize
+fn write(q: u64, buf: &mut [u8], len: usize) -> Option<usize>
     requires { q % 16 < 7 }
     ensures { Wrote (instrs (unpacked q)) len buf result }
 {
@@ -399,19 +382,19 @@ fn write(q: u64, buf: &mut [u8], len: usize) -> usize
 }
 
 // An order of instructions alone that has room and saves what it must.
-fn plain(head: Head, q: u64, buf: &mut [u8], asm: Asm) -> u64
-    requires { (q % 16 < 7) × Kept head q × (roomy asm.len buf.old ≡ true) }
-    ensures { LeavesBuf head (unpacked q) result asm buf }
+fn plain(head: Head, q: u64, asm: &mut Assembler<'_>) -> bool
+    requires { (q % 16 < 7) × Kept head q × (roomy asm.old.asm.len asm.old.buf.now ≡ true) }
+    ensures { (tag : ℕ) → Leaves (placed_in head tag (some (unpacked q)) (before asm.old)) result (before asm.old) (before asm.new) }
 {
     if within(head, q) {
-        if is_ready(asm) {
-            let end = write(q, buf, asm.len);
-            if end <= 65536 {
-                return end as u64;
+        if is_ready(asm.asm) {
+            if let Some(end) = write(q, asm.buf, asm.asm.len) {
+                asm.asm.len = end;
+                return true;
             }
         }
     }
-    NOT_MINE
+    false
 }
 
 // ---- orders that have jumps, and labels
@@ -432,52 +415,30 @@ fn unpack(q: u64) -> Order
 }
 
 // Such an order: 9 and 11 are not its refusals here.
-fn jumping(
-    tag: u32,
-    q: u64,
-    buf: &mut [u8],
-    labels: &mut Labels,
-    jumps: &mut Jumps,
-    asm: Asm,
-) -> u64
+fn jumping(tag: u32, q: u64, asm: &mut Assembler<'_>) -> bool
     requires { 7 ≤ q % 16 }
-    ensures { Leaves (taken (emitted tag (unpacked q) (before asm labels jumps buf))) result asm labels jumps buf }
+    ensures { Leaves (taken (emitted tag (unpacked q) (before asm.old))) result (before asm.old) (before asm.new) }
 {
-    let d = orders::emit(unpack(q), tag, buf, labels, jumps, asm);
-    let w = d.answer;
-    let a = d.asm;
-    match w {
-        Answer::Accepted => a.len as u64 + (a.jumps as u64 + 1) * 131072,
-        Answer::Refused(_, _) => NOT_MINE,
-    }
+    orders::emit(asm, unpack(q), tag).is_ok()
 }
 
 // ---- the whole
 
-// A line of a deck with this head, tagged with its number.
-// The answer is the new length, and with it, for an order with jumps and for a label, the count of jumps.
-pub fn line(
-    head: Head,
-    tag: u32,
-    line: &[u8],
-    buf: &mut [u8],
-    labels: &mut Labels,
-    jumps: &mut Jumps,
-    asm: Asm,
-) -> u64
-    ensures { Leaves (fast_line head tag line.now (before asm labels jumps buf)) result asm labels jumps buf }
+// A line of a deck with this head, tagged with its number: taken, or not this path's, and nothing changes.
+pub fn line(head: Head, tag: u32, line: &[u8], asm: &mut Assembler<'_>) -> bool
+    ensures { Leaves (fast_line head tag line.now (before asm.old)) result (before asm.old) (before asm.new) }
 {
     let q = order_in(line);
     if q >= NONE {
-        return NOT_MINE;
+        return false;
     }
     if keeps(head.mask, q) {
-        if is_roomy(buf.len(), asm.len) {
+        if orders::is_roomy(asm.buf.len(), asm.asm.len) {
             if q % 16 < LOAD_CONST {
-                return plain(head, q, buf, asm);
+                return plain(head, q, asm);
             }
-            return jumping(tag, q, buf, labels, jumps, asm);
+            return jumping(tag, q, asm);
         }
     }
-    NOT_MINE
+    false
 }

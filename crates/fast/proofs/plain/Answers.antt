@@ -1,31 +1,24 @@
 use mathlib.Core.Path.{refl, sym, ◌∙◌}
-use native.Mathlib.Omega.{arith}
+use Rattle.base.proofs.Bools.{true_not_false}
+use Rattle.assembler.specs.State.{before}
 use Rattle.fast.specs.Inner.Packed.{unpacked}
-use Rattle.fast.proofs.Written.{plain_fits, cell_refused, record_refused, small, done}
+use Rattle.fast.proofs.Written.{plain_fits, cell_refused, record_refused, done}
 use Rattle.fast.proofs.plain.Goals as goal
 
-pub returns-then-end-le65536 : goal.returns-then-end-le65536
-returns-then-end-le65536 c =
+pub returns-in-Some : goal.returns-in-Some
+returns-in-Some c tag =
     let a = c.args in
-    let r = sym c.is_ready.ensures ∙ c.if-is_ready.true in (
-      done a.head (unpacked a.q) a.asm a.buf.now (plain_fits a.q c.requires.0) c.requires.1 c.requires.2 (sym c.within.ensures ∙ c.if-within.true) r _ c.write-end.result c.write-end.ensures.0 c.write-end.ensures.1,
-      λ h. absurd (omega (arith, h, c.if-end-le65536.true)),
-    )
-
-pub returns-else-end-le65536 : goal.returns-else-end-le65536
-returns-else-end-le65536 c =
-    let a = c.args in
-    let s = small a.head (unpacked a.q) a.asm a.buf.now (plain_fits a.q c.requires.0) c.requires.1 c.requires.2 (sym c.within.ensures ∙ c.if-within.true) (sym c.is_ready.ensures ∙ c.if-is_ready.true) _ c.write-end.result c.write-end.ensures.0 c.write-end.ensures.1 in
-    absurd (omega (arith, s, c.if-end-le65536.false))
+    let r = c.requires in
+    (done a.head (unpacked a.q) (before a.asm.now) (plain_fits a.q r.0) r.1 r.2 (sym c.within.ensures ∙ c.if-within.true) _ _ c.write.ensures _ (sym c.is_ready.ensures ∙ c.if-is_ready.true) c.in-Some.is tag, λ h. absurd (true_not_false (sym h)))
 
 pub returns-else-is_ready : goal.returns-else-is_ready
-returns-else-is_ready c =
-    let a = c.args in (
-      record_refused a.head (unpacked a.q) a.asm a.buf.now (plain_fits a.q c.requires.0) c.requires.1 c.requires.2 (sym c.within.ensures ∙ c.if-within.true) (sym c.is_ready.ensures ∙ c.if-is_ready.false),
-      λ h. refl,
-    )
+returns-else-is_ready c tag =
+    let a = c.args in
+    let r = c.requires in
+    (record_refused a.head (unpacked a.q) (before a.asm.now) (plain_fits a.q r.0) r.1 r.2 (sym c.within.ensures ∙ c.if-within.true) (sym c.is_ready.ensures ∙ c.if-is_ready.false) tag, λ h. refl)
 
 pub returns-else-within : goal.returns-else-within
-returns-else-within c =
+returns-else-within c tag =
     let a = c.args in
-    (cell_refused a.head (unpacked a.q) a.asm a.buf.now (plain_fits a.q c.requires.0) c.requires.1 c.requires.2 (sym c.within.ensures ∙ c.if-within.false), λ h. refl)
+    let r = c.requires in
+    (cell_refused a.head (unpacked a.q) (before a.asm.now) (plain_fits a.q r.0) r.1 r.2 (sym c.within.ensures ∙ c.if-within.false) tag, λ h. refl)
