@@ -152,12 +152,6 @@ module _ (H : Head) (o : Order) (s : State) (p : Straight o) (f : saves_hold H.m
 
     -- written: there was room
     module _ (d : List ℕ) (w : Opt.Option ℕ) (k : (d ≡ cond (roomy s.asm.len s.buf) (written s.buf s.asm.len (map word (instrs o))) s.buf) × (w ≡ cond (roomy s.asm.len s.buf) (Opt.Some (s.asm.len + 4 * length (instrs o))) Opt.None)) where
-      pub found : w ≡ Opt.None → ⊥
-      found n = some_none (sym (rw r at k.1) ∙ n)
-        where
-          some_none : {x : ℕ} → ◌≡◌ {A = Opt.Option ℕ} (Opt.Some x) Opt.None → ⊥
-          some_none q = let z : ◌≡◌ {A = ℕ} 0 1 = cc in omega arith
-
       pub done : (end : ℕ) → ready s.asm ≡ true → w ≡ Opt.Some end → (tag : ℕ)
           → some (state (record { len = end; jumps = s.asm.jumps; closed = s.asm.closed }) s.labels s.jumps d) ≡ placed_in H tag (some o) s
       done end h q tag =

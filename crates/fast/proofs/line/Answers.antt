@@ -1,4 +1,4 @@
-use mathlib.Core.Path.{refl, sym, ap, ◌∙◌}
+use mathlib.Core.Path.{refl, sym, ◌∙◌}
 use Rattle.assembler.specs.State.{before}
 use Rattle.fast.specs.Inner.Fast.{fast_line}
 use Rattle.fast.specs.Inner.Packed.{unpacked}
