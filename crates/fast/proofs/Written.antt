@@ -20,7 +20,8 @@ use Rattle.assembler.specs.Bytes.{written, room}
 use Rattle.assembler.specs.declared.Asm.{Asm}
 use Rattle.assembler.specs.State.{State, state, sound}
 use Rattle.assembler.specs.Put.{targets, numbers_sound, placed, ranked, put_number, settled, put}
-use Rattle.assembler.proofs.Items.{with_words}
+use Rattle.std.specs.Prelude as Opt
+use Rattle.assembler.specs.Inner.State.{with_words}
 use Rattle.assembler.proofs.Checks.{v_closed, v_record}
 use Rattle.assembler.proofs.Plans.{put_same}
 use Rattle.assembler.proofs.Steps.{put_raw, settled_no}
@@ -29,11 +30,10 @@ use Rattle.orders.specs.Code.{code}
 use Rattle.orders.specs.Emitted.{items, emitted, count_fault, unsaved_fault}
 use Rattle.orders.specs.Fault.{fault}
 use Rattle.orders.specs.Inner.Parts.{instrs}
-use Rattle.orders.specs.Wrote.{word, roomy, no_room}
+use Rattle.orders.specs.Wrote.{word, roomy}
 use Rattle.orders.proofs.Whole.{order_valid, order_short, items_all, unsaved_some, counted_some}
 use Rattle.orders.proofs.Wrote.{words_valid}
-use Rattle.std.specs.Prelude.{Some, None}
-use Rattle.fast.specs.Inner.Fast.{taken, placed_in, left}
+use Rattle.fast.specs.Inner.Fast.{taken, placed_in}
 use Rattle.fast.specs.Inner.Packed.{unpacked}
 use Rattle.fast.specs.Inner.Plain.{ready}
 use Rattle.fast.proofs.Apart.{plain_order}
@@ -110,7 +110,7 @@ module _ (H : Head) (tag : ℕ) (o : Order) (s : State) where
       go false e =
           let g : eqb (s.asm.len % 4) 0 && leb s.asm.jumps 4096 ≡ false = rw e at h in
           let f : sound (length s.buf) s.asm ≡ false = off (leb s.asm.len (room (length s.buf))) (eqb (s.asm.len % 4) 0 && leb s.asm.jumps 4096) g in
-          settled_none (put_number 0 (code o) s) s (placed tag (code o) s) 1 (v_record 0 _ _ _ _ e (λ k. omega arith) (λ k. omega arith) (off (numbers_sound s.labels (targets (code o))) _ f))
+          settled_none (put_number 0 (code o) s) s (placed tag (code o) s) 1 (v_record 0 _ _ _ _ e refl (off (numbers_sound s.labels (targets (code o))) _ f))
 
 -- ---- written
 
@@ -142,25 +142,21 @@ module _ (tag : ℕ) (o : Order) (s : State) (p : Straight o) (h : ready s.asm �
 
 -- ---- the ways through `plain`
 
-module _ (H : Head) (o : Order) (a : Asm) (b : List ℕ) (p : Straight o) (f : saves_hold H.mask o ≡ true) (r : roomy a.len b ≡ true) where
-  abbrev Nothing : Type 0
-  Nothing = (tag : ℕ) (ls js : List ℕ) → left None ls js b ≡ placed_in H tag (some o) (state a ls js b)
-
-  pub cell_refused : index_holds H o ≡ false → Nothing
-  cell_refused e tag ls js = sym (no_cell H tag o (state a ls js b) e)
+module _ (H : Head) (o : Order) (s : State) (p : Straight o) (f : saves_hold H.mask o ≡ true) (r : roomy s.asm.len s.buf ≡ true) where
+  pub cell_refused : index_holds H o ≡ false → (tag : ℕ) → none ≡ placed_in H tag (some o) s
+  cell_refused e tag = sym (no_cell H tag o s e)
 
   module _ (e : index_holds H o ≡ true) where
-    pub record_refused : ready a ≡ false → Nothing
-    record_refused h tag ls js = let s = state a ls js b in sym (judged H tag o s e f r ∙ unready H tag o s h p.1)
+    pub record_refused : ready s.asm ≡ false → (tag : ℕ) → none ≡ placed_in H tag (some o) s
+    record_refused h tag = sym (judged H tag o s e f r ∙ unready H tag o s h p.1)
 
-    module _ (h : ready a ≡ true) (d : List ℕ) (end : ℕ) (ed : d ≡ cond (roomy a.len b) (written b a.len (map word (instrs o))) b) (ee : end ≡ cond (roomy a.len b) (a.len + 4 * length (instrs o)) no_room) where
-      end_is : end ≡ a.len + 4 * length (instrs o)
-      end_is = rw r at ee
-
-      pub done : (tag : ℕ) (ls js : List ℕ) → left (Some (record { len = end; jumps = a.jumps; closed = a.closed })) ls js d ≡ placed_in H tag (some o) (state a ls js b)
-      done tag ls js =
-          let s = state a ls js b in
+    -- written: there was room
+    module _ (d : List ℕ) (w : Opt.Option ℕ) (k : (d ≡ cond (roomy s.asm.len s.buf) (written s.buf s.asm.len (map word (instrs o))) s.buf) × (w ≡ cond (roomy s.asm.len s.buf) (Opt.Some (s.asm.len + 4 * length (instrs o))) Opt.None)) where
+      pub done : (end : ℕ) → ready s.asm ≡ true → w ≡ Opt.Some end → (tag : ℕ)
+          → some (state (record { len = end; jumps = s.asm.jumps; closed = s.asm.closed }) s.labels s.jumps d) ≡ placed_in H tag (some o) s
+      done end h q tag =
+          let m : end ≡ s.asm.len + 4 * length (instrs o) = let z : ◌≡◌ {A = Opt.Option ℕ} (Opt.Some end) (Opt.Some (s.asm.len + 4 * length (instrs o))) = sym q ∙ (rw r at k.1) in cc in
           let n : length (map word (instrs o)) ≡ length (instrs o) = length-map (instrs o) word in
-          let g : d ≡ written b a.len (map word (instrs o)) = rw r at ed in
-          let t : taken (emitted tag o s) ≡ some (state (record { len = end; jumps = a.jumps; closed = a.closed }) ls js d) = rw (written_order tag o s p h r, g, end_is, n) in
+          let g : d ≡ written s.buf s.asm.len (map word (instrs o)) = rw r at k.0 in
+          let t : taken (emitted tag o s) ≡ some (state (record { len = end; jumps = s.asm.jumps; closed = s.asm.closed }) s.labels s.jumps d) = rw (written_order tag o s p h r, g, m, n) in
           sym (judged H tag o s e f r ∙ t)

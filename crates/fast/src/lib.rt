@@ -2,25 +2,24 @@
 // It takes an accepted order where the longest order would have room; all other lines go the general way.
 #![tactic(auto)]
 
-ghost use Rattle.std.specs.Prelude.{◌≡◌, true, ◌+◌, ◌*◌, ◌/◌, ◌%◌, ◌≤◌, ◌<◌, leb, length};
-ghost use Rattle.std.proofs.Math.Option.{map};
+ghost use Rattle.std.specs.Prelude.{◌≡◌, true, ℕ, ◌+◌, ◌*◌, ◌/◌, ◌%◌, ◌≤◌, ◌<◌, leb, length};
+ghost use Rattle.std.proofs.Math.Option.{map, some};
 ghost use Rattle.text.specs.Readers.{as_option, fields_from};
 ghost use Rattle.base.specs.Tests.{all};
 ghost use Rattle.ast.specs.Mask.{free};
 ghost use Rattle.ast.specs.Uses.{unary_writes, index_holds, saves_hold};
-ghost use Rattle.assembler.specs.Bytes.{room};
 ghost use Rattle.assembler.specs.State.{before};
 ghost use Rattle.orders.specs.Emitted.{emitted};
 ghost use Rattle.orders.specs.Inner.Parts.{instrs};
 ghost use Rattle.orders.specs.Wrote.{Wrote, roomy};
-ghost use Rattle.fast.specs.Inner.Fast.{order_said, taken, fast_line, Leaves};
-ghost use Rattle.fast.specs.Inner.Plain.{ready, Kept, LeavesBuf};
+ghost use Rattle.fast.specs.Inner.Fast.{order_said, taken, placed_in, fast_line, Leaves};
+ghost use Rattle.fast.specs.Inner.Plain.{ready, Kept};
 ghost use Rattle.form.specs.Inner.Names.{unary_at};
 ghost use Rattle.fast.specs.Inner.Packed.{place_at, place_number, flag_number, pack, unpacked};
 ghost use Rattle.fast.specs.Inner.Fields.{register_read, operands, numbers_packed, numeric, registers_of, bound_of, behind, fields_packed};
 ghost use Rattle.fast.specs.Inner.Fields.{cell as cell_packed, branch as branch_packed};
 
-use assembler::{Answer, Asm, Jumps, Labels};
+use assembler::{Asm, Assembler};
 use ast::{Head, Order, Place};
 
 // ---- an order as one number: a shape, an operation within it, operands
@@ -259,19 +258,6 @@ fn keeps(mask: u32, q: u64) -> bool
     true
 }
 
-// Whether the longest order has room behind len in a buffer of n bytes.
-fn is_roomy(n: usize, len: usize) -> bool
-    ensures { result ≡ leb (len + 44) (room n) }
-{
-    if 65492 < len {
-        return false;
-    }
-    if n < 44 {
-        return false;
-    }
-    len <= n - 44
-}
-
 // ---- orders of instructions alone
 
 // 9: the cell that it names is below its count.
@@ -304,7 +290,7 @@ fn is_ready(asm: Asm) -> bool
 }
 
 // The words of an order of registers alone.
-fn write_registers(q: u64, buf: &mut [u8], len: usize) -> usize
+fn write_registers(q: u64, buf: &mut [u8], len: usize) -> Option<usize>
     requires { q % 16 < 4 }
     ensures { Wrote (instrs (unpacked q)) len buf result }
 {
@@ -329,7 +315,7 @@ fn write_registers(q: u64, buf: &mut [u8], len: usize) -> usize
 }
 
 // The words of any order of instructions alone.
-fn write(q: u64, buf: &mut [u8], len: usize) -> usize
+fn write(q: u64, buf: &mut [u8], len: usize) -> Option<usize>
     requires { q % 16 < 7 }
     ensures { Wrote (instrs (unpacked q)) len buf result }
 {
@@ -352,16 +338,19 @@ fn write(q: u64, buf: &mut [u8], len: usize) -> usize
 }
 
 // An order of instructions alone that has room and saves what it must.
-fn plain(head: Head, q: u64, buf: &mut [u8], asm: Asm) -> Option<Asm>
-    requires { (q % 16 < 7) × Kept head q × (roomy asm.len buf.old ≡ true) }
-    ensures { LeavesBuf head (unpacked q) result asm buf }
+fn plain(head: Head, q: u64, asm: &mut Assembler<'_>) -> bool
+    requires { (q % 16 < 7) × Kept head q × (roomy asm.old.asm.len asm.old.buf.now ≡ true) }
+    ensures { (tag : ℕ) → Leaves (placed_in head tag (some (unpacked q)) (before asm.old)) result (before asm.old) (before asm.new) }
 {
-    if !within(head, q) || !is_ready(asm) {
-        return None;
+    if within(head, q) {
+        if is_ready(asm.asm) {
+            if let Some(end) = write(q, asm.buf, asm.asm.len) {
+                asm.asm.len = end;
+                return true;
+            }
+        }
     }
-    let mut next = asm;
-    next.len = write(q, buf, asm.len);
-    Some(next)
+    false
 }
 
 // ---- orders that have jumps, and labels
@@ -382,50 +371,31 @@ fn unpack(q: u64) -> Order
 }
 
 // Such an order: 9 and 11 are not its refusals here.
-fn jumping(
-    tag: u32,
-    q: u64,
-    buf: &mut [u8],
-    labels: &mut Labels,
-    jumps: &mut Jumps,
-    asm: Asm,
-) -> Option<Asm>
+fn jumping(tag: u32, q: u64, asm: &mut Assembler<'_>) -> bool
     requires { 7 ≤ q % 16 }
-    ensures { Leaves (taken (emitted tag (unpacked q) (before asm labels jumps buf))) result asm labels jumps buf }
+    ensures { Leaves (taken (emitted tag (unpacked q) (before asm.old))) result (before asm.old) (before asm.new) }
 {
-    let d = orders::emit(unpack(q), tag, buf, labels, jumps, asm);
-    let w = d.answer;
-    let a = d.asm;
-    match w {
-        Answer::Accepted => Some(a),
-        Answer::Refused(_, _) => None,
-    }
+    orders::emit(asm, unpack(q), tag).is_ok()
 }
 
 // ---- the whole
 
-// A line of a deck with this head, tagged with its number: the record behind it, where this path takes it. Else nothing changes.
-pub fn line(
-    head: Head,
-    tag: u32,
-    line: &[u8],
-    buf: &mut [u8],
-    labels: &mut Labels,
-    jumps: &mut Jumps,
-    asm: Asm,
-) -> Option<Asm>
-    ensures { Leaves (fast_line head tag line.now (before asm labels jumps buf)) result asm labels jumps buf }
+// A line of a deck with this head, tagged with its number: taken, or not this path's, and nothing changes.
+pub fn line(head: Head, tag: u32, line: &[u8], asm: &mut Assembler<'_>) -> bool
+    ensures { Leaves (fast_line head tag line.now (before asm.old)) result (before asm.old) (before asm.new) }
 {
-    let q = order_in(line)?;
+    let Some(q) = order_in(line) else {
+        return false;
+    };
     if !keeps(head.mask, q) {
-        return None;
+        return false;
     }
-    if !is_roomy(buf.len(), asm.len) {
-        return None;
+    if !orders::is_roomy(asm.buf.len(), asm.asm.len) {
+        return false;
     }
     if q % 16 < LOAD_CONST {
-        plain(head, q, buf, asm)
+        plain(head, q, asm)
     } else {
-        jumping(tag, q, buf, labels, jumps, asm)
+        jumping(tag, q, asm)
     }
 }

@@ -195,13 +195,20 @@ tail_length (Tails.Pair k l r) here = omega arith
 
 -- ---- a fault, or none
 
-pub fault_some : (f : Opt.Option Refusal) → is_some f ≡ true → fault_number f ≡ 0 → ⊥
-fault_some None h e = true_not_false h
-fault_some (Some r) h e = omega (arith, number_some r, e)
+module _ (f : Opt.Option Refusal) (n : ℕ) (b : Bool) (e : fault_number f ≡ n) (s : b ≡ is_some f) where
+  pub fault_some : b ≡ true → n ≡ 0 → ⊥
+  fault_some t z = by f (sym s ∙ t) (e ∙ z)
+    where
+      by : (f : Opt.Option Refusal) → is_some f ≡ true → fault_number f ≡ 0 → ⊥
+      by None h q = true_not_false h
+      by (Some r) h q = omega (arith, number_some r, q)
 
-pub fault_none : (f : Opt.Option Refusal) → is_some f ≡ false → fault_number f ≡ 0
-fault_none None h = refl
-fault_none (Some r) h = absurd (true_not_false (sym h))
+  pub fault_none : b ≡ false → n ≡ 0
+  fault_none t = sym e ∙ by f (sym s ∙ t)
+    where
+      by : (f : Opt.Option Refusal) → is_some f ≡ false → fault_number f ≡ 0
+      by None h = refl
+      by (Some r) h = absurd (true_not_false (sym h))
 
 -- ---- asked for
 

@@ -100,21 +100,11 @@ pub wrote_then : (b : List ℕ) (len : ℕ) (is js : List Instr) {c d : List ℕ
 wrote_then b len is js {d = d} {r = r} p q =
     subst (λ (l : List ℕ). Puts l b len d r) (sym (map-append word is js)) (put_then b len (map word is) (map word js) p q)
 
--- the same instructions have room
-pub fits_as : (len : ℕ) (b : List ℕ) {is js : List Instr} → is ≡ js → Fits is len b → Fits js len b
-fits_as len b e h = subst (λ (l : List Instr). Fits l len b) e h
-
--- ---- where the longest order has room, and where it has none
+-- ---- where the longest order has room
 
 module _ (b : List ℕ) (len : ℕ) (is : List Instr) {t : Bool} (h : t ≡ roomy len b) where
   pub roomy_fits : t ≡ true → length is ≤ 11 → Fits is len b
   roomy_fits e s = let l = leb-true (len + 44) (room (length b)) (sym h ∙ e) in omega (arith, l, s)
-
-  pub wrote_roomy : {d : List ℕ} {r : ℕ} → t ≡ true → Puts (map word is) b len d r → (d ≡ cond (roomy len b) (written b len (map word is)) b) × (Some r ≡ cond (roomy len b) (Some (len + 4 * length is)) None)
-  wrote_roomy e w = rw (sym h ∙ e) (w.0, ap Some (w.1 ∙ ap (λ (n : ℕ). len + 4 * n) (length-map is word)))
-
-  pub wrote_none : t ≡ false → (b ≡ cond (roomy len b) (written b len (map word is)) b) × (None ≡ cond (roomy len b) (Some (len + 4 * length is)) None)
-  wrote_none e = rw (sym h ∙ e) (refl, refl)
 
 -- an index whose offset is not cut
 pub offset_small : (i : ℕ) → i < 2 ^ 29 → offset i ≡ 8 * i

@@ -55,6 +55,7 @@ fn put(buf: &mut [u8], len: usize, es: &[Encoded]) -> usize
 
 // ---- the instructions of an order, where they have room
 
+#[tactic(auto, unfolding(crate::specs::Code::unary_code))]
 fn put_unary(k: Unary, d: u32, s: u32, buf: &mut [u8], len: usize) -> usize
     requires { Fits (unary_code k d s) len buf.old }
     ensures { PutCode (unary_code k d s) len buf result }
@@ -98,6 +99,7 @@ fn put_unary(k: Unary, d: u32, s: u32, buf: &mut [u8], len: usize) -> usize
     }
 }
 
+#[tactic(auto, unfolding(crate::specs::Code::scratched_code))]
 fn put_scratched(k: Scratched, d: u32, s: u32, t: u32, buf: &mut [u8], len: usize) -> usize
     requires { Fits (scratched_code k d s t) len buf.old }
     ensures { PutCode (scratched_code k d s t) len buf result }
@@ -143,6 +145,7 @@ fn put_bits(op: Encoded, d: u32, a: u32, b: u32, buf: &mut [u8], len: usize) -> 
     )
 }
 
+#[tactic(auto, unfolding(crate::specs::Code::binary_code))]
 fn put_xor(d: u32, a: u32, b: u32, buf: &mut [u8], len: usize) -> usize
     requires { Fits (binary_code Binary.Xor d a b) len buf.old }
     ensures { PutCode (binary_code Binary.Xor d a b) len buf result }
@@ -154,6 +157,7 @@ fn put_xor(d: u32, a: u32, b: u32, buf: &mut [u8], len: usize) -> usize
     }
 }
 
+#[tactic(auto, unfolding(crate::specs::Code::binary_code))]
 fn put_binary(k: Binary, d: u32, a: u32, b: u32, buf: &mut [u8], len: usize) -> usize
     requires { Fits (binary_code k d a b) len buf.old }
     ensures { PutCode (binary_code k d a b) len buf result }

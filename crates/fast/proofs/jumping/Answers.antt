@@ -1,12 +1,13 @@
 use mathlib.Core.Path.{ap, ◌∙◌}
 use Rattle.ast.specs.declared.Order.{Order}
-use Rattle.assembler.specs.State.{State, state}
+use Rattle.assembler.specs.State.{before}
 use Rattle.orders.specs.Emitted.{emitted}
-use Rattle.fast.proofs.Emitting.{refused_all}
+use Rattle.fast.specs.Inner.Packed.{unpacked}
+use Rattle.fast.proofs.Emitting.{jumped}
 use Rattle.fast.proofs.jumping.Goals as goal
 
-pub returns-in-Refused : goal.returns-in-Refused
-returns-in-Refused c =
-    let s : State = state c.args.asm c.args.labels.now c.args.jumps.now c.args.buf.now in
-    let f = refused_all c.args.tag _ s c.emit-d.result _ _ _ (c.emit-d.ensures ∙ ap (λ (o : Order). emitted c.args.tag o s) c.unpack.ensures) _ _ c.in-Refused.is in
-    (f.0, λ h. f.1)
+pub returns : goal.returns
+returns c =
+    let a = c.args in
+    let s = before a.asm.now in
+    jumped a.tag (unpacked a.q) s _ c.emit.result _ c.is_ok.ensures.value (c.emit.ensures ∙ ap (λ (o : Order). emitted a.tag o s) c.unpack.ensures)

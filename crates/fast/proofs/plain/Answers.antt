@@ -1,21 +1,24 @@
 use mathlib.Core.Path.{refl, sym, ◌∙◌}
-use Rattle.std.proofs.lemmas.Option.{none-some}
+use Rattle.base.proofs.Bools.{true_not_false}
+use Rattle.assembler.specs.State.{before}
 use Rattle.fast.specs.Inner.Packed.{unpacked}
 use Rattle.fast.proofs.Written.{plain_fits, cell_refused, record_refused, done}
 use Rattle.fast.proofs.plain.Goals as goal
-use Rattle.fast.proofs.plain.Goals.{then-not-within-via-then-not-within, then-not-within-via-else-not-within+then-not-is_ready}
 
-pub returns-then-not-within : goal.returns-then-not-within
-returns-then-not-within c =
-    let a = c.args in (
-      elim c.then-not-within.branch [
-        | then-not-within-via-then-not-within w ↦ cell_refused a.head (unpacked a.q) a.asm a.buf.now (plain_fits a.q c.requires.0) c.requires.1 c.requires.2 (sym c.within.ensures ∙ w.if-not-within.true)
-        | then-not-within-via-else-not-within+then-not-is_ready w ↦ record_refused a.head (unpacked a.q) a.asm a.buf.now (plain_fits a.q c.requires.0) c.requires.1 c.requires.2 (sym c.within.ensures ∙ w.if-not-within.false) (sym w.is_ready.ensures ∙ w.if-not-is_ready.true)
-      ],
-      λ h. refl,
-    )
-
-pub returns : goal.returns
-returns c =
+pub returns-in-Some : goal.returns-in-Some
+returns-in-Some c tag =
     let a = c.args in
-    (done a.head (unpacked a.q) a.asm a.buf.now (plain_fits a.q c.requires.0) c.requires.1 c.requires.2 (sym c.within.ensures ∙ c.if-not-within.false) (sym c.is_ready.ensures ∙ c.if-not-is_ready.false) _ c.write.result c.write.ensures.0 c.write.ensures.1, λ h. absurd (none-some _ (sym h)))
+    let r = c.requires in
+    (done a.head (unpacked a.q) (before a.asm.now) (plain_fits a.q r.0) r.1 r.2 (sym c.within.ensures ∙ c.if-within.true) _ _ c.write.ensures _ (sym c.is_ready.ensures ∙ c.if-is_ready.true) c.in-Some.is tag, λ h. absurd (true_not_false (sym h)))
+
+pub returns-else-is_ready : goal.returns-else-is_ready
+returns-else-is_ready c tag =
+    let a = c.args in
+    let r = c.requires in
+    (record_refused a.head (unpacked a.q) (before a.asm.now) (plain_fits a.q r.0) r.1 r.2 (sym c.within.ensures ∙ c.if-within.true) (sym c.is_ready.ensures ∙ c.if-is_ready.false) tag, λ h. refl)
+
+pub returns-else-within : goal.returns-else-within
+returns-else-within c tag =
+    let a = c.args in
+    let r = c.requires in
+    (cell_refused a.head (unpacked a.q) (before a.asm.now) (plain_fits a.q r.0) r.1 r.2 (sym c.within.ensures ∙ c.if-within.false) tag, λ h. refl)

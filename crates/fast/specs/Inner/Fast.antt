@@ -1,13 +1,11 @@
 -- The fast path through one line behind line 1: which lines it takes, and the state that it leaves. The state is that of the general path
 -- (document 01, "The deck file" and "Numbers of refusal"): a line that is refused is not taken.
-use Rattle.std.specs.Prelude as rust
-use Rattle.std.specs.Prelude.{◌≡◌, false, cond, List, ℕ, Some, None}
+use Rattle.std.specs.Prelude.{◌≡◌, Bool, false, cond, List, ℕ}
 use Rattle.std.proofs.Math.Option.{Option, some, none}
 use Rattle.refusal.specs.Answer.{Answer, accepted, refused}
 use Rattle.ast.specs.declared.Head.{Head}
 use Rattle.ast.specs.declared.Order.{Order}
-use Rattle.assembler.specs.declared.Asm.{Asm}
-use Rattle.assembler.specs.State.{State, Outcome, state, Lent, before}
+use Rattle.assembler.specs.State.{State, Outcome}
 use Rattle.orders.specs.Emitted.{emitted_in}
 use Rattle.orders.specs.Wrote.{roomy}
 use Rattle.form.specs.Grammar.{said}
@@ -46,13 +44,10 @@ fast_line H tag line s = placed_in H tag (order_said line) s
 
 -- ---- the answer
 
--- the record behind the line, and the memory, are a state
-abbrev pub left : rust.Option Asm → (labels jumps buf : List ℕ) → Option State
-left None ls js b = none
-left (Some a) ls js b = some (state a ls js b)
+-- the state left, where the line is taken
+abbrev pub left : (r : Bool) → State → Option State
+left r t = cond r (some t) none
 
--- the answer and the memory are those of the state; where there is none nothing changes
-abbrev pub Leaves : Option State → (r : rust.Option Asm) → Asm → (labels jumps buf : Lent) → Type 0
-Leaves o r a labels jumps buf =
-    (left r labels.exit.now jumps.exit.now buf.exit.now ≡ o)
-    × (r ≡ None → state a labels.exit.now jumps.exit.now buf.exit.now ≡ before a labels jumps buf)
+-- the answer and the state left are those of the state; where there is none nothing changes
+abbrev pub Leaves : Option State → (r : Bool) → (old new : State) → Type 0
+Leaves o r s t = (left r t ≡ o) × (r ≡ false → t ≡ s)

@@ -7,25 +7,25 @@ use Rattle.orders.proofs.emit.Goals as goal
 pub returns-then-is_some : goal.returns-then-is_some
 returns-then-is_some c =
     let a = c.args in
-    let bad : fault a.o ≡ 0 → ⊥ = λ q. fault_some _ (sym c.is_some.ensures ∙ c.if-is_some.true) (c.fault-f.ensures ∙ q) in
+    let bad = fault_some _ _ _ c.fault-f.ensures c.is_some.ensures c.if-is_some.true in
     order_refused a.o a.tag (before a.asm.now) _ _ _ _ _ c.fault-f.ensures bad (items_none a.o bad) c.check_tail.ensures.whole
 
 pub place-requires-in_default : goal.place-requires-in_default
 place-requires-in_default c =
     let o = c.args.o in
-    let good : fault o ≡ 0 = sym c.fault-f.ensures ∙ fault_none _ (sym c.is_some.ensures ∙ c.if-is_some.false) in
+    let good = fault_none _ _ _ c.fault-f.ensures c.is_some.ensures c.if-is_some.false in
     rw c.tail-in_default.ensures (good, tail_right o c.in_default.not-SetLabel, tail_fits o good)
 
 pub returns-in-SetLabel : goal.returns-in-SetLabel
 returns-in-SetLabel c =
     let a = c.args in
-    let good : fault a.o ≡ 0 = sym c.fault-f.ensures ∙ fault_none _ (sym c.is_some.ensures ∙ c.if-is_some.false) in
+    let good = fault_none _ _ _ c.fault-f.ensures c.is_some.ensures c.if-is_some.false in
     rw c.in-SetLabel.is (c.set_label.ensures ∙ order_label c.in-SetLabel.l a.tag (before a.asm.now) (rw c.in-SetLabel.is at good))
 
 pub returns-in-LoadConst : goal.returns-in-LoadConst
 returns-in-LoadConst c =
     let a = c.args in
     let k = c.in-LoadConst in
-    let good : fault a.o ≡ 0 = sym c.fault-f.ensures ∙ fault_none _ (sym c.is_some.ensures ∙ c.if-is_some.false) in
+    let good = fault_none _ _ _ c.fault-f.ensures c.is_some.ensures c.if-is_some.false in
     let d = order_alone k.field-0 k.field-1 a.tag (before a.asm.now) (rw k.is at good) in
     rw k.is ((rw (c.new.ensures, c.tail.ensures, k.is) at c.place.ensures) ∙ d)

@@ -4,9 +4,9 @@ use Rattle.orders.proofs.goes.Goals as goal
 
 pub returns-then-is_some : goal.returns-then-is_some
 returns-then-is_some c =
-    items_none c.args.o (λ q. fault_some _ (sym c.is_some.ensures ∙ c.if-is_some.true) (c.fault.ensures ∙ q))
+    items_none c.args.o (fault_some _ _ _ c.fault.ensures c.is_some.ensures c.if-is_some.true)
 
 pub returns-else-is_some : goal.returns-else-is_some
 returns-else-is_some c =
-    let good = sym c.fault.ensures ∙ fault_none _ (sym c.is_some.ensures ∙ c.if-is_some.false) in
+    let good = fault_none _ _ _ c.fault.ensures c.is_some.ensures c.if-is_some.false in
     rw c.tail.ensures (goes_behind c.args.o good)

@@ -3,18 +3,10 @@ use Rattle.orders.specs.Code.{scratched_code}
 use Rattle.orders.proofs.Wrote.{told, put_code}
 use Rattle.orders.proofs.write.put_scratched.Goals as goal
 
-pub put-requires : goal.put-requires
-unfolding scratched_code
-put-requires c = rw c.in-Sign.is at c.requires
-
 pub returns-in-Sign : goal.returns-in-Sign
 unfolding scratched_code
 returns-in-Sign c =
     rw c.in-Sign.is (put_code (told _ _ c.fmv_d_x.ensures ∷ told _ _ c.flt_d.ensures ∷ told _ _ c.flt_d-in-Sign.ensures ∷ told _ _ c.sub.ensures ∷ told _ _ c.fcvt_d_w.ensures ∷ []) _ _ _ _ c.put.ensures)
-
-pub put-requires-in-Frac : goal.put-requires-in-Frac
-unfolding scratched_code
-put-requires-in-Frac c = rw c.in-Frac.is at c.requires
 
 pub returns-in-Frac : goal.returns-in-Frac
 unfolding scratched_code

@@ -4,17 +4,9 @@ use Rattle.orders.specs.Code.{binary_code}
 use Rattle.orders.proofs.Wrote.{told, put_code}
 use Rattle.orders.proofs.write.put_xor.Goals as goal
 
-pub put-requires : goal.put-requires
-unfolding binary_code
-put-requires c = rw (eq-eqb _ _ c.if-a-b.true) at c.requires
-
 pub returns-then-a-b : goal.returns-then-a-b
 unfolding binary_code
 returns-then-a-b c = rw (eq-eqb _ _ c.if-a-b.true) (put_code (told _ _ c.fmv_d_x.ensures ∷ []) _ _ _ _ c.put.ensures)
-
-pub put_bits-requires : goal.put_bits-requires
-unfolding binary_code
-put_bits-requires c = rw (ne_eqb _ _ c.if-a-b.false) at c.requires
 
 pub returns-else-a-b : goal.returns-else-a-b
 unfolding binary_code
