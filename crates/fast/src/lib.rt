@@ -8,7 +8,7 @@ ghost use Rattle.text.specs.Readers.{as_option, fields_from};
 ghost use Rattle.base.specs.Tests.{all};
 ghost use Rattle.ast.specs.Mask.{free};
 ghost use Rattle.ast.specs.Uses.{unary_writes, index_holds, saves_hold};
-ghost use Rattle.assembler.specs.State.{before};
+ghost use Rattle.assembler.specs.State.{SameLent, before};
 ghost use Rattle.orders.specs.Emitted.{emitted};
 ghost use Rattle.orders.specs.Inner.Parts.{instrs};
 ghost use Rattle.orders.specs.Wrote.{Wrote, roomy};
@@ -340,7 +340,8 @@ fn write(q: u64, buf: &mut [u8], len: usize) -> Option<usize>
 // An order of instructions alone that has room and saves what it must.
 fn plain(head: Head, q: u64, asm: &mut Assembler<'_>) -> bool
     requires { (q % 16 < 7) × Kept head q × (roomy asm.old.asm.len asm.old.buf.now ≡ true) }
-    ensures { (tag : ℕ) → Leaves (placed_in head tag (some (unpacked q)) (before asm.old)) result (before asm.old) (before asm.new) }
+    ensures whole { (tag : ℕ) → Leaves (placed_in head tag (some (unpacked q)) (before asm.old)) result (before asm.old) (before asm.new) }
+    ensures lent { SameLent asm.old asm.new }
 {
     if within(head, q) {
         if is_ready(asm.asm) {
@@ -373,7 +374,8 @@ fn unpack(q: u64) -> Order
 // Such an order: 9 and 11 are not its refusals here.
 fn jumping(tag: u32, q: u64, asm: &mut Assembler<'_>) -> bool
     requires { 7 ≤ q % 16 }
-    ensures { Leaves (taken (emitted tag (unpacked q) (before asm.old))) result (before asm.old) (before asm.new) }
+    ensures whole { Leaves (taken (emitted tag (unpacked q) (before asm.old))) result (before asm.old) (before asm.new) }
+    ensures lent { SameLent asm.old asm.new }
 {
     orders::emit(asm, unpack(q), tag).is_ok()
 }
@@ -382,7 +384,8 @@ fn jumping(tag: u32, q: u64, asm: &mut Assembler<'_>) -> bool
 
 // A line of a deck with this head, tagged with its number: taken, or not this path's, and nothing changes.
 pub fn line(head: Head, tag: u32, line: &[u8], asm: &mut Assembler<'_>) -> bool
-    ensures { Leaves (fast_line head tag line.now (before asm.old)) result (before asm.old) (before asm.new) }
+    ensures whole { Leaves (fast_line head tag line.now (before asm.old)) result (before asm.old) (before asm.new) }
+    ensures lent { SameLent asm.old asm.new }
 {
     let Some(q) = order_in(line) else {
         return false;

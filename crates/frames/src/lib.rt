@@ -7,7 +7,7 @@ ghost use Rattle.isa.specs.Register.{sp, s1, s5, fa0};
 ghost use Rattle.isa.specs.Instr.{I, FLD};
 ghost use Rattle.ast.specs.Align.{align16};
 ghost use Rattle.assembler.specs.Limit.{label_limit};
-ghost use Rattle.assembler.specs.State.{before, after};
+ghost use Rattle.assembler.specs.State.{SameLent, before, after};
 ghost use Rattle.assembler.specs.Put.{words, targets, put};
 ghost use Rattle.assembler.specs.Plan.{sets_fault};
 ghost use Rattle.accesses.specs.Code.{li_code, sub_stack_code, allocate_stack_code};
@@ -101,13 +101,15 @@ fn used_plan(k: Cell, mask: u32) -> Plan
 }
 
 pub fn save_used_registers(asm: &mut Assembler<'_>, mask: u32) -> Result<(), Refused>
-    ensures { after result asm.new ≡ put 0 0 (saves mask) (before asm.old) }
+    ensures whole { after result asm.new ≡ put 0 0 (saves mask) (before asm.old) }
+    ensures lent { SameLent asm.old asm.new }
 {
     asm.place(used_plan(Cell::SaveFloat, mask), Tail::Nothing, 0)
 }
 
 pub fn load_used_registers(asm: &mut Assembler<'_>, mask: u32) -> Result<(), Refused>
-    ensures { after result asm.new ≡ put 0 0 (reloads mask) (before asm.old) }
+    ensures whole { after result asm.new ≡ put 0 0 (reloads mask) (before asm.old) }
+    ensures lent { SameLent asm.old asm.new }
 {
     let n = used_count(mask);
     asm.check_whole(None, &[AT_SUCCESS, AT_EPILOGUE], &[], 1 + n)?;
@@ -276,7 +278,8 @@ fn size_of(n: u32) -> u32
 // In a row.
 fn straight(asm: &mut Assembler<'_>, way: Way, states: u32, n: u32) -> Result<(), Refused>
     requires { (states ≤ count_limit) × (n ≤ 16) }
-    ensures { after result asm.new ≡ put 0 0 (code (copy_first (is_out way) states ++ times_over n (copy_each (is_out way)))) (before asm.old) }
+    ensures whole { after result asm.new ≡ put 0 0 (code (copy_first (is_out way) states ++ times_over n (copy_each (is_out way)))) (before asm.old) }
+    ensures lent { SameLent asm.old asm.new }
 {
     let w = first_words(way, states) + 6 * n as usize;
     asm.check_whole(None, &[], &[], w)?;
@@ -300,7 +303,8 @@ fn label_of(way: Way) -> u32
 // By a loop that counts t2 down.
 fn looped(asm: &mut Assembler<'_>, way: Way, states: u32, n: u32, tag: u32) -> Result<(), Refused>
     requires { (states ≤ count_limit) × (n ≤ count_limit) }
-    ensures { after result asm.new ≡ put tag 0 (looped_of (is_out way) states n) (before asm.old) }
+    ensures whole { after result asm.new ≡ put tag 0 (looped_of (is_out way) states n) (before asm.old) }
+    ensures lent { SameLent asm.old asm.new }
 {
     let l = label_of(way);
     let w = first_words(way, states) + li_words(n) + 8;
@@ -315,7 +319,8 @@ fn looped(asm: &mut Assembler<'_>, way: Way, states: u32, n: u32, tag: u32) -> R
 // More than 16 by the loop.
 fn copies(asm: &mut Assembler<'_>, way: Way, states: u32, n: u32, tag: u32) -> Result<(), Refused>
     requires { (states ≤ count_limit) × (n ≤ count_limit) }
-    ensures { after result asm.new ≡ put tag 0 (Copies_of (is_out way) states n) (before asm.old) }
+    ensures whole { after result asm.new ≡ put tag 0 (Copies_of (is_out way) states n) (before asm.old) }
+    ensures lent { SameLent asm.old asm.new }
 {
     match n {
         0 => asm.place(Plan::new(), Tail::Nothing, 0),
@@ -328,7 +333,8 @@ fn copies(asm: &mut Assembler<'_>, way: Way, states: u32, n: u32, tag: u32) -> R
 
 fn fast_start(asm: &mut Assembler<'_>, head: Head) -> Result<(), Refused>
     requires { (head.cap ≤ count_limit) × (cells head ≤ count_limit) × (head.states ≤ 8) }
-    ensures { after result asm.new ≡ put 0 0 (prologue_fast head) (before asm.old) }
+    ensures whole { after result asm.new ≡ put 0 0 (prologue_fast head) (before asm.old) }
+    ensures lent { SameLent asm.old asm.new }
 {
     let mem = size_of(head.states + head.obs);
     let stack = size_of(head.cap);
@@ -343,7 +349,8 @@ fn fast_start(asm: &mut Assembler<'_>, head: Head) -> Result<(), Refused>
 
 fn fast_end(asm: &mut Assembler<'_>, head: Head) -> Result<(), Refused>
     requires { head.last ≤ result_limit }
-    ensures { after result asm.new ≡ put 0 0 (epilogue_fast head) (before asm.old) }
+    ensures whole { after result asm.new ≡ put 0 0 (epilogue_fast head) (before asm.old) }
+    ensures lent { SameLent asm.old asm.new }
 {
     let p = accesses::plan([encoder::fld(FA0, MEM, (8 * head.last) as i32)]);
     asm.place(closing_plan(p, Frame::Fast), Tail::Nothing, 0)
@@ -353,7 +360,8 @@ fn fast_end(asm: &mut Assembler<'_>, head: Head) -> Result<(), Refused>
 
 // Registers to their places, the arguments to theirs, and past the copies where there is no table.
 fn enter(asm: &mut Assembler<'_>, tag: u32) -> Result<(), Refused>
-    ensures { after result asm.new ≡ put tag 0 entry (before asm.old) }
+    ensures whole { after result asm.new ≡ put tag 0 entry (before asm.old) }
+    ensures lent { SameLent asm.old asm.new }
 {
     asm.check_whole(None, &[AT_SELF], &[AT_MAIN], 14)?;
     asm.set_label(AT_SELF)?;
@@ -412,7 +420,8 @@ fn end_goes(obs: u32) -> &'static [u32]
 
 fn indirect_start(asm: &mut Assembler<'_>, head: Head, tag: u32) -> Result<(), Refused>
     requires { (head.cap ≤ count_limit) × (cells head ≤ count_limit) }
-    ensures { after result asm.new ≡ put tag 0 (prologue_indirect head) (before asm.old) }
+    ensures whole { after result asm.new ≡ put tag 0 (prologue_indirect head) (before asm.old) }
+    ensures lent { SameLent asm.old asm.new }
 {
     let mem = size_of(head.states + head.obs);
     let stack = size_of(head.cap);
@@ -433,7 +442,8 @@ fn indirect_start(asm: &mut Assembler<'_>, head: Head, tag: u32) -> Result<(), R
 
 fn indirect_end(asm: &mut Assembler<'_>, head: Head, tag: u32) -> Result<(), Refused>
     requires { cells head ≤ count_limit }
-    ensures { after result asm.new ≡ put tag 0 (epilogue_indirect head) (before asm.old) }
+    ensures whole { after result asm.new ≡ put tag 0 (epilogue_indirect head) (before asm.old) }
+    ensures lent { SameLent asm.old asm.new }
 {
     let w = 12 + copy_words(Way::Out, head.states, head.obs);
     let sets = end_sets(head.obs);
@@ -467,7 +477,8 @@ fn epilogue_goes(head: Head) -> &'static [u32]
 }
 
 pub fn prologue(asm: &mut Assembler<'_>, head: Head, tag: u32) -> Result<(), Refused>
-    ensures { after result asm.new ≡ put tag (prologue_fault head) (prologue_items head) (before asm.old) }
+    ensures whole { after result asm.new ≡ put tag (prologue_fault head) (prologue_items head) (before asm.old) }
+    ensures lent { SameLent asm.old asm.new }
 {
     if !ast::prologue_holds(head) {
         return asm.check_whole(Some(Refusal::Count), &[], prologue_goes(head), 0);
@@ -479,7 +490,8 @@ pub fn prologue(asm: &mut Assembler<'_>, head: Head, tag: u32) -> Result<(), Ref
 }
 
 pub fn epilogue(asm: &mut Assembler<'_>, head: Head, tag: u32) -> Result<(), Refused>
-    ensures { after result asm.new ≡ put tag (epilogue_fault head) (epilogue_items head) (before asm.old) }
+    ensures whole { after result asm.new ≡ put tag (epilogue_fault head) (epilogue_items head) (before asm.old) }
+    ensures lent { SameLent asm.old asm.new }
 {
     if !ast::epilogue_holds(head) {
         return asm.check_whole(Some(Refusal::Count), &[], epilogue_goes(head), 0);
@@ -513,7 +525,8 @@ pub fn prologue_fast(
     obs: u32,
     last: u32,
 ) -> Result<(), Refused>
-    ensures { after result asm.new ≡ prologue_put 0 (head_of Frame.Fast cap states obs last) (before asm.old) }
+    ensures whole { after result asm.new ≡ prologue_put 0 (head_of Frame.Fast cap states obs last) (before asm.old) }
+    ensures lent { SameLent asm.old asm.new }
 {
     prologue(asm, head_of(Frame::Fast, cap, states, obs, last), 0)
 }
@@ -525,7 +538,8 @@ pub fn epilogue_fast(
     obs: u32,
     last: u32,
 ) -> Result<(), Refused>
-    ensures { after result asm.new ≡ epilogue_put 0 (head_of Frame.Fast cap states obs last) (before asm.old) }
+    ensures whole { after result asm.new ≡ epilogue_put 0 (head_of Frame.Fast cap states obs last) (before asm.old) }
+    ensures lent { SameLent asm.old asm.new }
 {
     epilogue(asm, head_of(Frame::Fast, cap, states, obs, last), 0)
 }
@@ -538,7 +552,8 @@ pub fn prologue_indirect(
     last: u32,
     tag: u32,
 ) -> Result<(), Refused>
-    ensures { after result asm.new ≡ prologue_put tag (head_of Frame.Indirect cap states obs last) (before asm.old) }
+    ensures whole { after result asm.new ≡ prologue_put tag (head_of Frame.Indirect cap states obs last) (before asm.old) }
+    ensures lent { SameLent asm.old asm.new }
 {
     prologue(asm, head_of(Frame::Indirect, cap, states, obs, last), tag)
 }
@@ -551,7 +566,8 @@ pub fn epilogue_indirect(
     last: u32,
     tag: u32,
 ) -> Result<(), Refused>
-    ensures { after result asm.new ≡ epilogue_put tag (head_of Frame.Indirect cap states obs last) (before asm.old) }
+    ensures whole { after result asm.new ≡ epilogue_put tag (head_of Frame.Indirect cap states obs last) (before asm.old) }
+    ensures lent { SameLent asm.old asm.new }
 {
     epilogue(asm, head_of(Frame::Indirect, cap, states, obs, last), tag)
 }

@@ -3,7 +3,7 @@
 
 ghost use Rattle.std.specs.Prelude.{◌≡◌, cond, [], ◌++◌, map, ◌≤◌, leb, length};
 ghost use Rattle.assembler.specs.Item.{instr};
-ghost use Rattle.assembler.specs.State.{before, after};
+ghost use Rattle.assembler.specs.State.{SameLent, before, after};
 ghost use Rattle.assembler.specs.Put.{targets};
 ghost use Rattle.assembler.specs.Plan.{fault_number, tail_items, tail_fault};
 ghost use Rattle.refusal.specs.Number.{number_of};
@@ -79,7 +79,8 @@ fn tail(o: Order) -> Tail
 // Instructions and the jumps behind them: asked for as a whole, then written.
 fn place(asm: &mut Assembler<'_>, o: Order, t: Tail, tag: u32) -> Result<(), Refused>
     requires { (fault_of o ≡ 0) × (code o ≡ map instr (instrs o) ++ tail_items t) × (tail_fault t ≡ 0) }
-    ensures { after result asm.new ≡ emitted tag o (before asm.old) }
+    ensures whole { after result asm.new ≡ emitted tag o (before asm.old) }
+    ensures lent { SameLent asm.old asm.new }
 {
     let n = write::needed(o, asm.buf.len(), asm.asm.len);
     asm.check_tail(None, n, t)?;
@@ -89,7 +90,8 @@ fn place(asm: &mut Assembler<'_>, o: Order, t: Tail, tag: u32) -> Result<(), Ref
 
 // Any order: done, or refused and nothing changes. `tag` is the caller's own number, kept with each jump.
 pub fn emit(asm: &mut Assembler<'_>, o: Order, tag: u32) -> Result<(), Refused>
-    ensures { after result asm.new ≡ emitted tag o (before asm.old) }
+    ensures whole { after result asm.new ≡ emitted tag o (before asm.old) }
+    ensures lent { SameLent asm.old asm.new }
 {
     let f = fault(o);
     if f.is_some() {
@@ -133,7 +135,8 @@ fn goes(o: Order) -> Tail
 
 // An order of a deck with this line 1.
 pub fn emit_in(asm: &mut Assembler<'_>, head: Head, tag: u32, o: Order) -> Result<(), Refused>
-    ensures { after result asm.new ≡ emitted_in head tag o (before asm.old) }
+    ensures whole { after result asm.new ≡ emitted_in head tag o (before asm.old) }
+    ensures lent { SameLent asm.old asm.new }
 {
     if !ast::index_holds(head, o) {
         return asm.check_tail(count_fault(o), 0, Tail::Nothing);

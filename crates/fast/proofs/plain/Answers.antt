@@ -5,20 +5,20 @@ use Rattle.fast.specs.Inner.Packed.{unpacked}
 use Rattle.fast.proofs.Written.{plain_fits, cell_refused, record_refused, done}
 use Rattle.fast.proofs.plain.Goals as goal
 
-pub returns-in-Some : goal.returns-in-Some
-returns-in-Some c tag =
+pub returns-in-Some-clause-whole : goal.returns-in-Some-clause-whole
+returns-in-Some-clause-whole c tag =
     let a = c.args in
     let r = c.requires in
     (done a.head (unpacked a.q) (before a.asm.now) (plain_fits a.q r.0) r.1 r.2 (sym c.within.ensures ∙ c.if-within.true) _ _ c.write.ensures _ (sym c.is_ready.ensures ∙ c.if-is_ready.true) c.in-Some.is tag, λ h. absurd (true_not_false (sym h)))
 
-pub returns-else-is_ready : goal.returns-else-is_ready
-returns-else-is_ready c tag =
+pub returns-else-is_ready-clause-whole : goal.returns-else-is_ready-clause-whole
+returns-else-is_ready-clause-whole c tag =
     let a = c.args in
     let r = c.requires in
     (record_refused a.head (unpacked a.q) (before a.asm.now) (plain_fits a.q r.0) r.1 r.2 (sym c.within.ensures ∙ c.if-within.true) (sym c.is_ready.ensures ∙ c.if-is_ready.false) tag, λ h. refl)
 
-pub returns-else-within : goal.returns-else-within
-returns-else-within c tag =
+pub returns-else-within-clause-whole : goal.returns-else-within-clause-whole
+returns-else-within-clause-whole c tag =
     let a = c.args in
     let r = c.requires in
     (cell_refused a.head (unpacked a.q) (before a.asm.now) (plain_fits a.q r.0) r.1 r.2 (sym c.within.ensures ∙ c.if-within.false) tag, λ h. refl)

@@ -9,17 +9,17 @@ use Rattle.frames.proofs.Counts.{an_end_fault, no_end_fault}
 use Rattle.frames.proofs.Wholes.{epilogue_is_fast, epilogue_is_indirect}
 use Rattle.frames.proofs.epilogue.Goals as goal
 
-pub returns-then-not-epilogue_holds : goal.returns-then-not-epilogue_holds
-returns-then-not-epilogue_holds c =
+pub returns-then-not-epilogue_holds-clause-whole : goal.returns-then-not-epilogue_holds-clause-whole
+returns-then-not-epilogue_holds-clause-whole c =
     let H = c.args.head in
     faulted c.args.tag 9 _ (epilogue H) _ (before c.args.asm.now) _ (an_end_fault H (sym c.epilogue_holds.ensures ∙ c.if-not-epilogue_holds.true)) (λ z. omega arith) c.epilogue_goes.ensures c.check_whole.ensures.whole
 
-pub returns-in-Fast : goal.returns-in-Fast
-returns-in-Fast c =
+pub returns-in-Fast-clause-whole : goal.returns-in-Fast-clause-whole
+returns-in-Fast-clause-whole c =
     let H = c.args.head in
-    c.fast_end.ensures ∙ epilogue_is_fast H c.args.tag _ c.in-Fast.is ∙ ap (λ (k : ℕ). put c.args.tag k (epilogue H) (before c.args.asm.now)) (no_end_fault H (sym c.epilogue_holds.ensures ∙ c.if-not-epilogue_holds.false))
+    c.fast_end.ensures.whole ∙ epilogue_is_fast H c.args.tag _ c.in-Fast.is ∙ ap (λ (k : ℕ). put c.args.tag k (epilogue H) (before c.args.asm.now)) (no_end_fault H (sym c.epilogue_holds.ensures ∙ c.if-not-epilogue_holds.false))
 
-pub returns-in-Indirect : goal.returns-in-Indirect
-returns-in-Indirect c =
+pub returns-in-Indirect-clause-whole : goal.returns-in-Indirect-clause-whole
+returns-in-Indirect-clause-whole c =
     let H = c.args.head in
-    c.indirect_end.ensures ∙ epilogue_is_indirect H c.args.tag _ c.in-Indirect.is ∙ ap (λ (k : ℕ). put c.args.tag k (epilogue H) (before c.args.asm.now)) (no_end_fault H (sym c.epilogue_holds.ensures ∙ c.if-not-epilogue_holds.false))
+    c.indirect_end.ensures.whole ∙ epilogue_is_indirect H c.args.tag _ c.in-Indirect.is ∙ ap (λ (k : ℕ). put c.args.tag k (epilogue H) (before c.args.asm.now)) (no_end_fault H (sym c.epilogue_holds.ensures ∙ c.if-not-epilogue_holds.false))

@@ -15,9 +15,9 @@ use Rattle.accesses.proofs.Placed.{plan_code}
 use Rattle.frames.proofs.Wholes.{closing_few}
 use Rattle.frames.proofs.fast_end.Goals as goal
 
-pub returns : goal.returns
-returns c =
+pub returns-clause-whole : goal.returns-clause-whole
+returns-clause-whole c =
     let n = 8 * c.args.head.last in
     let e = c.plan-p.ensures ∙ ap (pushed no_words) (answered_at _ (λ (z : ℤ). I FLD 10 9 z) c.fld.ensures (back_small n (omega (arith, c.requires)))) in
     let p = c.closing_plan.ensures ∙ ap (λ (p : Plan). pushes_from p (map answer_of (closing Fast))) e in
-    c.place.ensures ∙ plan_code _ (I FLD 10 9 (pos n) ∷ closing Fast) p (omega (arith, closing_few Fast)) (omega (arith, c.requires), closing_valid Fast) 0 _
+    c.place.ensures.whole ∙ plan_code _ (I FLD 10 9 (pos n) ∷ closing Fast) p (omega (arith, closing_few Fast)) (omega (arith, c.requires), closing_valid Fast) 0 _

@@ -21,8 +21,8 @@ use Rattle.frames.specs.Inner.Whole.{entry}
 use Rattle.frames.proofs.Wholes.{down, up, start_left, start_number}
 use Rattle.frames.proofs.indirect_start.Goals as goal
 
-pub returns-in_err-check_whole : goal.returns-in_err-check_whole
-returns-in_err-check_whole c =
+pub returns-in_err-check_whole-clause-whole : goal.returns-in_err-check_whole-clause-whole
+returns-in_err-check_whole-clause-whole c =
     let a = c.args in
     let s = before a.asm.now in
     let H = a.head in
@@ -31,8 +31,8 @@ returns-in_err-check_whole c =
     let stack = allocate_stack_code (stack_size H) in
     put_refused a.tag 0 (prologue_indirect H) s _ _ _ (start_number H s _ _ _ _ _ c.start_sets-sets.ensures.0 c.start_sets-sets.ensures.1 c.start_goes.ensures (c.sub_words.ensures.0 ∙ ap (λ (k : ℕ). length (sub_stack_code k)) c.size_of-mem.ensures.0) c.copy_words.ensures.0 (c.allocate_words.ensures.0 ∙ ap (λ (k : ℕ). length (allocate_stack_code k)) c.size_of-stack.ensures.0)) (search rules) c.in_err-check_whole.ensures.whole
 
-pub returns-in_err-enter : goal.returns-in_err-enter
-returns-in_err-enter c =
+pub returns-in_err-enter-clause-whole : goal.returns-in_err-enter-clause-whole
+returns-in_err-enter-clause-whole c =
     let a = c.args in
     let s = before a.asm.now in
     let H = a.head in
@@ -40,10 +40,10 @@ returns-in_err-enter c =
     let two = mv 9 2 ∷ Shift SLLI 19 19 (pos 3) ∷ [] in
     let stack = allocate_stack_code (stack_size H) in
     let l0 = opens a.tag (prologue_indirect H) s _ (start_number H s _ _ _ _ _ c.start_sets-sets.ensures.0 c.start_sets-sets.ensures.1 c.start_goes.ensures (c.sub_words.ensures.0 ∙ ap (λ (k : ℕ). length (sub_stack_code k)) c.size_of-mem.ensures.0) c.copy_words.ensures.0 (c.allocate_words.ensures.0 ∙ ap (λ (k : ℕ). length (allocate_stack_code k)) c.size_of-stack.ensures.0)) c.in_ok-check_whole.ensures.whole in
-    not_refused (entry) (code (down H) ++ up H) (start_left H a.tag l0) (c.in_err-enter.ensures)
+    not_refused (entry) (code (down H) ++ up H) (start_left H a.tag l0) (c.in_err-enter.ensures.whole)
 
-pub returns-in_err-sub_stack : goal.returns-in_err-sub_stack
-returns-in_err-sub_stack c =
+pub returns-in_err-sub_stack-clause-whole : goal.returns-in_err-sub_stack-clause-whole
+returns-in_err-sub_stack-clause-whole c =
     let a = c.args in
     let s = before a.asm.now in
     let H = a.head in
@@ -51,11 +51,11 @@ returns-in_err-sub_stack c =
     let two = mv 9 2 ∷ Shift SLLI 19 19 (pos 3) ∷ [] in
     let stack = allocate_stack_code (stack_size H) in
     let l0 = opens a.tag (prologue_indirect H) s _ (start_number H s _ _ _ _ _ c.start_sets-sets.ensures.0 c.start_sets-sets.ensures.1 c.start_goes.ensures (c.sub_words.ensures.0 ∙ ap (λ (k : ℕ). length (sub_stack_code k)) c.size_of-mem.ensures.0) c.copy_words.ensures.0 (c.allocate_words.ensures.0 ∙ ap (λ (k : ℕ). length (allocate_stack_code k)) c.size_of-stack.ensures.0)) c.in_ok-check_whole.ensures.whole in
-    let l1 = piece (entry) (code (down H) ++ up H) (start_left H a.tag l0) (c.in_ok-enter.ensures) in
-    not_refused (code mem) (code two ++ up H) (fronted mem two (up H) l1) (c.in_err-sub_stack.ensures ∙ size_put a.tag sub_stack_code _ (frame_size H) _ c.size_of-mem.ensures.0 c.size_of-mem.ensures.1)
+    let l1 = piece (entry) (code (down H) ++ up H) (start_left H a.tag l0) (c.in_ok-enter.ensures.whole) in
+    not_refused (code mem) (code two ++ up H) (fronted mem two (up H) l1) (c.in_err-sub_stack.ensures.whole ∙ size_put a.tag sub_stack_code _ (frame_size H) _ c.size_of-mem.ensures.0 c.size_of-mem.ensures.1)
 
-pub returns-in_err-place : goal.returns-in_err-place
-returns-in_err-place c =
+pub returns-in_err-place-clause-whole : goal.returns-in_err-place-clause-whole
+returns-in_err-place-clause-whole c =
     let a = c.args in
     let s = before a.asm.now in
     let H = a.head in
@@ -63,12 +63,12 @@ returns-in_err-place c =
     let two = mv 9 2 ∷ Shift SLLI 19 19 (pos 3) ∷ [] in
     let stack = allocate_stack_code (stack_size H) in
     let l0 = opens a.tag (prologue_indirect H) s _ (start_number H s _ _ _ _ _ c.start_sets-sets.ensures.0 c.start_sets-sets.ensures.1 c.start_goes.ensures (c.sub_words.ensures.0 ∙ ap (λ (k : ℕ). length (sub_stack_code k)) c.size_of-mem.ensures.0) c.copy_words.ensures.0 (c.allocate_words.ensures.0 ∙ ap (λ (k : ℕ). length (allocate_stack_code k)) c.size_of-stack.ensures.0)) c.in_ok-check_whole.ensures.whole in
-    let l1 = piece (entry) (code (down H) ++ up H) (start_left H a.tag l0) (c.in_ok-enter.ensures) in
-    let l2 = piece (code mem) (code two ++ up H) (fronted mem two (up H) l1) (c.in_ok-sub_stack.ensures ∙ size_put a.tag sub_stack_code _ (frame_size H) _ c.size_of-mem.ensures.0 c.size_of-mem.ensures.1) in
-    not_refused (code two) (up H) (l2) (c.in_err-place.ensures ∙ plan_code _ two (c.plan-p.ensures ∙ collected (c.mv.result ∷ c.slli.result ∷ []) two (answered _ _ c.mv.ensures, (answered _ _ c.slli.ensures, tt))) (omega arith) (omega arith) a.tag _)
+    let l1 = piece (entry) (code (down H) ++ up H) (start_left H a.tag l0) (c.in_ok-enter.ensures.whole) in
+    let l2 = piece (code mem) (code two ++ up H) (fronted mem two (up H) l1) (c.in_ok-sub_stack.ensures.whole ∙ size_put a.tag sub_stack_code _ (frame_size H) _ c.size_of-mem.ensures.0 c.size_of-mem.ensures.1) in
+    not_refused (code two) (up H) (l2) (c.in_err-place.ensures.whole ∙ plan_code _ two (c.plan-p.ensures ∙ collected (c.mv.result ∷ c.slli.result ∷ []) two (answered _ _ c.mv.ensures, (answered _ _ c.slli.ensures, tt))) (omega arith) (omega arith) a.tag _)
 
-pub returns-in_err-copies : goal.returns-in_err-copies
-returns-in_err-copies c =
+pub returns-in_err-copies-clause-whole : goal.returns-in_err-copies-clause-whole
+returns-in_err-copies-clause-whole c =
     let a = c.args in
     let s = before a.asm.now in
     let H = a.head in
@@ -76,13 +76,13 @@ returns-in_err-copies c =
     let two = mv 9 2 ∷ Shift SLLI 19 19 (pos 3) ∷ [] in
     let stack = allocate_stack_code (stack_size H) in
     let l0 = opens a.tag (prologue_indirect H) s _ (start_number H s _ _ _ _ _ c.start_sets-sets.ensures.0 c.start_sets-sets.ensures.1 c.start_goes.ensures (c.sub_words.ensures.0 ∙ ap (λ (k : ℕ). length (sub_stack_code k)) c.size_of-mem.ensures.0) c.copy_words.ensures.0 (c.allocate_words.ensures.0 ∙ ap (λ (k : ℕ). length (allocate_stack_code k)) c.size_of-stack.ensures.0)) c.in_ok-check_whole.ensures.whole in
-    let l1 = piece (entry) (code (down H) ++ up H) (start_left H a.tag l0) (c.in_ok-enter.ensures) in
-    let l2 = piece (code mem) (code two ++ up H) (fronted mem two (up H) l1) (c.in_ok-sub_stack.ensures ∙ size_put a.tag sub_stack_code _ (frame_size H) _ c.size_of-mem.ensures.0 c.size_of-mem.ensures.1) in
-    let l3 = piece (code two) (up H) (l2) (c.in_ok-place.ensures ∙ plan_code _ two (c.plan-p.ensures ∙ collected (c.mv.result ∷ c.slli.result ∷ []) two (answered _ _ c.mv.ensures, (answered _ _ c.slli.ensures, tt))) (omega arith) (omega arith) a.tag _) in
-    not_refused (copies false H.states H.states) (label at_main ∷ code stack) (l3) (c.in_err-copies.ensures)
+    let l1 = piece (entry) (code (down H) ++ up H) (start_left H a.tag l0) (c.in_ok-enter.ensures.whole) in
+    let l2 = piece (code mem) (code two ++ up H) (fronted mem two (up H) l1) (c.in_ok-sub_stack.ensures.whole ∙ size_put a.tag sub_stack_code _ (frame_size H) _ c.size_of-mem.ensures.0 c.size_of-mem.ensures.1) in
+    let l3 = piece (code two) (up H) (l2) (c.in_ok-place.ensures.whole ∙ plan_code _ two (c.plan-p.ensures ∙ collected (c.mv.result ∷ c.slli.result ∷ []) two (answered _ _ c.mv.ensures, (answered _ _ c.slli.ensures, tt))) (omega arith) (omega arith) a.tag _) in
+    not_refused (copies false H.states H.states) (label at_main ∷ code stack) (l3) (c.in_err-copies.ensures.whole)
 
-pub returns-in_err-set_label : goal.returns-in_err-set_label
-returns-in_err-set_label c =
+pub returns-in_err-set_label-clause-whole : goal.returns-in_err-set_label-clause-whole
+returns-in_err-set_label-clause-whole c =
     let a = c.args in
     let s = before a.asm.now in
     let H = a.head in
@@ -90,14 +90,14 @@ returns-in_err-set_label c =
     let two = mv 9 2 ∷ Shift SLLI 19 19 (pos 3) ∷ [] in
     let stack = allocate_stack_code (stack_size H) in
     let l0 = opens a.tag (prologue_indirect H) s _ (start_number H s _ _ _ _ _ c.start_sets-sets.ensures.0 c.start_sets-sets.ensures.1 c.start_goes.ensures (c.sub_words.ensures.0 ∙ ap (λ (k : ℕ). length (sub_stack_code k)) c.size_of-mem.ensures.0) c.copy_words.ensures.0 (c.allocate_words.ensures.0 ∙ ap (λ (k : ℕ). length (allocate_stack_code k)) c.size_of-stack.ensures.0)) c.in_ok-check_whole.ensures.whole in
-    let l1 = piece (entry) (code (down H) ++ up H) (start_left H a.tag l0) (c.in_ok-enter.ensures) in
-    let l2 = piece (code mem) (code two ++ up H) (fronted mem two (up H) l1) (c.in_ok-sub_stack.ensures ∙ size_put a.tag sub_stack_code _ (frame_size H) _ c.size_of-mem.ensures.0 c.size_of-mem.ensures.1) in
-    let l3 = piece (code two) (up H) (l2) (c.in_ok-place.ensures ∙ plan_code _ two (c.plan-p.ensures ∙ collected (c.mv.result ∷ c.slli.result ∷ []) two (answered _ _ c.mv.ensures, (answered _ _ c.slli.ensures, tt))) (omega arith) (omega arith) a.tag _) in
-    let l4 = piece (copies false H.states H.states) (label at_main ∷ code stack) (l3) (c.in_ok-copies.ensures) in
-    not_refused (label at_main ∷ []) (code stack) (l4) (c.in_err-set_label.ensures ∙ label_set a.tag at_main at_main refl (omega arith) _)
+    let l1 = piece (entry) (code (down H) ++ up H) (start_left H a.tag l0) (c.in_ok-enter.ensures.whole) in
+    let l2 = piece (code mem) (code two ++ up H) (fronted mem two (up H) l1) (c.in_ok-sub_stack.ensures.whole ∙ size_put a.tag sub_stack_code _ (frame_size H) _ c.size_of-mem.ensures.0 c.size_of-mem.ensures.1) in
+    let l3 = piece (code two) (up H) (l2) (c.in_ok-place.ensures.whole ∙ plan_code _ two (c.plan-p.ensures ∙ collected (c.mv.result ∷ c.slli.result ∷ []) two (answered _ _ c.mv.ensures, (answered _ _ c.slli.ensures, tt))) (omega arith) (omega arith) a.tag _) in
+    let l4 = piece (copies false H.states H.states) (label at_main ∷ code stack) (l3) (c.in_ok-copies.ensures.whole) in
+    not_refused (label at_main ∷ []) (code stack) (l4) (c.in_err-set_label.ensures.whole ∙ label_set a.tag at_main at_main refl (omega arith) _)
 
-pub returns : goal.returns
-returns c =
+pub returns-clause-whole : goal.returns-clause-whole
+returns-clause-whole c =
     let a = c.args in
     let s = before a.asm.now in
     let H = a.head in
@@ -105,9 +105,9 @@ returns c =
     let two = mv 9 2 ∷ Shift SLLI 19 19 (pos 3) ∷ [] in
     let stack = allocate_stack_code (stack_size H) in
     let l0 = opens a.tag (prologue_indirect H) s _ (start_number H s _ _ _ _ _ c.start_sets-sets.ensures.0 c.start_sets-sets.ensures.1 c.start_goes.ensures (c.sub_words.ensures.0 ∙ ap (λ (k : ℕ). length (sub_stack_code k)) c.size_of-mem.ensures.0) c.copy_words.ensures.0 (c.allocate_words.ensures.0 ∙ ap (λ (k : ℕ). length (allocate_stack_code k)) c.size_of-stack.ensures.0)) c.in_ok-check_whole.ensures.whole in
-    let l1 = piece (entry) (code (down H) ++ up H) (start_left H a.tag l0) (c.in_ok-enter.ensures) in
-    let l2 = piece (code mem) (code two ++ up H) (fronted mem two (up H) l1) (c.in_ok-sub_stack.ensures ∙ size_put a.tag sub_stack_code _ (frame_size H) _ c.size_of-mem.ensures.0 c.size_of-mem.ensures.1) in
-    let l3 = piece (code two) (up H) (l2) (c.in_ok-place.ensures ∙ plan_code _ two (c.plan-p.ensures ∙ collected (c.mv.result ∷ c.slli.result ∷ []) two (answered _ _ c.mv.ensures, (answered _ _ c.slli.ensures, tt))) (omega arith) (omega arith) a.tag _) in
-    let l4 = piece (copies false H.states H.states) (label at_main ∷ code stack) (l3) (c.in_ok-copies.ensures) in
-    let l5 = piece (label at_main ∷ []) (code stack) (l4) (c.in_ok-set_label.ensures ∙ label_set a.tag at_main at_main refl (omega arith) _) in
-    closes l5 (c.allocate_stack.ensures ∙ size_put a.tag allocate_stack_code _ (stack_size H) _ c.size_of-stack.ensures.0 c.size_of-stack.ensures.1)
+    let l1 = piece (entry) (code (down H) ++ up H) (start_left H a.tag l0) (c.in_ok-enter.ensures.whole) in
+    let l2 = piece (code mem) (code two ++ up H) (fronted mem two (up H) l1) (c.in_ok-sub_stack.ensures.whole ∙ size_put a.tag sub_stack_code _ (frame_size H) _ c.size_of-mem.ensures.0 c.size_of-mem.ensures.1) in
+    let l3 = piece (code two) (up H) (l2) (c.in_ok-place.ensures.whole ∙ plan_code _ two (c.plan-p.ensures ∙ collected (c.mv.result ∷ c.slli.result ∷ []) two (answered _ _ c.mv.ensures, (answered _ _ c.slli.ensures, tt))) (omega arith) (omega arith) a.tag _) in
+    let l4 = piece (copies false H.states H.states) (label at_main ∷ code stack) (l3) (c.in_ok-copies.ensures.whole) in
+    let l5 = piece (label at_main ∷ []) (code stack) (l4) (c.in_ok-set_label.ensures.whole ∙ label_set a.tag at_main at_main refl (omega arith) _) in
+    closes l5 (c.allocate_stack.ensures.whole ∙ size_put a.tag allocate_stack_code _ (stack_size H) _ c.size_of-stack.ensures.0 c.size_of-stack.ensures.1)
