@@ -5,7 +5,6 @@ use Rattle.ast.specs.declared.Frame.{Frame}
 use Rattle.ast.specs.declared.Frame.TheVariants.{Fast, Indirect}
 use Rattle.print.specs.Text.{length_in, put_in}
 use Rattle.print.specs.declared.Text.{Text}
-use Rattle.print.specs.declared.Text.TheVariants as Text
 use Rattle.routine.specs.Routine.{Summary, program_of, summary_answer, buffer_after}
 use Rattle.assembler.specs.State.{Lent}
 use Rattle.listing.specs.Listing.{text_of}

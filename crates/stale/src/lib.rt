@@ -17,7 +17,7 @@ ghost use Rattle.stale.specs.Inner.Text.{count_of, line_in, memory_text, Within,
 
 use assembler::{Asm, JUMPS, LABELS, Labels, ROOM};
 use ast::Operand;
-use deck::Judged;
+use deck::Line;
 use print::Text;
 use routine::RoutineAnswer;
 use unused::Unused;
@@ -61,16 +61,15 @@ fn operand_label(p: Operand) -> u32
 fn label_of(line: &[u8]) -> u32
     ensures { result ≡ Option.get_or (label_of line.now) 1024 }
 {
-    let j = deck::read_line(false, line);
-    match j {
-        Judged::Order(o) => {
+    match deck::read_line(false, line) {
+        Ok(Line::Order(o)) => {
             let u = ast::uses(o);
             let p = u.operand;
             operand_label(p)
         }
-        Judged::Head(_) => NONE,
-        Judged::Constant(_) => NONE,
-        Judged::Refused(_) => NONE,
+        Ok(Line::Head(_)) => NONE,
+        Ok(Line::Constant(_)) => NONE,
+        Err(_) => NONE,
     }
 }
 
