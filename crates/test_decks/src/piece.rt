@@ -1,4 +1,7 @@
 // A deck is put together piece by piece: a row's text, or one byte, so many times.
+ghost use Rattle.std.specs.Prelude.{◌≤◌};
+
+use crate::row::column;
 
 // Bytes of the lent memories: more than a file or a buffer that counts may have.
 pub const ROOM: usize = 70016;
@@ -9,57 +12,75 @@ const TIMES: u32 = 70016;
 // Where a row's text starts.
 const TEXT: usize = 20;
 
-// The byte that a character stands for: the character `end` is a line's end.
-fn plain(b: u8, end: u8) -> u8 {
-    if b == end { 10 } else { b }
+// The bytes of the deck at hand.
+#[derive(Drop)]
+pub struct Deck {
+    file: [u8; ROOM],
+    size: usize,
+    ghost has_room: { size ≤ 70016 },
 }
 
-// The text of s behind the first n bytes, as far as there is room; how many bytes there are then.
-fn put(s: &[u8], end: u8, n: usize, file: &mut [u8; ROOM]) -> usize {
-    let mut at = n;
-    let mut i = 0;
-    while i < s.len() {
-        if at >= ROOM {
-            return at;
-        }
-        file[at] = plain(s[i], end);
-        at += 1;
-        i += 1;
-    }
-    at
-}
-
-fn repeat(s: &[u8], end: u8, times: u32, n: usize, file: &mut [u8; ROOM]) -> usize {
-    if times > TIMES {
-        return n;
-    }
-    let mut at = n;
-    for _ in 0..times {
-        at = put(s, end, at, file);
-    }
-    at
-}
-
-// A row of text. A tilde is a line's end.
-pub(crate) fn text(s: &[u8], n: usize, file: &mut [u8; ROOM]) -> usize {
-    let times = crate::row::column(s, 0);
-    let count = crate::row::column(s, 1);
+// How often a row's text comes, and the text.
+fn text(s: &[u8]) -> Option<(u32, &[u8])> {
+    let times = column(s, 0)?;
+    let count = column(s, 1)?;
     if count > 107 {
-        return n;
+        return None;
     }
-    let e = TEXT + count as usize;
-    if s.len() < e {
-        return n;
-    }
-    repeat(&s[TEXT..e], b'~', times, n, file)
+    Some((times, s.get(TEXT..TEXT + count as usize)?))
 }
 
-// A row of one byte, whichever it is.
-pub(crate) fn byte(s: &[u8], n: usize, file: &mut [u8; ROOM]) -> usize {
-    let times = crate::row::column(s, 0);
-    let value = crate::row::column(s, 1);
-    if value > 255 {
-        return n;
+// How often a row's byte comes, and the byte.
+fn byte(s: &[u8]) -> Option<(u32, u8)> {
+    Some((column(s, 0)?, u8::try_from(column(s, 1)?).ok()?))
+}
+
+impl Deck {
+    pub(crate) fn empty() -> Deck {
+        Deck {
+            file: [0u8; ROOM],
+            size: 0,
+        }
     }
-    repeat(&[value as u8], b'\n', times, n, file)
+
+    pub(crate) fn clear(&mut self) {
+        self.size = 0;
+    }
+
+    pub(crate) fn bytes(&self) -> &[u8] {
+        &self.file[..self.size]
+    }
+
+    // A text behind what there is, as far as there is room. The character `end` is a line's end.
+    fn put(&mut self, s: &[u8], end: u8) {
+        for b in s {
+            if self.size >= ROOM {
+                return;
+            }
+            self.file[self.size] = if *b == end { b'\n' } else { *b };
+            self.size += 1;
+        }
+    }
+
+    fn repeat(&mut self, times: u32, s: &[u8], end: u8) {
+        if times <= TIMES {
+            for _ in 0..times {
+                self.put(s, end);
+            }
+        }
+    }
+
+    // A row of text. A tilde is a line's end.
+    pub(crate) fn add_text(&mut self, s: &[u8]) {
+        if let Some((times, t)) = text(s) {
+            self.repeat(times, t, b'~');
+        }
+    }
+
+    // A row of one byte, whichever it is.
+    pub(crate) fn add_byte(&mut self, s: &[u8]) {
+        if let Some((times, b)) = byte(s) {
+            self.repeat(times, &[b], b'\n');
+        }
+    }
 }
