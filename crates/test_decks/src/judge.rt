@@ -86,10 +86,11 @@ fn answered(s: &[u8], file: &[u8], buf: &mut [u8; ROOM]) -> bool {
 fn spelled(s: &[u8], buf: &[u8; ROOM]) -> Option<bool> {
     let at = column(s, 0)? as usize;
     let count = column(s, 1)? as usize;
-    if at > COUNTED || count > 12 {
-        return None;
-    }
-    Some((0..count).all(|i| column(s, 2 + i) == Some(test_rows::word_at(buf, at + 4 * i))))
+    Some(
+        count <= 12
+            && (0..count).all(|i| at <= COUNTED
+                && column(s, 2 + i) == Some(test_rows::word_at(buf, at + 4 * i))),
+    )
 }
 
 // A row that only has to hold.
@@ -116,16 +117,16 @@ fn judged(s: &[u8], good: bool) -> Outcome {
 pub(crate) fn row(s: &[u8], deck: &mut Deck, buf: &mut [u8; ROOM]) -> Outcome {
     match s.first() {
         Some(b'd') => {
-            deck.add_text(s);
+            crate::piece::add_text(s, deck);
             Outcome::Other
         }
         Some(b'b') => {
-            deck.add_byte(s);
+            crate::piece::add_byte(s, deck);
             Outcome::Other
         }
         Some(b's') => Outcome::Other,
         Some(b'r') => {
-            let good = answered(s, deck.bytes(), buf);
+            let good = answered(s, deck.as_slice(), buf);
             deck.clear();
             judged(s, good)
         }

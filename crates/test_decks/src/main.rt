@@ -13,7 +13,7 @@ use piece::{Deck, ROOM};
 const ROW: usize = 128;
 
 fn main(rt: HostRuntime) {
-    let mut deck = Deck::empty();
+    let mut deck = Deck::new();
     let mut buf = [0u8; ROOM];
     let t = test_rows::replay::<ROW, _>(&rt, |s| judge::row(s, &mut deck, &mut buf));
     test_rows::say(&rt, t.accepted, b" accepted, ");

@@ -1,30 +1,18 @@
 // The forms of `rvv!` by their number in the list, in the Rust's order; behind them `addiw`, which document 02 adds.
 use encoder::Encoded;
-use refusal::Refusal;
-
-// What no row expects: a refusal at a place that is not 0.
-pub(crate) fn unknown() -> Encoded {
-    Encoded::Refused(Refusal::Line, 1)
-}
 
 // The name is the form's in a list of names, ten bytes each, that starts with the name of form `first`.
 fn named(names: &[u8], first: u32, form: u32, name: &[u8]) -> bool {
-    if form < first {
+    let Some(i) = form.checked_sub(first) else {
         return false;
-    }
-    if names.len() < 10 {
-        return false;
-    }
-    let at = (form - first) as usize * 10;
-    if at > names.len() - 10 {
-        return false;
-    }
-    &names[at..at + 10] == name
+    };
+    let at = i as usize * 10;
+    names.get(at..at + 10) == Some(name)
 }
 
 // Whole-number arithmetic on registers.
-fn arithmetic(form: u32, a: u32, b: u32, c: u32) -> Encoded {
-    match form {
+fn arithmetic(form: u32, a: u32, b: u32, c: u32) -> Option<Encoded> {
+    Some(match form {
         0x00 => encoder::add(a, b, c),
         0x01 => encoder::mv(a, b),
         0x02 => encoder::sub(a, b, c),
@@ -35,14 +23,14 @@ fn arithmetic(form: u32, a: u32, b: u32, c: u32) -> Encoded {
         0x07 => encoder::sll(a, b, c),
         0x08 => encoder::srl(a, b, c),
         0x09 => encoder::sra(a, b, c),
-        _ => unknown(),
-    }
+        _ => return None,
+    })
 }
 
 // Whole-number arithmetic with an immediate, `ld` and `sd`.
-fn immediate(form: u32, a: u32, b: u32, c: u32) -> Encoded {
+fn immediate(form: u32, a: u32, b: u32, c: u32) -> Option<Encoded> {
     let z = test_rows::signed(c);
-    match form {
+    Some(match form {
         0x0a => encoder::addi(a, b, z),
         0x0b => encoder::nop(),
         0x0c => encoder::andi(a, b, z),
@@ -55,14 +43,14 @@ fn immediate(form: u32, a: u32, b: u32, c: u32) -> Encoded {
         0x13 => encoder::ld(a, b, z),
         0x14 => encoder::sd(a, b, z),
         0x43 => encoder::addiw(a, b, z),
-        _ => unknown(),
-    }
+        _ => return None,
+    })
 }
 
 // Branches.
-fn branch(form: u32, a: u32, b: u32, c: u32) -> Encoded {
+fn branch(form: u32, a: u32, b: u32, c: u32) -> Option<Encoded> {
     let z = test_rows::signed(c);
-    match form {
+    Some(match form {
         0x15 => encoder::beq(a, b, z),
         0x16 => encoder::bne(a, b, z),
         0x17 => encoder::blt(a, b, z),
@@ -71,13 +59,13 @@ fn branch(form: u32, a: u32, b: u32, c: u32) -> Encoded {
         0x1a => encoder::bge(a, b, z),
         0x1b => encoder::bltu(a, b, z),
         0x1c => encoder::bgeu(a, b, z),
-        _ => unknown(),
-    }
+        _ => return None,
+    })
 }
 
 // Jumps and upper immediates.
-fn jump(form: u32, a: u32, b: u32, c: u32) -> Encoded {
-    match form {
+fn jump(form: u32, a: u32, b: u32, c: u32) -> Option<Encoded> {
+    Some(match form {
         0x1d => encoder::jal(a, test_rows::signed(b)),
         0x1e => encoder::j(test_rows::signed(a)),
         0x1f => encoder::jalr(a, b, test_rows::signed(c)),
@@ -85,13 +73,13 @@ fn jump(form: u32, a: u32, b: u32, c: u32) -> Encoded {
         0x21 => encoder::ret(),
         0x22 => encoder::lui(a, test_rows::signed(b)),
         0x23 => encoder::auipc(a, test_rows::signed(b)),
-        _ => unknown(),
-    }
+        _ => return None,
+    })
 }
 
 // Float arithmetic, sign injection, minimum and maximum.
-fn float(form: u32, a: u32, b: u32, c: u32, d: u32) -> Encoded {
-    match form {
+fn float(form: u32, a: u32, b: u32, c: u32, d: u32) -> Option<Encoded> {
+    Some(match form {
         0x24 => encoder::fadd_d(a, b, c),
         0x25 => encoder::fadd_d_rm(a, b, c, d),
         0x26 => encoder::fsub_d(a, b, c),
@@ -103,13 +91,13 @@ fn float(form: u32, a: u32, b: u32, c: u32, d: u32) -> Encoded {
         0x2c => encoder::fsgnjx_d(a, b, c),
         0x2d => encoder::fmin_d(a, b, c),
         0x2e => encoder::fmax_d(a, b, c),
-        _ => unknown(),
-    }
+        _ => return None,
+    })
 }
 
 // Comparisons, `fld`, `fsd` and moves between float registers.
-fn compare(form: u32, a: u32, b: u32, c: u32) -> Encoded {
-    match form {
+fn compare(form: u32, a: u32, b: u32, c: u32) -> Option<Encoded> {
+    Some(match form {
         0x2f => encoder::feq_d(a, b, c),
         0x30 => encoder::flt_d(a, b, c),
         0x31 => encoder::fle_d(a, b, c),
@@ -120,13 +108,13 @@ fn compare(form: u32, a: u32, b: u32, c: u32) -> Encoded {
         0x36 => encoder::fabs_d(a, b),
         0x37 => encoder::fmv_d(a, b),
         0x38 => encoder::fneg_d(a, b),
-        _ => unknown(),
-    }
+        _ => return None,
+    })
 }
 
 // Conversions, moves of bits and the fused.
-fn convert(form: u32, a: u32, b: u32, c: u32, d: u32) -> Encoded {
-    match form {
+fn convert(form: u32, a: u32, b: u32, c: u32, d: u32) -> Option<Encoded> {
+    Some(match form {
         0x39 => encoder::fcvt_w_d(a, b),
         0x3a => encoder::fcvt_d_w(a, b),
         0x3b => encoder::fcvt_l_d(a, b, c),
@@ -137,8 +125,8 @@ fn convert(form: u32, a: u32, b: u32, c: u32, d: u32) -> Encoded {
         0x40 => encoder::fmsub_d(a, b, c, d),
         0x41 => encoder::fnmadd_d(a, b, c, d),
         0x42 => encoder::fnmsub_d(a, b, c, d),
-        _ => unknown(),
-    }
+        _ => return None,
+    })
 }
 
 // The number is that of a whole-number form, and the name is its name.
@@ -199,9 +187,9 @@ fn floating(form: u32, name: &[u8]) -> bool {
 }
 
 // The encoder's answer to a form and its operands.
-pub(crate) fn encoded(form: u32, name: &[u8], a: u32, b: u32, c: u32, d: u32) -> Encoded {
+pub(crate) fn encoded(form: u32, name: &[u8], a: u32, b: u32, c: u32, d: u32) -> Option<Encoded> {
     if !whole_number(form, name) && !floating(form, name) {
-        return unknown();
+        return None;
     }
     match form {
         0x00..=0x09 => arithmetic(form, a, b, c),
@@ -211,6 +199,6 @@ pub(crate) fn encoded(form: u32, name: &[u8], a: u32, b: u32, c: u32, d: u32) ->
         0x24..=0x2e => float(form, a, b, c, d),
         0x2f..=0x38 => compare(form, a, b, c),
         0x39..=0x42 => convert(form, a, b, c, d),
-        _ => unknown(),
+        _ => None,
     }
 }

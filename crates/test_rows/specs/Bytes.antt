@@ -1,5 +1,5 @@
 -- What is asked of a buffer's bytes.
-use Rattle.std.specs.Prelude.{Bool, cond, List, ℕ, ◌+◌, ◌*◌, ◌^◌, leb, eqb, length, get_or}
+use Rattle.std.specs.Prelude.{Bool, cond, List, ℕ, ◌+◌, ◌*◌, ◌^◌, leb, eqb, length, get_or, take}
 use Rattle.std.specs.List.{list_all}
 
 -- the word at a place, little-endian; 0 where there is none
@@ -12,3 +12,7 @@ word_of b p =
 -- every byte is b
 abbrev pub all_of : ℕ → List ℕ → Bool
 all_of b s = list_all (λ c. eqb c b) s
+
+-- the bytes of a memory up to a place
+abbrev pub bytes_of : (memory : List ℕ) → (size : ℕ) → List ℕ
+bytes_of memory size = take size memory

@@ -2,9 +2,9 @@
 // is about, and the count of rows.
 #![tactic(auto)]
 
-ghost use Rattle.std.specs.Prelude.{◌≡◌, ◌<◌, ◌^◌};
+ghost use Rattle.std.specs.Prelude.{◌≡◌, ◌+◌, ◌^◌, ◌<◌, ◌≤◌, cond, eqb, ltb, [], ◌∷◌, ◌++◌};
 ghost use Rattle.isa.specs.Immediate.{signed as signed_of};
-ghost use Rattle.test_rows.specs.Bytes.{word_of, all_of};
+ghost use Rattle.test_rows.specs.Bytes.{word_of, all_of, bytes_of};
 ghost use Rattle.test_rows.specs.Count.{none_yet, counted_of};
 ghost use Rattle.test_rows.specs.Hex.{digit_of, number_from, column_of};
 
@@ -67,6 +67,71 @@ pub fn all(s: &[u8], b: u8) -> bool
     ensures { result ≡ all_of b s.now }
 {
     s.iter().all(|c| *c == b)
+}
+
+// Bytes that are put together piece by piece, as far as there is room for N.
+#[derive(Drop)]
+pub struct Bytes<const N: usize> {
+    memory: [u8; N],
+    size: usize,
+    ghost has_room: { size ≤ N },
+}
+
+impl<const N: usize> Bytes<N> {
+    pub fn new() -> Bytes<N>
+        ensures { bytes_of result.memory result.size ≡ [] }
+    {
+        Bytes {
+            memory: [0; N],
+            size: 0,
+        }
+    }
+
+    pub fn clear(&mut self)
+        ensures { bytes_of self.new.memory self.new.size ≡ [] }
+    {
+        self.size = 0;
+    }
+
+    pub fn as_slice(&self) -> &[u8]
+        requires { N < 2 ^ 63 }
+        ensures { result.now ≡ bytes_of self.now.memory self.now.size }
+    {
+        &self.memory[..self.size]
+    }
+
+    // How many bytes more there is room for.
+    pub fn room(&self) -> usize
+        ensures { result + self.now.size ≡ N }
+    {
+        N - self.size
+    }
+
+    pub fn push(&mut self, b: u8)
+        ensures { bytes_of self.new.memory self.new.size
+            ≡ cond (ltb self.old.size N) (bytes_of self.old.memory self.old.size ++ b ∷ []) (bytes_of self.old.memory self.old.size) }
+    {
+        if self.size < N {
+            self.memory[self.size] = b;
+            self.size += 1;
+        }
+    }
+
+    // The bytes that characters stand for, so many times.
+    pub fn push_text(&mut self, s: &[u8], times: u32) {
+        for _ in 0..times {
+            for b in s {
+                self.push(plain(*b));
+            }
+        }
+    }
+}
+
+// The byte that a character stands for: a tilde is a line's end.
+pub fn plain(b: u8) -> u8
+    ensures { result ≡ cond (eqb b 126) 10 b }
+{
+    if b == b'~' { b'\n' } else { b }
 }
 
 // ---- counts

@@ -10,4 +10,3 @@ agreed (Expected.Word n) (Encoded.Word w) = eqb w n
 agreed (Expected.Word n) (Encoded.Refused why place) = false
 agreed (Expected.Refused n) (Encoded.Word w) = false
 agreed (Expected.Refused n) (Encoded.Refused why place) = eqb place 0 && eqb (number_of why) n
-agreed Expected.Malformed got = false
