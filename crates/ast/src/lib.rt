@@ -8,7 +8,7 @@ ghost use Rattle.ast.specs.Counts.{prologue_holds, result_holds, epilogue_holds,
 ghost use Rattle.ast.specs.Uses.{uses as uses_of, registers_fit, index_holds, operand_open, saves_hold, padded};
 
 // Where a cell is: the block or frame at s1, the frame's cells at s5, the parameters at s4.
-#[derive(Clone, Copy, PartialEq, Eq)]
+#[derive(Clone, Copy)]
 pub enum Place {
     Mem,
     Stack,
@@ -16,7 +16,7 @@ pub enum Place {
 }
 
 // d, s
-#[derive(Clone, Copy, PartialEq, Eq)]
+#[derive(Clone, Copy)]
 pub enum Unary {
     Fmov,
     Recip,
@@ -26,14 +26,14 @@ pub enum Unary {
 }
 
 // d, s and a scratch register
-#[derive(Clone, Copy, PartialEq, Eq)]
+#[derive(Clone, Copy)]
 pub enum Scratched {
     Sign,
     Frac,
 }
 
 // d, s1, s2
-#[derive(Clone, Copy, PartialEq, Eq)]
+#[derive(Clone, Copy)]
 pub enum Binary {
     Minus,
     Times,
@@ -47,7 +47,7 @@ pub enum Binary {
 }
 
 // d, s1, s2, s3
-#[derive(Clone, Copy, PartialEq, Eq)]
+#[derive(Clone, Copy)]
 pub enum Fused {
     MulAdd,
     MulSub,
@@ -84,7 +84,7 @@ pub enum Constant {
 }
 
 // The two frames.
-#[derive(Clone, Copy, PartialEq, Eq)]
+#[derive(Clone, Copy)]
 pub enum Frame {
     Fast,
     Indirect,
@@ -164,10 +164,13 @@ pub fn is_free(mask: u32, r: u32) -> bool
 pub fn is_open(mask: u32, p: Place, i: u32) -> bool
     ensures { result ≡ open_cell mask p i }
 {
-    match (p, i) {
-        (Place::Stack, 4..=5) => !in_mask(mask, i + 4),
-        (Place::Stack, 6..=15) => !in_mask(mask, i + 12),
-        _ => true,
+    match p {
+        Place::Stack => match i {
+            4..=5 => !in_mask(mask, i + 4),
+            6..=15 => !in_mask(mask, i + 12),
+            _ => true,
+        },
+        Place::Mem | Place::Param => true,
     }
 }
 
@@ -220,6 +223,7 @@ pub fn cap_holds(head: Head) -> bool
 }
 
 // All counts of line 1.
+#[tactic(auto, unfolding(crate::specs::Counts::counts_hold))]
 pub fn counts_hold(head: Head) -> bool
     ensures { result ≡ counts_hold head }
 {

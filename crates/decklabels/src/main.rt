@@ -4,7 +4,7 @@
 // Where standard input can't be read, or standard output takes less than all, a message goes to standard error.
 #![tactic(auto)]
 
-use input::{FILE, Input};
+use input::FILE;
 use print::Text;
 use std::env::{Env, FillError};
 
@@ -49,13 +49,13 @@ fn print_input(rt: &HostRuntime) {
     let mut file = [0u8; FILE];
     let mut stdin = rt.stdin();
     match input::read(&mut stdin, &mut file) {
-        Input::Read(n) => {
+        Ok(n) => {
             print_labels(rt, &file[..n]);
             if n == FILE {
                 input::skip_rest(&mut stdin);
             }
         }
-        Input::Failed => {
+        Err(_) => {
             let _ = rt
                 .stderr()
                 .write_all(b"decklabels: standard input can't be read\n");

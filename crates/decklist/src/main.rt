@@ -7,7 +7,7 @@
 ghost use Rattle.std.specs.Prelude.{◌≡◌};
 ghost use Rattle.decklist.specs.Inner.Arguments.{asked_for};
 
-use input::{FILE, Input};
+use input::FILE;
 use listing::View;
 use print::Text;
 use std::env::{Env, FillError};
@@ -61,13 +61,13 @@ fn print_input(rt: &HostRuntime, view: View) {
     let mut file = [0u8; FILE];
     let mut stdin = rt.stdin();
     match input::read(&mut stdin, &mut file) {
-        Input::Read(n) => {
+        Ok(n) => {
             print_view(rt, &file[..n], view);
             if n == FILE {
                 input::skip_rest(&mut stdin);
             }
         }
-        Input::Failed => {
+        Err(_) => {
             let _ = rt
                 .stderr()
                 .write_all(b"decklist: standard input can't be read\n");

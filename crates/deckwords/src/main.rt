@@ -3,7 +3,7 @@
 // Where standard input can't be read, or standard output takes less than all, a message goes to standard error.
 #![tactic(auto)]
 
-use input::{FILE, Input};
+use input::FILE;
 use print::Text;
 
 // 16,384 lines of at most 15 bytes.
@@ -46,13 +46,13 @@ fn main(rt: HostRuntime) {
     let mut file = [0u8; FILE];
     let mut stdin = rt.stdin();
     match input::read(&mut stdin, &mut file) {
-        Input::Read(n) => {
+        Ok(n) => {
             print_answer(&rt, &file[..n]);
             if n == FILE {
                 input::skip_rest(&mut stdin);
             }
         }
-        Input::Failed => {
+        Err(_) => {
             let _ = rt
                 .stderr()
                 .write_all(b"deckwords: standard input can't be read\n");
