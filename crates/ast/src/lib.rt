@@ -112,15 +112,11 @@ pub enum Operand {
     Set(u32),
 }
 
-// What an order uses: its registers, 0 where it has fewer than four; those that it writes, 32 where there are fewer than two.
+// What an order uses: its registers, 0 where it has fewer than four; those that it writes, at most two; its operand that is no register.
 #[derive(Clone, Copy)]
 pub struct View {
-    pub a: u32,
-    pub b: u32,
-    pub c: u32,
-    pub d: u32,
-    pub written: u32,
-    pub also: u32,
+    pub registers: [u32; 4],
+    pub writes: [Option<u32>; 2],
     pub operand: Operand,
 }
 
@@ -232,88 +228,47 @@ pub fn counts_hold(head: Head) -> bool
 
 // ---- what an order uses
 
-// An order that writes d, with no more operands.
-fn writing(d: u32) -> View
-    ensures { result ≡ padded (record { registers = d ∷ []; writes = d ∷ []; operand = Operand.Nothing }) }
+fn viewed(registers: [u32; 4], writes: [Option<u32>; 2], operand: Operand) -> View
+    ensures { result ≡ record { registers = registers; writes = writes; operand = operand } }
 {
     View {
-        a: d,
-        b: 0,
-        c: 0,
-        d: 0,
-        written: d,
-        also: 32,
-        operand: Operand::Nothing,
-    }
-}
-
-// An order that writes nothing, with one register at most.
-fn reading(a: u32, operand: Operand) -> View
-    ensures { result ≡ record { a = a; b = 0; c = 0; d = 0; written = 32; also = 32; operand = operand } }
-{
-    View {
-        written: 32,
+        registers,
+        writes,
         operand,
-        ..writing(a)
     }
 }
 
 fn unary_uses(k: Unary, d: u32, s: u32) -> View
     ensures { result ≡ padded (uses_of (Order.Unary k d s)) }
 {
-    let u = View { b: s, ..writing(d) };
-    match k {
-        Unary::Fmov if d == s => View { written: 32, ..u },
-        Unary::Recip => View {
-            written: 10,
-            also: d,
-            ..u
-        },
-        _ => u,
-    }
+    let writes = match k {
+        Unary::Fmov if d == s => [None, None],
+        Unary::Recip => [Some(10), Some(d)],
+        _ => [Some(d), None],
+    };
+    viewed([d, s, 0, 0], writes, Operand::Nothing)
 }
 
 // The one place where the code goes by an order's kinds to say what it uses.
 pub fn uses(o: Order) -> View
     ensures { result ≡ padded (uses_of o) }
 {
+    let none = Operand::Nothing;
     match o {
         Order::Unary(k, d, s) => unary_uses(k, d, s),
-        Order::Scratched(_, d, s, t) => View {
-            b: s,
-            c: t,
-            written: t,
-            also: d,
-            ..writing(d)
-        },
-        Order::Binary(_, d, a, b) => View {
-            b: a,
-            c: b,
-            ..writing(d)
-        },
-        Order::Fused(_, d, a, b, c) => View {
-            b: a,
-            c: b,
-            d: c,
-            ..writing(d)
-        },
-        Order::Ifelse(d, a, b, i) => View {
-            b: a,
-            c: b,
-            operand: Operand::Loaded(Place::Stack, i),
-            ..writing(d)
-        },
-        Order::LoadConst(d, k) => View {
-            operand: Operand::Constant(k),
-            ..writing(d)
-        },
-        Order::Load(d, p, i) => View {
-            operand: Operand::Loaded(p, i),
-            ..writing(d)
-        },
-        Order::Save(s, p, i) => reading(s, Operand::Stored(p, i)),
-        Order::BranchIf(c, l, _) => reading(c, Operand::GoneTo(l)),
-        Order::SetLabel(l) => reading(0, Operand::Set(l)),
+        Order::Scratched(_, d, s, t) => viewed([d, s, t, 0], [Some(t), Some(d)], none),
+        Order::Binary(_, d, a, b) => viewed([d, a, b, 0], [Some(d), None], none),
+        Order::Fused(_, d, a, b, c) => viewed([d, a, b, c], [Some(d), None], none),
+        Order::Ifelse(d, a, b, i) => viewed(
+            [d, a, b, 0],
+            [Some(d), None],
+            Operand::Loaded(Place::Stack, i),
+        ),
+        Order::LoadConst(d, k) => viewed([d, 0, 0, 0], [Some(d), None], Operand::Constant(k)),
+        Order::Load(d, p, i) => viewed([d, 0, 0, 0], [Some(d), None], Operand::Loaded(p, i)),
+        Order::Save(s, p, i) => viewed([s, 0, 0, 0], [None, None], Operand::Stored(p, i)),
+        Order::BranchIf(c, l, _) => viewed([c, 0, 0, 0], [None, None], Operand::GoneTo(l)),
+        Order::SetLabel(l) => viewed([0, 0, 0, 0], [None, None], Operand::Set(l)),
     }
 }
 
@@ -321,8 +276,8 @@ pub fn uses(o: Order) -> View
 pub fn registers_fit(o: Order) -> bool
     ensures { result ≡ registers_fit (uses_of o).registers }
 {
-    let u = uses(o);
-    u.a < 32 && u.b < 32 && u.c < 32 && u.d < 32
+    let [a, b, c, d] = uses(o).registers;
+    a < 32 && b < 32 && c < 32 && d < 32
 }
 
 // The index of the cell that an order names is below its count.
@@ -350,5 +305,8 @@ pub fn saves_hold(mask: u32, o: Order) -> bool
     ensures { result ≡ saves_hold mask o }
 {
     let u = uses(o);
-    is_free(mask, u.written) && is_free(mask, u.also) && stores_open(mask, u.operand)
+    let [first, second] = u.writes;
+    first.is_none_or(|r| is_free(mask, r))
+        && second.is_none_or(|r| is_free(mask, r))
+        && stores_open(mask, u.operand)
 }

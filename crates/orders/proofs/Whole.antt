@@ -68,8 +68,8 @@ pub fault_registers : (o : Order) {t : Bool} → t ≡ registers_fit (uses o).re
 unfolding fault
 fault_registers o r t = rw (sym r ∙ t)
 
-pub rest_view : (o : Order) (u : View) {x : Operand} → u ≡ padded (uses o) → u.operand ≡ x → behind_operand x u.a ≡ rest_of o
-rest_view o u e h = ap (λ (x : Operand). behind_operand x u.a) (sym h) ∙ ap (λ (v : View). behind_operand v.operand v.a) e
+pub rest_view : (o : Order) (u : View) {x : Operand} → u ≡ padded (uses o) → u.operand ≡ x → behind_operand x (get_or u.registers 0 0) ≡ rest_of o
+rest_view o u e h = ap (λ (x : Operand). behind_operand x (get_or u.registers 0 0)) (sym h) ∙ ap (λ (v : View). behind_operand v.operand (get_or v.registers 0 0)) e
 
 -- the operand of an order that is not refused
 abbrev pub Small : Operand → Type 0

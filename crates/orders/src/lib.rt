@@ -83,7 +83,7 @@ fn behind(o: Order) -> Rest
         Operand::Nothing => Rest::Jumps(Tail::Nothing),
         Operand::Loaded(_, _) => Rest::Jumps(Tail::Nothing),
         Operand::Stored(_, _) => Rest::Jumps(Tail::Nothing),
-        Operand::Constant(k) => Rest::Alone(Tail::Pair(JumpKind::Fld, 1024 + k, u.a)),
+        Operand::Constant(k) => Rest::Alone(Tail::Pair(JumpKind::Fld, 1024 + k, u.registers[0])),
         Operand::GoneTo(l) => Rest::Jumps(Tail::Pair(JumpKind::Jalr, l, ZERO)),
         Operand::Set(l) => Rest::Label(l),
     }

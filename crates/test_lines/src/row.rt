@@ -120,7 +120,8 @@ fn expected(s: &[u8]) -> Option<Answer> {
 // The byte at place i: its own, or the one that the two digits behind a backslash spell.
 fn byte_at(s: &[u8], i: usize) -> u8 {
     match s.get(i) {
-        Some(b'\\') => s.get(i + 1..i + 3)
+        Some(b'\\') => s
+            .get(i + 1..i + 3)
             .and_then(|digits| test_rows::number(digits))
             .map_or(0, |n| (n % 256) as u8),
         Some(b) => *b,
@@ -159,7 +160,11 @@ fn came(s: &[u8], tag: u32) -> Option<Answer> {
         return None;
     }
     let read = buf.get(..count)?;
-    if tag == 14 { cell(read) } else { Some(line(read)) }
+    if tag == 14 {
+        cell(read)
+    } else {
+        Some(line(read))
+    }
 }
 
 // None where the row can't be read, or the reader's answer isn't the one that it expects. Rows of cells count as others.
