@@ -16,7 +16,5 @@ fn main(rt: HostRuntime) {
     let mut deck = Deck::new();
     let mut buf = [0u8; ROOM];
     let t = test_rows::replay::<ROW, _>(&rt, |s| judge::row(s, &mut deck, &mut buf));
-    test_rows::say(&rt, t.accepted, b" accepted, ");
-    test_rows::say(&rt, t.refused, b" refused, ");
-    test_rows::say(&rt, t.mismatches, b" mismatches\n");
+    let _ = println!(rt; "{} accepted, {} refused, {} mismatches", t.accepted, t.refused, t.mismatches);
 }

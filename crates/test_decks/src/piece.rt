@@ -31,7 +31,9 @@ pub(crate) fn add_text(s: &[u8], deck: &mut Deck) {
     if let Some(times) = times(s)
         && let Some(text) = text(s)
     {
-        deck.push_text(text, times);
+        for _ in 0..times {
+            deck.push_text(text);
+        }
     }
 }
 

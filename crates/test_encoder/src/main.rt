@@ -77,7 +77,5 @@ fn outcome(s: &[u8]) -> Option<Outcome> {
 
 fn main(rt: HostRuntime) {
     let t = test_rows::replay::<ROW, _>(&rt, |s| outcome(s).unwrap_or(Outcome::Mismatch));
-    test_rows::say(&rt, t.accepted, b" words, ");
-    test_rows::say(&rt, t.refused, b" refusals, ");
-    test_rows::say(&rt, t.mismatches, b" mismatches\n");
+    let _ = println!(rt; "{} words, {} refusals, {} mismatches", t.accepted, t.refused, t.mismatches);
 }

@@ -132,8 +132,7 @@ impl State {
         for w in [f.a, f.b, f.c, f.d] {
             let _ = rt.write_all(&w.to_be_bytes());
         }
-        let _ = rt.write_all(b": ");
-        test_rows::say(rt, self.agreed, b"\n");
+        let _ = println!(rt; ": {}", self.agreed);
     }
 
     // The case after a row. The first row that disagrees is a mismatch. The row that ends an answer counts for its family where no row

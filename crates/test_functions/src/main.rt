@@ -23,5 +23,5 @@ fn main(rt: HostRuntime) {
         |s| state.row(&rt, s, &mut buf, &mut labels, &mut jumps),
     );
     state.print_family(&rt);
-    test_rows::say(&rt, t.mismatches, b" mismatches\n");
+    let _ = println!(rt; "{} mismatches", t.mismatches);
 }

@@ -9,8 +9,12 @@ const ROW: usize = 128;
 
 fn main(rt: HostRuntime) {
     let t = test_rows::replay::<ROW, _>(&rt, row::outcome);
-    test_rows::say(&rt, t.accepted, b" accepted, ");
-    test_rows::say(&rt, t.refused, b" refused, ");
-    test_rows::say(&rt, t.others, b" cells, ");
-    test_rows::say(&rt, t.mismatches, b" mismatches\n");
+    let _ = println!(
+        rt;
+        "{} accepted, {} refused, {} cells, {} mismatches",
+        t.accepted,
+        t.refused,
+        t.others,
+        t.mismatches
+    );
 }

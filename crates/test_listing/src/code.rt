@@ -72,6 +72,8 @@ pub(crate) fn add_text(s: &[u8], code: &mut Code) -> Option<()> {
     if t.is_empty() || !fits(times, t.len(), code) {
         return None;
     }
-    code.push_text(t, times);
+    for _ in 0..times {
+        code.push_text(t);
+    }
     Some(())
 }

@@ -21,9 +21,13 @@ fn main(rt: HostRuntime) {
         &rt,
         |s| judge::row(s, &mut code, &mut text, &mut accepted),
     );
-    test_rows::say(&rt, t.accepted, b" words, ");
-    test_rows::say(&rt, t.refused, b" refusals, ");
-    test_rows::say(&rt, accepted.codes, b" codes, ");
-    test_rows::say(&rt, accepted.views, b" views, ");
-    test_rows::say(&rt, t.mismatches, b" mismatches\n");
+    let _ = println!(
+        rt;
+        "{} words, {} refusals, {} codes, {} views, {} mismatches",
+        t.accepted,
+        t.refused,
+        accepted.codes,
+        accepted.views,
+        t.mismatches
+    );
 }

@@ -16,3 +16,7 @@ all_of b s = list_all (λ c. eqb c b) s
 -- the bytes of a memory up to a place
 abbrev pub bytes_of : (memory : List ℕ) → (size : ℕ) → List ℕ
 bytes_of memory size = take size memory
+
+-- the byte that a character stands for: a tilde is a line's end
+abbrev pub plain_of : ℕ → ℕ
+plain_of b = cond (eqb b 126) 10 b

@@ -2,9 +2,9 @@
 // is about, and the count of rows.
 #![tactic(auto)]
 
-ghost use Rattle.std.specs.Prelude.{◌≡◌, ◌+◌, ◌^◌, ◌<◌, ◌≤◌, cond, eqb, ltb, [], ◌∷◌, ◌++◌};
+ghost use Rattle.std.specs.Prelude.{◌≡◌, ◌+◌, ◌^◌, ◌<◌, ◌≤◌, [], ◌∷◌, ◌++◌, take, map};
 ghost use Rattle.isa.specs.Immediate.{signed as signed_of};
-ghost use Rattle.test_rows.specs.Bytes.{word_of, all_of, bytes_of};
+ghost use Rattle.test_rows.specs.Bytes.{word_of, all_of, bytes_of, plain_of};
 ghost use Rattle.test_rows.specs.Count.{none_yet, counted_of};
 ghost use Rattle.test_rows.specs.Hex.{digit_of, number_from, column_of};
 
@@ -108,8 +108,7 @@ impl<const N: usize> Bytes<N> {
     }
 
     pub fn push(&mut self, b: u8)
-        ensures { bytes_of self.new.memory self.new.size
-            ≡ cond (ltb self.old.size N) (bytes_of self.old.memory self.old.size ++ b ∷ []) (bytes_of self.old.memory self.old.size) }
+        ensures { bytes_of self.new.memory self.new.size ≡ take N (bytes_of self.old.memory self.old.size ++ b ∷ []) }
     {
         if self.size < N {
             self.memory[self.size] = b;
@@ -117,19 +116,19 @@ impl<const N: usize> Bytes<N> {
         }
     }
 
-    // The bytes that characters stand for, so many times.
-    pub fn push_text(&mut self, s: &[u8], times: u32) {
-        for _ in 0..times {
-            for b in s {
-                self.push(plain(*b));
-            }
+    // The bytes that characters stand for.
+    pub fn push_text(&mut self, s: &[u8])
+        ensures { bytes_of self.new.memory self.new.size ≡ take N (bytes_of self.old.memory self.old.size ++ map plain_of s.now) }
+    {
+        for b in s {
+            self.push(plain(*b));
         }
     }
 }
 
 // The byte that a character stands for: a tilde is a line's end.
 pub fn plain(b: u8) -> u8
-    ensures { result ≡ cond (eqb b 126) 10 b }
+    ensures { result ≡ plain_of b }
 {
     if b == b'~' { b'\n' } else { b }
 }
@@ -177,12 +176,6 @@ impl Tally {
             Outcome::Mismatch => self.mismatches = self.mismatches.saturating_add(1),
         }
     }
-}
-
-// Prints a number, and what is counted by it. It promises nothing: no contract can say what is written.
-pub fn say(rt: &impl Print, n: u64, what: &[u8]) {
-    let _ = rt.print(n);
-    let _ = rt.write_all(what);
 }
 
 // One row more. A mismatch is printed: the row's number, and the row.
