@@ -16,5 +16,8 @@ fn main(rt: HostRuntime) {
     let mut deck = Deck::new();
     let mut buf = [0u8; ROOM];
     let t = test_rows::replay::<ROW, _>(&rt, |s| judge::row(s, &mut deck, &mut buf));
-    let _ = println!(rt; "{} accepted, {} refused, {} mismatches", t.accepted, t.refused, t.mismatches);
+    let _ = println!(rt;
+        "{} accepted, {} refused, {} mismatches",
+        t.accepted, t.refused, t.mismatches
+    );
 }

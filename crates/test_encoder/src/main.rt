@@ -77,5 +77,8 @@ fn outcome(s: &[u8]) -> Option<Outcome> {
 
 fn main(rt: HostRuntime) {
     let t = test_rows::replay::<ROW, _>(&rt, |s| outcome(s).unwrap_or(Outcome::Mismatch));
-    let _ = println!(rt; "{} words, {} refusals, {} mismatches", t.accepted, t.refused, t.mismatches);
+    let _ = println!(rt;
+        "{} words, {} refusals, {} mismatches",
+        t.accepted, t.refused, t.mismatches
+    );
 }

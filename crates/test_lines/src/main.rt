@@ -9,12 +9,8 @@ const ROW: usize = 128;
 
 fn main(rt: HostRuntime) {
     let t = test_rows::replay::<ROW, _>(&rt, row::outcome);
-    let _ = println!(
-        rt;
+    let _ = println!(rt;
         "{} accepted, {} refused, {} cells, {} mismatches",
-        t.accepted,
-        t.refused,
-        t.others,
-        t.mismatches
+        t.accepted, t.refused, t.others, t.mismatches
     );
 }

@@ -21,13 +21,8 @@ fn main(rt: HostRuntime) {
         &rt,
         |s| judge::row(s, &mut code, &mut text, &mut accepted),
     );
-    let _ = println!(
-        rt;
+    let _ = println!(rt;
         "{} words, {} refusals, {} codes, {} views, {} mismatches",
-        t.accepted,
-        t.refused,
-        accepted.codes,
-        accepted.views,
-        t.mismatches
+        t.accepted, t.refused, accepted.codes, accepted.views, t.mismatches
     );
 }
