@@ -1,2 +1,1 @@
 pub mod Masked
-pub mod Views

@@ -1,6 +1,7 @@
 -- What each order uses, beside its meaning and its code (document 01, "Numbers of refusal" and "Count").
-use Rattle.std.specs.Prelude.{Bool, true, ◌&&◌, cond, List, [], ◌∷◌, ℕ, eqb, ltb, get_or}
-use Rattle.std.proofs.Math.Option.{Option, some, none}
+use Rattle.std.specs.Prelude.{Bool, true, ◌&&◌, cond, List, [], ◌∷◌, ℕ, eqb, ltb, get_or, Option, Some, None}
+use Rattle.std.proofs.Math.Option as M
+use Rattle.std.proofs.Math.Option.{some, none}
 use Rattle.base.specs.Tests.{all}
 use Rattle.ast.specs.Count.{cell_count}
 use Rattle.ast.specs.Mask.{free, open_cell}
@@ -78,7 +79,7 @@ saves_hold mask o = all (free mask) (uses o).writes && operand_open mask (uses o
 -- ---- labels, and what a line counts for
 
 -- the label that is set
-abbrev pub label_set : Operand → Option ℕ
+abbrev pub label_set : Operand → M.Option ℕ
 label_set Nothing = none
 label_set (Loaded p i) = none
 label_set (Stored p i) = none
@@ -86,24 +87,28 @@ label_set (Constant k) = none
 label_set (GoneTo l) = none
 label_set (Set l) = some l
 
-abbrev pub sets : Order → Option ℕ
+abbrev pub sets : Order → M.Option ℕ
 sets o = label_set (uses o).operand
 
 -- 1 for an order, 0 for `label`
-abbrev pub weighs : (sets : Option ℕ) → ℕ
+abbrev pub weighs : (sets : M.Option ℕ) → ℕ
 weighs none = 1
 weighs (some l) = 0
 
--- ---- as the code has it: 0 for a register that it has not, 32 for one that it does not write
+-- ---- as the code has it: 0 for a register that it has not, and two places for those that it writes
+
+abbrev pub first_of : List ℕ → Option ℕ
+first_of [] = None
+first_of (r ∷ rs) = Some r
+
+abbrev pub second_of : List ℕ → Option ℕ
+second_of [] = None
+second_of (r ∷ rs) = first_of rs
 
 abbrev pub padded : Uses → View
 padded u =
     record {
-      a = get_or u.registers 0 0;
-      b = get_or u.registers 1 0;
-      c = get_or u.registers 2 0;
-      d = get_or u.registers 3 0;
-      written = get_or u.writes 0 32;
-      also = get_or u.writes 1 32;
+      registers = get_or u.registers 0 0 ∷ get_or u.registers 1 0 ∷ get_or u.registers 2 0 ∷ get_or u.registers 3 0 ∷ [];
+      writes = first_of u.writes ∷ second_of u.writes ∷ [];
       operand = u.operand;
     }

@@ -1,7 +1,7 @@
 // The vocabulary that deck reader, orders, frames and routine share, and what they ask of an order, of a mask and of line 1.
 #![tactic(auto)]
 
-ghost use Rattle.std.specs.Prelude.{◌≡◌, ◌≤◌, ◌<◌};
+ghost use Rattle.std.specs.Prelude.{◌≡◌, ◌≤◌, ◌<◌, [], ◌∷◌};
 ghost use Rattle.ast.specs.Count.{cell_count};
 ghost use Rattle.ast.specs.Mask.{in_mask, is_preserved, save_cell, saves, free, open_cell};
 ghost use Rattle.ast.specs.Counts.{prologue_holds, result_holds, epilogue_holds, cap_holds, counts_hold};
@@ -112,15 +112,11 @@ pub enum Operand {
     Set(u32),
 }
 
-// What an order uses: its registers, 0 where it has fewer than four; those that it writes, 32 where there are fewer than two.
+// What an order uses: its registers, 0 where it has fewer than four; those that it writes, at most two; its operand that is no register.
 #[derive(Clone, Copy)]
 pub struct View {
-    pub a: u32,
-    pub b: u32,
-    pub c: u32,
-    pub d: u32,
-    pub written: u32,
-    pub also: u32,
+    pub registers: [u32; 4],
+    pub writes: [Option<u32>; 2],
     pub operand: Operand,
 }
 
@@ -130,61 +126,34 @@ pub struct View {
 pub fn in_mask(mask: u32, r: u32) -> bool
     ensures { result ≡ in_mask mask r }
 {
-    if r >= 32 {
-        return false;
-    }
-    let h = mask >> r;
-    h % 2 == 1
+    r < 32 && (mask >> r) % 2 == 1
 }
 
 pub fn is_preserved(r: u32) -> bool
     ensures { result ≡ is_preserved r }
 {
-    if r < 8 {
-        return false;
-    }
-    if r <= 9 {
-        return true;
-    }
-    if r < 18 {
-        return false;
-    }
-    r <= 27
+    matches!(r, 8..=9 | 18..=27)
 }
 
 // f8, f9 go to stack cells 4, 5 and f18..f27 to 6..15.
 pub fn save_cell(r: u32) -> u32
     ensures { (result ≡ save_cell r) × (result ≤ r) }
 {
-    if r < 18 {
-        if r < 4 {
-            return 0;
-        }
-        return r - 4;
-    }
-    r - 12
+    if r < 18 { r.saturating_sub(4) } else { r - 12 }
 }
 
 // The mask has one of f8, f9, f18 to f27.
 pub fn saves_any(mask: u32) -> bool
     ensures { result ≡ saves mask }
 {
-    if mask / 0x100 % 4 != 0 {
-        return true;
-    }
-    mask / 0x40000 % 0x400 != 0
+    mask / 0x100 % 4 != 0 || mask / 0x40000 % 0x400 != 0
 }
 
 // A register that isn't preserved, or is in the mask. The number has a bit for each that isn't.
 pub fn is_free(mask: u32, r: u32) -> bool
     ensures { result ≡ free mask r }
 {
-    if r >= 32 {
-        return true;
-    }
-    let h = mask >> r;
-    let k = 0xf003fcffu32 >> r;
-    h % 2 + k % 2 != 0
+    r >= 32 || (mask >> r) % 2 + (0xf003fcffu32 >> r) % 2 != 0
 }
 
 // No saved register's cell.
@@ -192,20 +161,12 @@ pub fn is_open(mask: u32, p: Place, i: u32) -> bool
     ensures { result ≡ open_cell mask p i }
 {
     match p {
-        Place::Mem => true,
-        Place::Stack => {
-            if i < 4 {
-                return true;
-            }
-            if i <= 5 {
-                return !in_mask(mask, i + 4);
-            }
-            if i <= 15 {
-                return !in_mask(mask, i + 12);
-            }
-            true
-        }
-        Place::Param => true,
+        Place::Stack => match i {
+            4..=5 => !in_mask(mask, i + 4),
+            6..=15 => !in_mask(mask, i + 12),
+            _ => true,
+        },
+        Place::Mem | Place::Param => true,
     }
 }
 
@@ -214,16 +175,11 @@ pub fn is_open(mask: u32, p: Place, i: u32) -> bool
 pub fn cell_count(head: Head, p: Place) -> u64
     ensures { result ≡ cell_count head p }
 {
-    match p {
-        Place::Mem => head.states as u64 + head.obs as u64,
-        Place::Stack => head.cap as u64,
-        Place::Param => {
-            let f = head.frame;
-            match f {
-                Frame::Fast => 0,
-                Frame::Indirect => head.last as u64,
-            }
-        }
+    match (p, head.frame) {
+        (Place::Mem, _) => u64::from(head.states) + u64::from(head.obs),
+        (Place::Stack, _) => u64::from(head.cap),
+        (Place::Param, Frame::Fast) => 0,
+        (Place::Param, Frame::Indirect) => u64::from(head.last),
     }
 }
 
@@ -231,31 +187,20 @@ pub fn cell_count(head: Head, p: Place) -> u64
 pub fn prologue_holds(head: Head) -> bool
     ensures { result ≡ prologue_holds head }
 {
-    if head.cap > 4096 {
-        return false;
-    }
-    if head.states as u64 + head.obs as u64 > 4096 {
-        return false;
-    }
-    let f = head.frame;
-    match f {
-        Frame::Fast => head.states <= 8,
-        Frame::Indirect => head.last <= 4096,
-    }
+    head.cap <= 4096
+        && cell_count(head, Place::Mem) <= 4096
+        && match head.frame {
+            Frame::Fast => head.states <= 8,
+            Frame::Indirect => head.last <= 4096,
+        }
 }
 
 // A fast result cell is at most 255, and one of the cells.
 pub fn result_holds(head: Head) -> bool
     ensures { result ≡ result_holds head head.frame }
 {
-    let f = head.frame;
-    match f {
-        Frame::Fast => {
-            if head.last > 255 {
-                return false;
-            }
-            (head.last as u64) < head.states as u64 + head.obs as u64
-        }
+    match head.frame {
+        Frame::Fast => head.last <= 255 && u64::from(head.last) < cell_count(head, Place::Mem),
         Frame::Indirect => true,
     }
 }
@@ -263,44 +208,32 @@ pub fn result_holds(head: Head) -> bool
 pub fn epilogue_holds(head: Head) -> bool
     ensures { result ≡ epilogue_holds head }
 {
-    if prologue_holds(head) {
-        return result_holds(head);
-    }
-    false
+    prologue_holds(head) && result_holds(head)
 }
 
 // Cap at least 16 if the mask has a preserved register.
 pub fn cap_holds(head: Head) -> bool
     ensures { result ≡ cap_holds head }
 {
-    if head.cap >= 16 {
-        return true;
-    }
-    !saves_any(head.mask)
+    head.cap >= 16 || !saves_any(head.mask)
 }
 
 // All counts of line 1.
+#[tactic(auto, unfolding(crate::specs::Counts::counts_hold))]
 pub fn counts_hold(head: Head) -> bool
     ensures { result ≡ counts_hold head }
 {
-    if epilogue_holds(head) {
-        return cap_holds(head);
-    }
-    false
+    epilogue_holds(head) && cap_holds(head)
 }
 
 // ---- what an order uses
 
-fn viewed(a: u32, b: u32, c: u32, d: u32, written: u32, also: u32, operand: Operand) -> View
-    ensures { result ≡ record { a = a; b = b; c = c; d = d; written = written; also = also; operand = operand } }
+fn viewed(registers: [u32; 4], writes: [Option<u32>; 2], operand: Operand) -> View
+    ensures { result ≡ record { registers = registers; writes = writes; operand = operand } }
 {
     View {
-        a,
-        b,
-        c,
-        d,
-        written,
-        also,
+        registers,
+        writes,
         operand,
     }
 }
@@ -308,35 +241,34 @@ fn viewed(a: u32, b: u32, c: u32, d: u32, written: u32, also: u32, operand: Oper
 fn unary_uses(k: Unary, d: u32, s: u32) -> View
     ensures { result ≡ padded (uses_of (Order.Unary k d s)) }
 {
-    match k {
-        Unary::Fmov => {
-            if d == s {
-                return viewed(d, s, 0, 0, 32, 32, Operand::Nothing);
-            }
-            viewed(d, s, 0, 0, d, 32, Operand::Nothing)
-        }
-        Unary::Recip => viewed(d, s, 0, 0, 10, d, Operand::Nothing),
-        Unary::Round => viewed(d, s, 0, 0, d, 32, Operand::Nothing),
-        Unary::Floor => viewed(d, s, 0, 0, d, 32, Operand::Nothing),
-        Unary::Not => viewed(d, s, 0, 0, d, 32, Operand::Nothing),
-    }
+    let writes = match k {
+        Unary::Fmov if d == s => [None, None],
+        Unary::Recip => [Some(10), Some(d)],
+        _ => [Some(d), None],
+    };
+    viewed([d, s, 0, 0], writes, Operand::Nothing)
 }
 
 // The one place where the code goes by an order's kinds to say what it uses.
 pub fn uses(o: Order) -> View
     ensures { result ≡ padded (uses_of o) }
 {
+    let none = Operand::Nothing;
     match o {
         Order::Unary(k, d, s) => unary_uses(k, d, s),
-        Order::Scratched(_, d, s, t) => viewed(d, s, t, 0, t, d, Operand::Nothing),
-        Order::Binary(_, d, a, b) => viewed(d, a, b, 0, d, 32, Operand::Nothing),
-        Order::Fused(_, d, a, b, c) => viewed(d, a, b, c, d, 32, Operand::Nothing),
-        Order::Ifelse(d, a, b, i) => viewed(d, a, b, 0, d, 32, Operand::Loaded(Place::Stack, i)),
-        Order::LoadConst(d, k) => viewed(d, 0, 0, 0, d, 32, Operand::Constant(k)),
-        Order::Load(d, p, i) => viewed(d, 0, 0, 0, d, 32, Operand::Loaded(p, i)),
-        Order::Save(s, p, i) => viewed(s, 0, 0, 0, 32, 32, Operand::Stored(p, i)),
-        Order::BranchIf(c, l, _) => viewed(c, 0, 0, 0, 32, 32, Operand::GoneTo(l)),
-        Order::SetLabel(l) => viewed(0, 0, 0, 0, 32, 32, Operand::Set(l)),
+        Order::Scratched(_, d, s, t) => viewed([d, s, t, 0], [Some(t), Some(d)], none),
+        Order::Binary(_, d, a, b) => viewed([d, a, b, 0], [Some(d), None], none),
+        Order::Fused(_, d, a, b, c) => viewed([d, a, b, c], [Some(d), None], none),
+        Order::Ifelse(d, a, b, i) => viewed(
+            [d, a, b, 0],
+            [Some(d), None],
+            Operand::Loaded(Place::Stack, i),
+        ),
+        Order::LoadConst(d, k) => viewed([d, 0, 0, 0], [Some(d), None], Operand::Constant(k)),
+        Order::Load(d, p, i) => viewed([d, 0, 0, 0], [Some(d), None], Operand::Loaded(p, i)),
+        Order::Save(s, p, i) => viewed([s, 0, 0, 0], [None, None], Operand::Stored(p, i)),
+        Order::BranchIf(c, l, _) => viewed([c, 0, 0, 0], [None, None], Operand::GoneTo(l)),
+        Order::SetLabel(l) => viewed([0, 0, 0, 0], [None, None], Operand::Set(l)),
     }
 }
 
@@ -344,32 +276,17 @@ pub fn uses(o: Order) -> View
 pub fn registers_fit(o: Order) -> bool
     ensures { result ≡ registers_fit (uses_of o).registers }
 {
-    let u = uses(o);
-    if u.a >= 32 {
-        return false;
-    }
-    if u.b >= 32 {
-        return false;
-    }
-    if u.c >= 32 {
-        return false;
-    }
-    u.d < 32
+    let [a, b, c, d] = uses(o).registers;
+    a < 32 && b < 32 && c < 32 && d < 32
 }
 
 // The index of the cell that an order names is below its count.
 pub fn index_holds(head: Head, o: Order) -> bool
     ensures { result ≡ index_holds head o }
 {
-    let u = uses(o);
-    let x = u.operand;
-    match x {
-        Operand::Loaded(p, i) => (i as u64) < cell_count(head, p),
-        Operand::Stored(p, i) => (i as u64) < cell_count(head, p),
-        Operand::Nothing => true,
-        Operand::Constant(_) => true,
-        Operand::GoneTo(_) => true,
-        Operand::Set(_) => true,
+    match uses(o).operand {
+        Operand::Loaded(p, i) | Operand::Stored(p, i) => u64::from(i) < cell_count(head, p),
+        _ => true,
     }
 }
 
@@ -379,11 +296,7 @@ fn stores_open(mask: u32, x: Operand) -> bool
 {
     match x {
         Operand::Stored(p, i) => is_open(mask, p, i),
-        Operand::Loaded(_, _) => true,
-        Operand::Nothing => true,
-        Operand::Constant(_) => true,
-        Operand::GoneTo(_) => true,
-        Operand::Set(_) => true,
+        _ => true,
     }
 }
 
@@ -392,12 +305,8 @@ pub fn saves_hold(mask: u32, o: Order) -> bool
     ensures { result ≡ saves_hold mask o }
 {
     let u = uses(o);
-    if !is_free(mask, u.written) {
-        return false;
-    }
-    if !is_free(mask, u.also) {
-        return false;
-    }
-    let x = u.operand;
-    stores_open(mask, x)
+    let [first, second] = u.writes;
+    first.is_none_or(|r| is_free(mask, r))
+        && second.is_none_or(|r| is_free(mask, r))
+        && stores_open(mask, u.operand)
 }

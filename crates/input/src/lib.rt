@@ -13,26 +13,18 @@ pub const FILE: usize = 65537;
 
 const BLOCK: usize = 65536;
 
-// How many bytes were read, or that a read failed.
-#[derive(Clone, Copy)]
-pub enum Input {
-    Read(usize),
-    Failed,
-}
-
-// What the reader has, to its end or until buf is full.
-pub fn read(reader: &mut impl io::Read, buf: &mut [u8]) -> Input
+// What the reader has, to its end or until buf is full; how many bytes were read.
+pub fn read(reader: &mut impl io::Read, buf: &mut [u8]) -> io::Result<usize>
     ensures { Within (length buf.new) result }
 {
     let mut n = 0;
     while n < buf.len() {
-        match reader.read(&mut buf[n..]) {
-            Ok(0) => return Input::Read(n),
-            Ok(k) => n += k,
-            Err(_) => return Input::Failed,
+        match reader.read(&mut buf[n..])? {
+            0 => break,
+            k => n += k,
         }
     }
-    Input::Read(n)
+    Ok(n)
 }
 
 // Reads until buf is full, the reader ends or a read fails; how many bytes were read.
@@ -42,9 +34,8 @@ pub fn read_full(reader: &mut impl io::Read, buf: &mut [u8]) -> usize
     let mut n = 0;
     while n < buf.len() {
         match reader.read(&mut buf[n..]) {
-            Ok(0) => return n,
+            Ok(0) | Err(_) => break,
             Ok(k) => n += k,
-            Err(_) => return n,
         }
     }
     n
@@ -58,9 +49,10 @@ fn skip_block(reader: &mut impl io::Read) -> bool {
 
 // The rest of a file too long, so that its writer isn't cut off. After 64 MiB it is. It answers nothing, so there is nothing to promise.
 pub fn skip_rest(reader: &mut impl io::Read) {
-    let mut turns: u32 = 1024;
-    while turns > 0 && skip_block(reader) {
-        turns -= 1;
+    for _ in 0..1024 {
+        if !skip_block(reader) {
+            break;
+        }
     }
 }
 
@@ -71,13 +63,13 @@ pub fn with_file<F: FnOnce(&[u8])>(rt: &HostRuntime, unread: &[u8], f: F)
     let mut file = [0u8; FILE];
     let mut stdin = rt.stdin();
     match read(&mut stdin, &mut file) {
-        Input::Read(n) => {
+        Ok(n) => {
             f(&file[..n]);
             if n == FILE {
                 skip_rest(&mut stdin);
             }
         }
-        Input::Failed => {
+        Err(_) => {
             let _ = rt.stderr().write_all(unread);
         }
     }

@@ -1,22 +1,18 @@
 // A row's columns: a letter, then numbers of eight hexadecimal digits, each behind a space.
-use test_rows::Hex;
+ghost use Rattle.std.specs.Prelude.{◌≤◌};
 
-// The last column ends the row.
-fn end(i: usize) -> u8 {
-    if i == 13 { b'\n' } else { b' ' }
-}
-
-// The number in a column; where none can be read, the greatest, which no row has.
-pub(crate) fn column(s: &[u8], i: usize) -> u32 {
+// The number in a column. The last one ends the row.
+pub(crate) fn column(s: &[u8], i: usize) -> Option<u32> {
     if i > 13 {
-        return 0xffffffff;
+        return None;
     }
-    match test_rows::column(s, 2 + 9 * i, 10 + 9 * i, end(i)) {
-        Hex::Is(n) => n,
-        Hex::Malformed => 0xffffffff,
-    }
+    let end = if i == 13 { b'\n' } else { b' ' };
+    test_rows::column(s, 2 + 9 * i, 10 + 9 * i, end)
 }
 
-pub(crate) fn letter(s: &[u8]) -> u8 {
-    if s.len() == 0 { 0 } else { s[0] }
+// The number of 64 bits in two columns, the high half first.
+pub(crate) fn wide(s: &[u8], i: usize) -> Option<u64>
+    requires { i ≤ 12 }
+{
+    Some(u64::from(column(s, i)?) * 0x100000000 + u64::from(column(s, i + 1)?))
 }

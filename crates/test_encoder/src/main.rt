@@ -9,7 +9,7 @@ ghost use Rattle.std.specs.Prelude.{◌≡◌};
 ghost use Rattle.test_encoder.specs.Inner.Row.{agreed};
 
 use encoder::Encoded;
-use test_rows::{Hex, Outcome, Tally};
+use test_rows::{Outcome, column};
 
 // Bytes of a row.
 const ROW: usize = 66;
@@ -19,17 +19,12 @@ fn expectation(s: &[u8]) -> Option<Result<u32, u32>> {
     if s.len() != ROW {
         return None;
     }
-    let Hex::Is(n) = test_rows::column(s, 57, 65, b'\n') else {
-        return None;
-    };
-    let kind = &s[49..57];
-    if kind == b"word    ".as_slice() {
-        return Some(Ok(n));
+    let n = column(s, 57, 65, b'\n')?;
+    match &s[49..57] {
+        b"word    " => Some(Ok(n)),
+        b"refused " => Some(Err(n)),
+        _ => None,
     }
-    if kind == b"refused ".as_slice() {
-        return Some(Err(n));
-    }
-    None
 }
 
 // The encoder's answer is the one that the row expects: the same word, or the same refusal at place 0.
@@ -43,58 +38,32 @@ fn agrees(got: Encoded, expected: Result<u32, u32>) -> bool
     }
 }
 
-// The encoder's answer to a row's form and operands, where the row can be read. (The name, with the space behind it, is compared whole.)
+// The encoder's answer to a row's form and operands, where there is such a form. (The name, with the space behind it, is compared whole.)
 fn answer(s: &[u8]) -> Option<Encoded> {
-    let Hex::Is(f) = test_rows::column(s, 0, 2, b' ') else {
-        return None;
-    };
-    let Hex::Is(a) = test_rows::column(s, 13, 21, b' ') else {
-        return None;
-    };
-    let Hex::Is(b) = test_rows::column(s, 22, 30, b' ') else {
-        return None;
-    };
-    let Hex::Is(c) = test_rows::column(s, 31, 39, b' ') else {
-        return None;
-    };
-    let Hex::Is(d) = test_rows::column(s, 40, 48, b' ') else {
-        return None;
-    };
-    if s.len() < 13 {
-        return None;
-    }
-    form::encoded(f, &s[3..13], a, b, c, d)
+    let form = column(s, 0, 2, b' ')?;
+    let a = column(s, 13, 21, b' ')?;
+    let b = column(s, 22, 30, b' ')?;
+    let c = column(s, 31, 39, b' ')?;
+    let d = column(s, 40, 48, b' ')?;
+    form::encoded(form, s.get(3..13)?, a, b, c, d)
 }
 
-fn outcome(s: &[u8]) -> Outcome {
-    match (expectation(s), answer(s)) {
-        (Some(expected), Some(got)) if agrees(got, expected) => match expected {
-            Ok(_) => Outcome::Accepted,
-            Err(_) => Outcome::Refused,
-        },
-        _ => Outcome::Mismatch,
+// None where the row can't be read, or the encoder's answer isn't the one that it expects.
+fn outcome(s: &[u8]) -> Option<Outcome> {
+    let got = answer(s)?;
+    if !agrees(got, expectation(s)?) {
+        return None;
     }
-}
-
-// The whole of standard input, row by row. Nothing says that it ends, so the loop counts its turns.
-fn replay(rt: &(impl Print + Input)) -> Tally {
-    let mut list = rt.reader();
-    let mut t = test_rows::start();
-    for _ in 0..u64::MAX {
-        let mut row = [0u8; ROW];
-        let n = input::read_full(&mut list, &mut row);
-        if n == 0 {
-            return t;
-        }
-        let s = &row[..n];
-        t = test_rows::counted(rt, t, outcome(s), s);
-    }
-    t
+    Some(match got {
+        Ok(_) => Outcome::Accepted,
+        Err(_) => Outcome::Refused,
+    })
 }
 
 fn main(rt: HostRuntime) {
-    let t = replay(&rt);
-    test_rows::say(&rt, t.accepted, b" words, ");
-    test_rows::say(&rt, t.refused, b" refusals, ");
-    test_rows::say(&rt, t.mismatches, b" mismatches\n");
+    let t = test_rows::replay::<ROW, _>(&rt, |s| outcome(s).unwrap_or(Outcome::Mismatch));
+    let _ = println!(rt;
+        "{} words, {} refusals, {} mismatches",
+        t.accepted, t.refused, t.mismatches
+    );
 }

@@ -5,7 +5,7 @@ use assembler::{Aligned, Answer, Asm, EmitResult, Fault, JumpKind, Jumps, Labels
 use ast::Constant;
 use refusal::Refusal;
 
-// What no row expects.
+// What no row expects. It stays an answer: a row that names no call is told at the row of its answer, as every refusal is.
 pub(crate) fn unknown(asm: Asm) -> EmitResult {
     EmitResult {
         asm,
@@ -29,19 +29,16 @@ fn repeat(
         asm,
         answer: Answer::Accepted,
     };
-    let mut i = 0;
-    while i < n {
+    for _ in 0..n {
         let a = d.asm;
         d = assembler::place(p, t, 0, buf, labels, jumps, a);
-        i += 1;
     }
     d
 }
 
 // How often: a pad and `jumps` say it.
 fn times(r: Row) -> u32 {
-    let k = r.kind;
-    match k {
+    match r.kind {
         0x17 | 0x18 => r.a,
         _ => 1,
     }
@@ -49,8 +46,7 @@ fn times(r: Row) -> u32 {
 
 // A pad is zero words.
 fn plan(r: Row) -> Plan {
-    let k = r.kind;
-    match k {
+    match r.kind {
         0x17 => Plan {
             n: 1,
             fault: Fault::Nothing,
@@ -61,8 +57,7 @@ fn plan(r: Row) -> Plan {
 }
 
 fn tail(r: Row) -> Tail {
-    let k = r.kind;
-    match k {
+    match r.kind {
         0x18 => Tail::One(JumpKind::Beq, 0, 0),
         0x19 => Tail::One(JumpKind::Beq, r.a, 0),
         0x1a => Tail::One(JumpKind::Bne, r.a, 0),
@@ -96,14 +91,13 @@ fn finishing(
 }
 
 // A number of 64 bits from its halves, the low one first.
-fn quad(low: u32, high: u32) -> u64 {
-    (high as u64) * 4294967296 + low as u64
+pub(crate) fn quad(low: u32, high: u32) -> u64 {
+    u64::from(high) << 32 | u64::from(low)
 }
 
 // A raw word, or a whole number as a float.
 fn constant(r: Row) -> Constant {
-    let k = r.kind;
-    match k {
+    match r.kind {
         0x13 => Constant::Bits(quad(r.b, r.c)),
         _ => Constant::Float(test_rows::signed(r.b) as f64),
     }
@@ -190,8 +184,8 @@ fn answered(
 
 fn aligned(n: u32, c: Case) -> Case {
     match assembler::align_stack(n) {
-        Aligned::Size(m) => crate::case::valued(c, m),
-        Aligned::Refused(why, place) => crate::case::refused(c, refusal::number(why), place),
+        Aligned::Size(m) => c.valued(m),
+        Aligned::Refused(why, place) => c.refused(why, place),
     }
 }
 
@@ -199,12 +193,9 @@ fn aligned(n: u32, c: Case) -> Case {
 
 // Label l has had n jumps made to it: the high half of its entry. Its place stays.
 fn lend_number(l: u32, n: u32, labels: &mut Labels) {
-    let i = l as usize;
-    if assembler::LABELS <= i {
-        return;
+    if let Some(e) = labels.get_mut(l as usize) {
+        *e = quad((*e % 4294967296) as u32, n);
     }
-    let e = labels[i];
-    labels[i] = quad((e % 4294967296) as u32, n);
 }
 
 pub(crate) fn by_kind(
@@ -214,16 +205,13 @@ pub(crate) fn by_kind(
     jumps: &mut Jumps,
     c: Case,
 ) -> Case {
-    if r.kind == 0x16 {
-        return aligned(r.a, c);
+    match r.kind {
+        0x16 => aligned(r.a, c),
+        0x1d => {
+            lend_number(r.a, r.b, labels);
+            c
+        }
+        0x1e => c.lent(crate::row::record(r)),
+        _ => c.done(answered(r, buf, labels, jumps, c.asm)),
     }
-    if r.kind == 0x1d {
-        lend_number(r.a, r.b, labels);
-        return c;
-    }
-    if r.kind == 0x1e {
-        return crate::case::lent(c, crate::row::record(r));
-    }
-    let asm = c.asm;
-    crate::case::done(c, answered(r, buf, labels, jumps, asm))
 }

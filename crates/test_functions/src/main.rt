@@ -13,27 +13,15 @@ use judge::State;
 // Bytes of a row.
 const ROW: usize = 39;
 
-// The whole of standard input, row by row. Nothing says that it ends, so the loop counts its turns.
-fn replay(rt: &(impl Print + Input)) -> State {
+fn main(rt: HostRuntime) {
     let mut buf = [0u8; 65536];
     let mut labels = [0u64; assembler::LABELS];
     let mut jumps = [0u32; assembler::JUMPS];
-    let mut list = rt.reader();
-    let mut t = judge::start();
-    for _ in 0..u64::MAX {
-        let mut row = [0u8; ROW];
-        let n = input::read_full(&mut list, &mut row);
-        if n == 0 {
-            return t;
-        }
-        t = judge::row(rt, t, &row[..n], &mut buf, &mut labels, &mut jumps);
-    }
-    t
-}
-
-fn main(rt: HostRuntime) {
-    let t = replay(&rt);
-    let sum = t.tally;
-    judge::print_family(&rt, t.family, sum.accepted);
-    test_rows::say(&rt, sum.mismatches, b" mismatches\n");
+    let mut state = State::start();
+    let t = test_rows::replay::<ROW, _>(
+        &rt,
+        |s| state.row(&rt, s, &mut buf, &mut labels, &mut jumps),
+    );
+    state.print_family(&rt);
+    let _ = println!(rt; "{} mismatches", t.mismatches);
 }

@@ -5,12 +5,6 @@ use ast::{Binary, Frame, Fused, Head, Order, Place, Scratched, Unary};
 
 // ---- numbers: each shape has a block of its own
 
-#[derive(Clone, Copy)]
-pub enum Numbered {
-    Is(Order),
-    Nothing,
-}
-
 fn unary_at(k: u32) -> Unary {
     match k {
         0x30 => Unary::Fmov,
@@ -59,21 +53,21 @@ fn place_at(k: u32) -> Place {
     }
 }
 
-fn order(r: Row) -> Numbered {
+fn order(r: Row) -> Option<Order> {
     let k = r.kind;
-    match k {
-        0x30..=0x34 => Numbered::Is(Order::Unary(unary_at(k), r.a, r.b)),
-        0x40..=0x41 => Numbered::Is(Order::Scratched(scratched_at(k), r.a, r.b, r.c)),
-        0x50..=0x58 => Numbered::Is(Order::Binary(binary_at(k), r.a, r.b, r.c)),
-        0x60..=0x63 => Numbered::Is(Order::Fused(fused_at(k), r.a, r.b, r.c, r.d)),
-        0x70 => Numbered::Is(Order::Ifelse(r.a, r.b, r.c, r.d)),
-        0x71 => Numbered::Is(Order::LoadConst(r.a, r.b)),
-        0x72 => Numbered::Is(Order::BranchIf(r.a, r.b, r.c != 0)),
-        0x73 => Numbered::Is(Order::SetLabel(r.a)),
-        0x78..=0x7a => Numbered::Is(Order::Load(r.a, place_at(k), r.b)),
-        0x7b..=0x7d => Numbered::Is(Order::Save(r.a, place_at(k), r.b)),
-        _ => Numbered::Nothing,
-    }
+    Some(match k {
+        0x30..=0x34 => Order::Unary(unary_at(k), r.a, r.b),
+        0x40..=0x41 => Order::Scratched(scratched_at(k), r.a, r.b, r.c),
+        0x50..=0x58 => Order::Binary(binary_at(k), r.a, r.b, r.c),
+        0x60..=0x63 => Order::Fused(fused_at(k), r.a, r.b, r.c, r.d),
+        0x70 => Order::Ifelse(r.a, r.b, r.c, r.d),
+        0x71 => Order::LoadConst(r.a, r.b),
+        0x72 => Order::BranchIf(r.a, r.b, r.c != 0),
+        0x73 => Order::SetLabel(r.a),
+        0x78..=0x7a => Order::Load(r.a, place_at(k), r.b),
+        0x7b..=0x7d => Order::Save(r.a, place_at(k), r.b),
+        _ => return None,
+    })
 }
 
 // ---- by name
@@ -223,7 +217,7 @@ pub(crate) fn ordered(
     jumps: &mut Jumps,
     asm: Asm,
 ) -> EmitResult {
-    let Numbered::Is(o) = order(r) else {
+    let Some(o) = order(r) else {
         return crate::call::unknown(asm);
     };
     if r.a % 2 == 0 {

@@ -1,6 +1,6 @@
 // A row: its kind and four numbers, in hexadecimal digits.
 use assembler::Asm;
-use test_rows::Hex;
+use test_rows::column;
 
 #[derive(Clone, Copy)]
 pub struct Row {
@@ -11,29 +11,14 @@ pub struct Row {
     pub d: u32,
 }
 
-#[derive(Clone, Copy)]
-pub enum Read {
-    Is(Row),
-    Malformed,
-}
-
-pub(crate) fn of(s: &[u8]) -> Read {
-    let Hex::Is(kind) = test_rows::column(s, 0, 2, b' ') else {
-        return Read::Malformed;
-    };
-    let Hex::Is(a) = test_rows::column(s, 3, 11, b' ') else {
-        return Read::Malformed;
-    };
-    let Hex::Is(b) = test_rows::column(s, 12, 20, b' ') else {
-        return Read::Malformed;
-    };
-    let Hex::Is(c) = test_rows::column(s, 21, 29, b' ') else {
-        return Read::Malformed;
-    };
-    let Hex::Is(d) = test_rows::column(s, 30, 38, b'\n') else {
-        return Read::Malformed;
-    };
-    Read::Is(Row { kind, a, b, c, d })
+pub(crate) fn of(s: &[u8]) -> Option<Row> {
+    Some(Row {
+        kind: column(s, 0, 2, b' ')?,
+        a: column(s, 3, 11, b' ')?,
+        b: column(s, 12, 20, b' ')?,
+        c: column(s, 21, 29, b' ')?,
+        d: column(s, 30, 38, b'\n')?,
+    })
 }
 
 // Length, jumps and the closed mark of a row.

@@ -1,10 +1,10 @@
 // One row: the line it holds, what the reader answers, and what the row expects.
 ghost use Rattle.std.specs.Prelude.{◌≤◌};
 
-use ast::{Binary, Constant, Frame, Fused, Head, Order, Place, Scratched, Unary};
+use ast::{Constant, Head, Order};
 use deck::Line;
 use refusal::Refusal;
-use test_rows::{Hex, Outcome};
+use test_rows::Outcome;
 
 // Bytes in front of a row's line, and room for the line.
 const FRONT: usize = 48;
@@ -15,98 +15,40 @@ const ROOM: usize = 80;
 #[derive(Clone, Copy, PartialEq, Eq)]
 struct Answer {
     tag: u32,
-    a: u32,
-    b: u32,
-    c: u32,
-    d: u32,
-    e: u32,
+    numbers: [u32; 5],
     last: u64,
-}
-
-fn answer_of(tag: u32, a: u32, b: u32, c: u32, d: u32, e: u32, last: u64) -> Answer {
-    Answer {
-        tag,
-        a,
-        b,
-        c,
-        d,
-        e,
-        last,
-    }
 }
 
 // ---- answers as numbers
 
-fn unary(u: Unary) -> u32 {
-    match u {
-        Unary::Fmov => 0,
-        Unary::Recip => 1,
-        Unary::Round => 2,
-        Unary::Floor => 3,
-        Unary::Not => 4,
-    }
-}
-
-fn scratched(u: Scratched) -> u32 {
-    match u {
-        Scratched::Sign => 0,
-        Scratched::Frac => 1,
-    }
-}
-
-fn binary(u: Binary) -> u32 {
-    match u {
-        Binary::Minus => 0,
-        Binary::Times => 1,
-        Binary::Divide => 2,
-        Binary::Gt => 3,
-        Binary::Neq => 4,
-        Binary::And => 5,
-        Binary::Andnot => 6,
-        Binary::Or => 7,
-        Binary::Xor => 8,
-    }
-}
-
-fn fused(u: Fused) -> u32 {
-    match u {
-        Fused::MulAdd => 0,
-        Fused::MulSub => 1,
-        Fused::NegMulAdd => 2,
-        Fused::NegMulSub => 3,
-    }
-}
-
-fn place(p: Place) -> u32 {
-    match p {
-        Place::Mem => 0,
-        Place::Stack => 1,
-        Place::Param => 2,
+fn told(tag: u32, numbers: [u32; 5]) -> Answer {
+    Answer {
+        tag,
+        numbers,
+        last: 0,
     }
 }
 
 fn order(o: Order) -> Answer {
     match o {
-        Order::Unary(u, d, s) => answer_of(2, unary(u), d, s, 0, 0, 0),
-        Order::Scratched(u, d, s, t) => answer_of(3, scratched(u), d, s, t, 0, 0),
-        Order::Binary(u, d, s, t) => answer_of(4, binary(u), d, s, t, 0, 0),
-        Order::Fused(u, d, s, t, v) => answer_of(5, fused(u), d, s, t, v, 0),
-        Order::Ifelse(d, s, t, i) => answer_of(6, d, s, t, i, 0, 0),
-        Order::LoadConst(d, k) => answer_of(7, d, k, 0, 0, 0, 0),
-        Order::Load(d, p, i) => answer_of(8, d, place(p), i, 0, 0, 0),
-        Order::Save(s, p, i) => answer_of(9, s, place(p), i, 0, 0, 0),
-        Order::BranchIf(c, l, e) => answer_of(10, c, l, u32::from(e), 0, 0, 0),
-        Order::SetLabel(l) => answer_of(11, l, 0, 0, 0, 0, 0),
+        Order::Unary(u, d, s) => told(2, [u as u32, d, s, 0, 0]),
+        Order::Scratched(u, d, s, t) => told(3, [u as u32, d, s, t, 0]),
+        Order::Binary(u, d, s, t) => told(4, [u as u32, d, s, t, 0]),
+        Order::Fused(u, d, s, t, v) => told(5, [u as u32, d, s, t, v]),
+        Order::Ifelse(d, s, t, i) => told(6, [d, s, t, i, 0]),
+        Order::LoadConst(d, k) => told(7, [d, k, 0, 0, 0]),
+        Order::Load(d, p, i) => told(8, [d, p as u32, i, 0, 0]),
+        Order::Save(s, p, i) => told(9, [s, p as u32, i, 0, 0]),
+        Order::BranchIf(c, l, e) => told(10, [c, l, e as u32, 0, 0]),
+        Order::SetLabel(l) => told(11, [l, 0, 0, 0, 0]),
     }
 }
 
 fn head(h: Head) -> Answer {
-    let f = h.frame;
-    let k = match f {
-        Frame::Fast => 0,
-        Frame::Indirect => 1,
-    };
-    answer_of(1, k, h.cap, h.states, h.obs, h.last, h.mask as u64)
+    Answer {
+        last: u64::from(h.mask),
+        ..told(1, [h.frame as u32, h.cap, h.states, h.obs, h.last])
+    }
 }
 
 // A NaN has no bits of its own; no line gives one.
@@ -119,9 +61,13 @@ fn bits(x: f64) -> u64 {
 }
 
 fn constant(c: Constant) -> Answer {
-    match c {
-        Constant::Float(x) => answer_of(12, 0, 0, 0, 0, 0, bits(x)),
-        Constant::Bits(n) => answer_of(13, 0, 0, 0, 0, 0, n),
+    let (tag, last) = match c {
+        Constant::Float(x) => (12, bits(x)),
+        Constant::Bits(n) => (13, n),
+    };
+    Answer {
+        last,
+        ..told(tag, [0; 5])
     }
 }
 
@@ -134,75 +80,54 @@ fn line(s: &[u8]) -> Answer {
         Ok(Line::Head(h)) => head(h),
         Ok(Line::Order(o)) => order(o),
         Ok(Line::Constant(c)) => constant(c),
-        Err(r) => answer_of(0, refusal::number(r) as u32, 0, 0, 0, 0, 0),
+        Err(r) => told(0, [refusal::number(r) as u32, 0, 0, 0, 0]),
     }
 }
 
-// Whether the cell of an order's line is within its count, by a head's line in front of it.
-fn index_holds(s: &[u8]) -> Option<bool> {
+// A head's line and an order's: is the cell within its count.
+fn cell(s: &[u8]) -> Option<Answer> {
     let e = text::line_end(s, 0);
-    if e > s.len() {
+    let Ok(Line::Head(h)) = deck::read_line(true, s.get(..e)?) else {
         return None;
-    }
-    match (
-        deck::read_line(true, &s[..e]),
-        deck::read_line(false, &s[e..]),
-    ) {
-        (Ok(Line::Head(h)), Ok(Line::Order(o))) => Some(ast::index_holds(h, o)),
-        _ => None,
-    }
-}
-
-fn cell(s: &[u8]) -> Answer {
-    match index_holds(s) {
-        Some(holds) => answer_of(14, u32::from(holds), 0, 0, 0, 0, 0),
-        None => answer_of(0, 0, 0, 0, 0, 0, 0),
-    }
+    };
+    let Ok(Line::Order(o)) = deck::read_line(false, &s[e..]) else {
+        return None;
+    };
+    Some(told(14, [ast::index_holds(h, o) as u32, 0, 0, 0, 0]))
 }
 
 // ---- rows
 
-// The number in a column; where none can be read, the greatest, which no row has.
-fn number(s: &[u8], a: usize, e: usize) -> u32 {
-    match test_rows::column(s, a, e, b' ') {
-        Hex::Is(n) => n,
-        Hex::Malformed => 0xffffffff,
-    }
+// The number in a column.
+fn number(s: &[u8], a: usize, e: usize) -> Option<u32> {
+    test_rows::column(s, a, e, b' ')
 }
 
-// What the row expects. Where its last number cannot be read, its tag is one that no answer has.
-fn expected(s: &[u8]) -> Answer {
-    if s.len() < FRONT {
-        return answer_of(255, 0, 0, 0, 0, 0, 0);
-    }
-    let Some(last) = text::read_word(&s[28..44]) else {
-        return answer_of(255, 0, 0, 0, 0, 0, 0);
-    };
-    answer_of(
-        number(s, 0, 2),
-        number(s, 3, 7),
-        number(s, 8, 12),
-        number(s, 13, 17),
-        number(s, 18, 22),
-        number(s, 23, 27),
+// What the row expects.
+fn expected(s: &[u8]) -> Option<Answer> {
+    let last = text::read_word(s.get(28..44)?)?;
+    Some(Answer {
+        tag: number(s, 0, 2)?,
+        numbers: [
+            number(s, 3, 7)?,
+            number(s, 8, 12)?,
+            number(s, 13, 17)?,
+            number(s, 18, 22)?,
+            number(s, 23, 27)?,
+        ],
         last,
-    )
+    })
 }
 
 // The byte at place i: its own, or the one that the two digits behind a backslash spell.
 fn byte_at(s: &[u8], i: usize) -> u8 {
-    if i >= s.len() {
-        return 0;
-    }
-    if s[i] != b'\\' {
-        return s[i];
-    }
-    if s.len() - i < 3 {
-        return 0;
-    }
-    match test_rows::number(&s[i + 1..i + 3]) {
-        Hex::Is(n) => (n % 256) as u8,
-        Hex::Malformed => 0,
+    match s.get(i) {
+        Some(b'\\') => s
+            .get(i + 1..i + 3)
+            .and_then(|digits| test_rows::number(digits))
+            .map_or(0, |n| (n % 256) as u8),
+        Some(b) => *b,
+        None => 0,
     }
 }
 
@@ -229,41 +154,34 @@ fn unescape(s: &[u8], count: usize, out: &mut [u8; ROOM]) -> usize {
     ROOM
 }
 
-// What the reader answers for a row's line, the first n bytes of `buf`.
-fn read(tag: u32, buf: &[u8; ROOM], n: usize) -> Answer {
-    if n > ROOM {
-        return answer_of(254, 0, 0, 0, 0, 0, 0);
-    }
-    let b = &buf[..];
-    if tag == 14 {
-        cell(&b[0..n])
-    } else {
-        line(&b[0..n])
-    }
-}
-
-// What the reader answers for a row.
-fn came(s: &[u8], tag: u32) -> Answer {
-    if s.len() < FRONT {
-        return answer_of(254, 0, 0, 0, 0, 0, 0);
-    }
+// What the reader answers for a row's line.
+fn came(s: &[u8], tag: u32) -> Option<Answer> {
     let mut buf = [0u8; ROOM];
-    let count = number(s, 45, 47) as usize;
-    if unescape(&s[48..], count, &mut buf) != count {
-        return answer_of(254, 0, 0, 0, 0, 0, 0);
+    let count = number(s, 45, 47)? as usize;
+    if unescape(s.get(FRONT..)?, count, &mut buf) != count {
+        return None;
     }
-    read(tag, &buf, count)
+    let read = buf.get(..count)?;
+    if tag == 14 {
+        cell(read)
+    } else {
+        Some(line(read))
+    }
 }
 
-// Rows of cells count as others.
-pub(crate) fn outcome(s: &[u8]) -> Outcome {
-    let want = expected(s);
-    if want != came(s, want.tag) {
-        return Outcome::Mismatch;
+// None where the row can't be read, or the reader's answer isn't the one that it expects. Rows of cells count as others.
+fn agreed(s: &[u8]) -> Option<Outcome> {
+    let want = expected(s)?;
+    if came(s, want.tag)? != want {
+        return None;
     }
-    match want.tag {
+    Some(match want.tag {
         0 => Outcome::Refused,
         14 => Outcome::Other,
         _ => Outcome::Accepted,
-    }
+    })
+}
+
+pub(crate) fn outcome(s: &[u8]) -> Outcome {
+    agreed(s).unwrap_or(Outcome::Mismatch)
 }

@@ -1,9 +1,8 @@
 // Rows, one by one: a code or a deck file is put together, listed, and its answer and text compared.
-use crate::code::CODE;
+use crate::code::Code;
+use crate::row::{column, columns};
 use listing::{CodeError, CodeListing, DeckListing, View};
 use print::TooLong;
-use refusal::Refused;
-use routine::Outline;
 use test_rows::Outcome;
 
 // Bytes of the text's memory.
@@ -15,16 +14,11 @@ const ALONE: usize = 64;
 // What stands in a buffer before the listing has it; no text has this byte.
 const MARK: u8 = 165;
 
-// Where a row's text starts, behind two columns.
-const TEXT: usize = 20;
-
-// What a row comes to, the bytes of the code or file at hand, and whether a code or a file was accepted.
-#[derive(Clone, Copy)]
-pub struct Came {
-    pub outcome: Outcome,
-    pub size: usize,
-    pub listed: bool,
-    pub viewed: bool,
+// Codes and files that were accepted.
+#[derive(Clone, Copy, Default)]
+pub struct Accepted {
+    pub codes: u64,
+    pub views: u64,
 }
 
 // ---- answers as numbers
@@ -79,23 +73,28 @@ fn word_stands(s: &[u8], count: usize, buf: &[u8; ALONE]) -> bool {
     if count >= ALONE {
         return false;
     }
-    if s.len() < 29 + count {
-        return false;
-    }
-    let b = &buf[..];
-    &b[0..count] == &s[29..29 + count] && b[count] == 10 && test_rows::all(&b[count + 1..], MARK)
+    s.get(29..29 + count) == Some(&buf[..count])
+        && buf[count] == b'\n'
+        && test_rows::all(&buf[count + 1..], MARK)
 }
 
-fn word_answered(s: &[u8]) -> bool {
-    let w = crate::row::column(s, 0);
-    let code = w.to_le_bytes();
+// A word's row, judged: the word, the number of its refusal or 0, the length of its text.
+fn word(s: &[u8]) -> Option<Outcome> {
+    let [word, number, count] = columns::<3>(s)?;
     let mut buf = [MARK; ALONE];
-    let t = told(listing::code_listing(&code, 4, &mut buf));
-    let count = crate::row::column(s, 2) as usize;
-    t.number == crate::row::column(s, 1)
+    let t = told(listing::code_listing(&word.to_le_bytes(), 4, &mut buf));
+    let good = t.number == number
         && t.place == 0
-        && t.length == Ok(count + 1)
-        && word_stands(s, count, &buf)
+        && t.length == Ok(count as usize + 1)
+        && word_stands(s, count as usize, &buf);
+    if !good {
+        return None;
+    }
+    Some(if number == 0 {
+        Outcome::Accepted
+    } else {
+        Outcome::Refused
+    })
 }
 
 // ---- codes and files
@@ -116,30 +115,17 @@ fn view(n: usize) -> View {
 }
 
 // `at` is the constants' offset, or the view. No answer where a row asks for more than there is.
-fn handed(
-    asked: Asked,
-    code: &[u8],
-    n: usize,
-    at: usize,
-    text: &mut [u8],
-    room: usize,
-) -> Option<Found> {
-    if n > code.len() || room > text.len() {
-        return None;
-    }
+fn handed(asked: Asked, code: &[u8], at: usize, text: &mut [u8], room: usize) -> Option<Found> {
+    let text = text.get_mut(..room)?;
     Some(match asked {
-        Asked::Code => told(listing::code_listing(&code[0..n], at, &mut text[0..room])),
-        Asked::Deck => deck_told(listing::deck_view(&code[0..n], view(at), &mut text[0..room])),
+        Asked::Code => told(listing::code_listing(code, at, text)),
+        Asked::Deck => deck_told(listing::deck_view(code, view(at), text)),
     })
 }
 
 // The bytes from one on are as they were.
 fn marked(text: &[u8; ROOM], from: usize) -> bool {
-    if from > ROOM {
-        return false;
-    }
-    let b = &text[..];
-    test_rows::all(&b[from..], MARK)
+    text.get(from..).is_some_and(|b| test_rows::all(b, MARK))
 }
 
 // No text stands in the text's memory.
@@ -147,183 +133,86 @@ fn mark(text: &mut [u8; ROOM]) {
     *text = [MARK; ROOM];
 }
 
-// The answer is the row's, and behind the text nothing was written.
-fn answered(
+// An answer's row, judged: the answer is the row's, and behind the text nothing was written.
+fn answer(
     asked: Asked,
     s: &[u8],
-    n: usize,
     fits: bool,
-    code: &[u8; CODE],
+    code: &[u8],
     text: &mut [u8; ROOM],
-) -> bool {
-    mark(text);
-    let at = crate::row::column(s, 0) as usize;
-    let room = crate::row::column(s, 1) as usize;
-    let t = handed(asked, code, n, at, text, room);
+    accepted: &mut Accepted,
+) -> Option<Outcome> {
+    let [at, room, number, place] = columns::<4>(s)?;
     let length = if fits {
-        Ok(crate::row::column(s, 4) as usize)
+        Ok(column(s, 4)? as usize)
     } else {
         Err(TooLong)
     };
+    mark(text);
     let wanted = Found {
-        number: crate::row::column(s, 2),
-        place: crate::row::column(s, 3) as usize,
+        number,
+        place: place as usize,
         length,
     };
-    t == Some(wanted) && marked(text, length.unwrap_or(0))
-}
-
-fn same_text(written: &[u8], text: &[u8]) -> bool {
-    if written.len() != text.len() {
-        return false;
+    if handed(asked, code, at as usize, text, room as usize)? != wanted
+        || !marked(text, length.unwrap_or(0))
+    {
+        return None;
     }
-    for (w, t) in written.iter().zip(text) {
-        if crate::code::plain(*w) != *t {
-            return false;
-        }
+    if number != 0 {
+        return Some(Outcome::Refused);
     }
-    true
+    let n = match asked {
+        Asked::Code => &mut accepted.codes,
+        Asked::Deck => &mut accepted.views,
+    };
+    *n = n.saturating_add(1);
+    Some(Outcome::Other)
 }
 
 // The row's text stands in the text's memory.
-fn stands(s: &[u8], text: &[u8; ROOM]) -> bool {
-    let from = crate::row::column(s, 0) as usize;
-    let count = crate::row::column(s, 1) as usize;
-    if from > ROOM {
-        return false;
-    }
-    if count > ROOM - from {
-        return false;
-    }
-    if s.len() < TEXT + count {
-        return false;
-    }
-    let b = &text[..];
-    same_text(&s[TEXT..TEXT + count], &b[from..from + count])
+fn stands(s: &[u8], text: &[u8; ROOM]) -> Option<Outcome> {
+    let [from, count] = columns::<2>(s)?;
+    let row = crate::code::text(s, count as usize)?;
+    let written = text.get(from as usize..)?.get(..count as usize)?;
+    let same = row
+        .iter()
+        .zip(written)
+        .all(|(a, b)| test_rows::plain(*a) == *b);
+    same.then_some(Outcome::Other)
 }
 
 // ---- rows
 
-fn came_to(outcome: Outcome, size: usize) -> Came {
-    Came {
-        outcome,
-        size,
-        listed: false,
-        viewed: false,
-    }
-}
-
-// A code or a file that was accepted.
-fn accepted(asked: Asked, size: usize) -> Came {
-    match asked {
-        Asked::Code => Came {
-            outcome: Outcome::Other,
-            size,
-            listed: true,
-            viewed: false,
-        },
-        Asked::Deck => Came {
-            outcome: Outcome::Other,
-            size,
-            listed: false,
-            viewed: true,
-        },
-    }
-}
-
-// A row that only has to hold.
-fn holds(good: bool, size: usize) -> Came {
-    if good {
-        return came_to(Outcome::Other, size);
-    }
-    came_to(Outcome::Mismatch, size)
-}
-
-// A word's row, judged.
-fn word(s: &[u8], n: usize) -> Came {
-    if !crate::row::readable(s, 3) || !word_answered(s) {
-        return came_to(Outcome::Mismatch, n);
-    }
-    if crate::row::column(s, 1) == 0 {
-        return came_to(Outcome::Accepted, n);
-    }
-    came_to(Outcome::Refused, n)
-}
-
-// An answer's row, judged.
-fn answer(
-    asked: Asked,
+// A row, with a code or file at hand; none where it can't be read or doesn't hold.
+fn judged(
     s: &[u8],
-    n: usize,
-    fits: bool,
-    code: &[u8; CODE],
+    code: &mut Code,
     text: &mut [u8; ROOM],
-) -> Came {
-    let columns = if fits { 5 } else { 4 };
-    if !crate::row::readable(s, columns) {
-        return came_to(Outcome::Mismatch, n);
+    accepted: &mut Accepted,
+) -> Option<Outcome> {
+    match s.first()? {
+        b's' => {}
+        b'w' => return word(s),
+        b'n' => code.clear(),
+        b'c' => crate::code::add_words(s, code)?,
+        b'b' => crate::code::add_byte(s, code)?,
+        b'd' => crate::code::add_text(s, code)?,
+        b'r' => return answer(Asked::Code, s, true, code.as_slice(), text, accepted),
+        b'x' => return answer(Asked::Code, s, false, code.as_slice(), text, accepted),
+        b'v' => return answer(Asked::Deck, s, true, code.as_slice(), text, accepted),
+        b'y' => return answer(Asked::Deck, s, false, code.as_slice(), text, accepted),
+        b't' => return stands(s, text),
+        _ => return None,
     }
-    if !answered(asked, s, n, fits, code, text) {
-        return came_to(Outcome::Mismatch, n);
-    }
-    if crate::row::column(s, 2) != 0 {
-        return came_to(Outcome::Refused, n);
-    }
-    accepted(asked, n)
+    Some(Outcome::Other)
 }
 
-// Words more.
-fn words(s: &[u8], n: usize, code: &mut [u8; CODE]) -> Came {
-    let times = crate::row::column(s, 0);
-    let count = crate::row::column(s, 1);
-    if !crate::row::readable(s, 2) || !crate::code::fits(times, count, n) {
-        return came_to(Outcome::Mismatch, n);
-    }
-    if !crate::row::readable(s, 2 + count as usize) {
-        return came_to(Outcome::Mismatch, n);
-    }
-    came_to(Outcome::Other, crate::code::words(s, times, count, n, code))
-}
-
-// One byte more.
-fn byte(s: &[u8], n: usize, code: &mut [u8; CODE]) -> Came {
-    let value = crate::row::column(s, 0);
-    if !crate::row::readable(s, 1) || value > 255 || n >= CODE {
-        return came_to(Outcome::Mismatch, n);
-    }
-    came_to(Outcome::Other, crate::code::byte(value, n, code))
-}
-
-// Text more.
-fn deck_text(s: &[u8], n: usize, code: &mut [u8; CODE]) -> Came {
-    let times = crate::row::column(s, 0);
-    let count = crate::row::column(s, 1) as usize;
-    if !crate::row::readable(s, 2) || !crate::code::text_fits(times, count, n) {
-        return came_to(Outcome::Mismatch, n);
-    }
-    if s.len() < TEXT + count {
-        return came_to(Outcome::Mismatch, n);
-    }
-    came_to(
-        Outcome::Other,
-        crate::code::text(&s[TEXT..TEXT + count], times, n, code),
-    )
-}
-
-// A row, with n bytes of a code or file at hand.
-pub(crate) fn row(s: &[u8], n: usize, code: &mut [u8; CODE], text: &mut [u8; ROOM]) -> Came {
-    match crate::row::letter(s) {
-        b's' => came_to(Outcome::Other, n),
-        b'w' => word(s, n),
-        b'n' => came_to(Outcome::Other, 0),
-        b'c' => words(s, n, code),
-        b'b' => byte(s, n, code),
-        b'd' => deck_text(s, n, code),
-        b'r' => answer(Asked::Code, s, n, true, code, text),
-        b'x' => answer(Asked::Code, s, n, false, code, text),
-        b'v' => answer(Asked::Deck, s, n, true, code, text),
-        b'y' => answer(Asked::Deck, s, n, false, code, text),
-        b't' => holds(crate::row::readable(s, 2) && stands(s, text), n),
-        _ => came_to(Outcome::Mismatch, n),
-    }
+pub(crate) fn row(
+    s: &[u8],
+    code: &mut Code,
+    text: &mut [u8; ROOM],
+    accepted: &mut Accepted,
+) -> Outcome {
+    judged(s, code, text, accepted).unwrap_or(Outcome::Mismatch)
 }

@@ -1,5 +1,6 @@
 -- What is asked of a buffer's bytes.
-use Rattle.std.specs.Prelude.{Bool, true, ◌&&◌, cond, List, [], ◌∷◌, ℕ, ◌+◌, ◌*◌, ◌^◌, leb, eqb, length, get_or}
+use Rattle.std.specs.Prelude.{Bool, cond, List, ℕ, ◌+◌, ◌*◌, ◌^◌, leb, eqb, length, get_or, take}
+use Rattle.std.specs.List.{list_all}
 
 -- the word at a place, little-endian; 0 where there is none
 abbrev pub word_of : List ℕ → ℕ → ℕ
@@ -9,6 +10,13 @@ word_of b p =
     0
 
 -- every byte is b
-unfoldable pub all_of : ℕ → List ℕ → Bool
-all_of b [] = true
-all_of b (c ∷ cs) = eqb c b && all_of b cs
+abbrev pub all_of : ℕ → List ℕ → Bool
+all_of b s = list_all (λ c. eqb c b) s
+
+-- the bytes of a memory up to a place
+abbrev pub bytes_of : (memory : List ℕ) → (size : ℕ) → List ℕ
+bytes_of memory size = take size memory
+
+-- the byte that a character stands for: a tilde is a line's end
+abbrev pub plain_of : ℕ → ℕ
+plain_of b = cond (eqb b 126) 10 b

@@ -1,5 +1,8 @@
+use borrow.Author.Tests.{le-ltb}
 use Rattle.ast.proofs.Masked.{no_bit}
 use Rattle.ast.proofs.in_mask.Goals as goal
 
-pub returns-then-r-ge32 : goal.returns-then-r-ge32
-returns-then-r-ge32 c = no_bit c.args.mask c.args.r c.ranges.mask.fits c.if-r-ge32.true
+pub returns-else-r-lt32 : goal.returns-else-r-lt32
+returns-else-r-lt32 c =
+    let a = c.args in
+    rw (le-ltb a.r 32 c.if-r-lt32.false) (no_bit a.mask a.r c.ranges.mask.fits c.if-r-lt32.false)

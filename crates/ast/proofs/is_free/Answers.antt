@@ -1,5 +1,5 @@
 use Rattle.ast.proofs.Masked.{free_bits}
 use Rattle.ast.proofs.is_free.Goals as goal
 
-pub returns : goal.returns
-returns c = free_bits c.args.mask c.args.r c.if-r-ge32.false
+pub returns-else-r-ge32 : goal.returns-else-r-ge32
+returns-else-r-ge32 c = free_bits c.args.mask c.args.r c.if-r-ge32.false

@@ -1,3 +1,0 @@
-mod Bytes
-mod Digits
-mod Signs
