@@ -64,7 +64,7 @@ def jumpers(label):
     yield ("load_x_from_label", [10, label]), 2, 2
     yield ("j", [label, 0]), 2, 2
     if label < CONST:
-        # by name and over the lent record: by the first operand
+        # by name and by `emit`: by the first operand
         yield from ((("branch_if", [c, label, e]), 2, 4) for c in (0, 1) for e in (0, 1))
     elif label < SELF:
         yield from ((("load_const", [d, label - CONST]), 2, 2) for d in (10, 11))

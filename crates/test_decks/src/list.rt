@@ -1,6 +1,6 @@
 // The list of labels that nobody jumps to, asked for behind a routine and compared with its row.
 use assembler::{Asm, LABELS, Labels};
-use unused::Unused;
+use refusal::{Refusal, Refused};
 
 // What stands in the list's memory before it.
 const MARK: u32 = 0xffffffff;
@@ -38,9 +38,9 @@ fn stands(out: &Out, n: u32, s: &[u8]) -> bool {
 pub(crate) fn agrees(labels: &Labels, asm: Asm, accepted: bool, s: &[u8]) -> bool {
     let mut out = [MARK; LABELS];
     match unused::unused_labels(labels, asm, &mut out) {
-        Unused::Labels(n) => accepted && stands(&out, n, s),
-        Unused::Refused(why, place) => {
-            !accepted && refusal::number(why) == 2 && place == 0 && blank(&out, 0)
+        Ok(n) => accepted && stands(&out, n, s),
+        Err(Refused { why, place }) => {
+            !accepted && why == Refusal::Value && place == 0 && blank(&out, 0)
         }
     }
 }

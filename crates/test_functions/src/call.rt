@@ -1,39 +1,26 @@
 // Calls by the number of their row, with their operands in the Rust's order. Labels are document 01's numbers.
 use crate::case::Case;
 use crate::row::Row;
-use assembler::{Aligned, Answer, Asm, EmitResult, Fault, JumpKind, Jumps, Labels, Plan, Tail};
+use assembler::{Assembler, JumpKind, Jumps, Labels, Plan, Tail};
 use ast::Constant;
-use refusal::Refusal;
+use refusal::{Refusal, Refused};
 
 // What no row expects. It stays an answer: a row that names no call is told at the row of its answer, as every refusal is.
-pub(crate) fn unknown(asm: Asm) -> EmitResult {
-    EmitResult {
-        asm,
-        answer: Answer::Refused(Refusal::Line, 1),
-    }
+pub(crate) fn unknown() -> Result<(), Refused> {
+    Err(Refused {
+        why: Refusal::Line,
+        place: 1,
+    })
 }
 
 // ---- words, labels and jumps
 
-// A plan with its jumps, n times over. Where one is refused, so are all behind it.
-fn repeat(
-    n: u32,
-    p: Plan,
-    t: Tail,
-    buf: &mut [u8; 65536],
-    labels: &mut Labels,
-    jumps: &mut Jumps,
-    asm: Asm,
-) -> EmitResult {
-    let mut d = EmitResult {
-        asm,
-        answer: Answer::Accepted,
-    };
+// A plan with its jumps, n times over, up to one that is refused.
+fn repeat(asm: &mut Assembler<'_>, n: u32, p: Plan, t: Tail) -> Result<(), Refused> {
     for _ in 0..n {
-        let a = d.asm;
-        d = assembler::place(p, t, 0, buf, labels, jumps, a);
+        asm.place(p, t, 0)?;
     }
-    d
+    Ok(())
 }
 
 // How often: a pad and `jumps` say it.
@@ -49,10 +36,9 @@ fn plan(r: Row) -> Plan {
     match r.kind {
         0x17 => Plan {
             n: 1,
-            fault: Fault::Nothing,
-            w: [0u32; 12],
+            ..Plan::new()
         },
-        _ => assembler::no_plan(),
+        _ => Plan::new(),
     }
 }
 
@@ -68,26 +54,11 @@ fn tail(r: Row) -> Tail {
 }
 
 fn jump_kind(k: u32) -> JumpKind {
-    match k {
-        0 => JumpKind::Auipc,
-        1 => JumpKind::Ld,
-        2 => JumpKind::Jalr,
-        3 => JumpKind::Fld,
-        4 => JumpKind::Beq,
-        _ => JumpKind::Bne,
-    }
+    JumpKind::try_from(k).unwrap_or(JumpKind::Bne)
 }
 
-fn finishing(
-    buf: &mut [u8; 65536],
-    labels: &mut Labels,
-    jumps: &mut Jumps,
-    asm: Asm,
-) -> EmitResult {
-    let f = finish::apply_jumps(buf, labels, jumps, asm);
-    let a = f.asm;
-    let answer = f.answer;
-    EmitResult { asm: a, answer }
+fn finishing(asm: &mut Assembler<'_>) -> Result<(), Refused> {
+    finish::apply_jumps(asm.buf, asm.labels, asm.jumps, &mut asm.asm).map_err(|u| u.refused)
 }
 
 // A number of 64 bits from its halves, the low one first.
@@ -103,89 +74,65 @@ fn constant(r: Row) -> Constant {
     }
 }
 
-fn assembling(
-    r: Row,
-    buf: &mut [u8; 65536],
-    labels: &mut Labels,
-    jumps: &mut Jumps,
-    asm: Asm,
-) -> EmitResult {
+fn assembling(asm: &mut Assembler<'_>, r: Row) -> Result<(), Refused> {
     let k = r.kind;
     match k {
-        0x10 => assembler::append_word(r.a, buf, labels, jumps, asm),
-        0x11 => assembler::append_quad(quad(r.a, r.b), buf, labels, jumps, asm),
-        0x12 => assembler::set_label(r.a, buf, labels, jumps, asm),
-        0x13 | 0x14 => assembler::append_const(r.a, constant(r), buf, labels, jumps, asm),
-        0x15 => finishing(buf, labels, jumps, asm),
-        0x1f => assembler::jump(jump_kind(r.a), r.b, r.c, 0, buf, labels, jumps, asm),
-        _ => repeat(times(r), plan(r), tail(r), buf, labels, jumps, asm),
+        0x10 => asm.append_word(r.a),
+        0x11 => asm.append_quad(quad(r.a, r.b)),
+        0x12 => asm.set_label(r.a),
+        0x13 | 0x14 => asm.append_const(r.a, constant(r)),
+        0x15 => finishing(asm),
+        0x1f => asm.jump(jump_kind(r.a), r.b, r.c, 0),
+        _ => repeat(asm, times(r), plan(r), tail(r)),
     }
 }
 
 // ---- accesses, orders and frames
 
-fn access(
-    r: Row,
-    buf: &mut [u8; 65536],
-    labels: &mut Labels,
-    jumps: &mut Jumps,
-    asm: Asm,
-) -> EmitResult {
+fn access(asm: &mut Assembler<'_>, r: Row) -> Result<(), Refused> {
     let k = r.kind;
     match k {
-        0x20 => accesses::li(r.a, test_rows::signed(r.b), buf, labels, jumps, asm),
-        0x21 => accesses::load_float(r.a, r.b, r.c, buf, labels, jumps, asm),
-        0x22 => accesses::save_float(r.a, r.b, r.c, buf, labels, jumps, asm),
-        0x23 => accesses::load_int(r.a, r.b, r.c, buf, labels, jumps, asm),
-        0x24 => accesses::load_complex(r.a, r.b, r.c, buf, labels, jumps, asm),
-        0x25 => accesses::save_complex(r.a, r.b, r.c, buf, labels, jumps, asm),
-        0x26 => accesses::sub_stack(r.a, buf, labels, jumps, asm),
-        0x27 => accesses::add_stack(r.a, buf, labels, jumps, asm),
-        _ => accesses::allocate_stack(r.a, buf, labels, jumps, asm),
+        0x20 => accesses::li(asm, r.a, test_rows::signed(r.b)),
+        0x21 => accesses::load_float(asm, r.a, r.b, r.c),
+        0x22 => accesses::save_float(asm, r.a, r.b, r.c),
+        0x23 => accesses::load_int(asm, r.a, r.b, r.c),
+        0x24 => accesses::load_complex(asm, r.a, r.b, r.c),
+        0x25 => accesses::save_complex(asm, r.a, r.b, r.c),
+        0x26 => accesses::sub_stack(asm, r.a),
+        0x27 => accesses::add_stack(asm, r.a),
+        _ => accesses::allocate_stack(asm, r.a),
     }
 }
 
 // Jumps have the tag 0 here.
-fn framed(
-    r: Row,
-    buf: &mut [u8; 65536],
-    labels: &mut Labels,
-    jumps: &mut Jumps,
-    asm: Asm,
-) -> EmitResult {
+fn framed(asm: &mut Assembler<'_>, r: Row) -> Result<(), Refused> {
     let k = r.kind;
     match k {
-        0x80 => frames::prologue_fast(r.a, r.b, r.c, r.d, buf, labels, jumps, asm),
-        0x81 => frames::prologue_indirect(r.a, r.b, r.c, r.d, 0, buf, labels, jumps, asm),
-        0x82 => frames::epilogue_fast(r.a, r.b, r.c, r.d, buf, labels, jumps, asm),
-        0x83 => frames::epilogue_indirect(r.a, r.b, r.c, r.d, 0, buf, labels, jumps, asm),
-        0x84 => frames::save_used_registers(r.a, buf, labels, jumps, asm),
-        _ => frames::load_used_registers(r.a, buf, labels, jumps, asm),
+        0x80 => frames::prologue_fast(asm, r.a, r.b, r.c, r.d),
+        0x81 => frames::prologue_indirect(asm, r.a, r.b, r.c, r.d, 0),
+        0x82 => frames::epilogue_fast(asm, r.a, r.b, r.c, r.d),
+        0x83 => frames::epilogue_indirect(asm, r.a, r.b, r.c, r.d, 0),
+        0x84 => frames::save_used_registers(asm, r.a),
+        _ => frames::load_used_registers(asm, r.a),
     }
 }
 
-fn answered(
-    r: Row,
-    buf: &mut [u8; 65536],
-    labels: &mut Labels,
-    jumps: &mut Jumps,
-    asm: Asm,
-) -> EmitResult {
+fn answered(asm: &mut Assembler<'_>, r: Row) -> Result<(), Refused> {
     let k = r.kind;
     match k {
-        0x10..=0x1f => assembling(r, buf, labels, jumps, asm),
-        0x20..=0x28 => access(r, buf, labels, jumps, asm),
-        0x74 => crate::named::load_in(r, buf, labels, jumps, asm),
-        0x30..=0x7f => crate::named::ordered(r, buf, labels, jumps, asm),
-        0x80..=0x85 => framed(r, buf, labels, jumps, asm),
-        _ => unknown(asm),
+        0x10..=0x1f => assembling(asm, r),
+        0x20..=0x28 => access(asm, r),
+        0x74 => crate::named::load_in(asm, r),
+        0x30..=0x7f => crate::named::ordered(asm, r),
+        0x80..=0x85 => framed(asm, r),
+        _ => unknown(),
     }
 }
 
 fn aligned(n: u32, c: Case) -> Case {
     match assembler::align_stack(n) {
-        Aligned::Size(m) => c.valued(m),
-        Aligned::Refused(why, place) => c.refused(why, place),
+        Ok(m) => c.valued(m),
+        Err(e) => c.refused(e),
     }
 }
 
@@ -212,6 +159,15 @@ pub(crate) fn by_kind(
             c
         }
         0x1e => c.lent(crate::row::record(r)),
-        _ => c.done(answered(r, buf, labels, jumps, c.asm)),
+        _ => {
+            let mut asm = Assembler {
+                buf,
+                labels,
+                jumps,
+                asm: c.asm,
+            };
+            let answer = answered(&mut asm, r);
+            c.done(asm.asm, answer)
+        }
     }
 }

@@ -1,6 +1,6 @@
 // A case: calls on one assembler, from fresh memory on, and how far its code is compared.
-use assembler::{Answer, Asm, EmitResult};
-use refusal::{Refusal, Refused};
+use assembler::Asm;
+use refusal::Refused;
 
 #[derive(Clone, Copy)]
 pub struct Case {
@@ -67,9 +67,9 @@ impl Case {
     }
 
     // A call refused.
-    pub(crate) fn refused(self, why: Refusal, place: u32) -> Case {
+    pub(crate) fn refused(self, r: Refused) -> Case {
         Case {
-            answer: Err(Refused { why, place }),
+            answer: Err(r),
             ..self
         }
     }
@@ -83,11 +83,11 @@ impl Case {
     }
 
     // A call done. A refused one leaves the record as it was, and no call comes behind it.
-    pub(crate) fn done(self, r: EmitResult) -> Case {
-        let d = self.checked(self.answer.is_ok()).lent(r.asm);
-        match r.answer {
-            Answer::Accepted => d,
-            Answer::Refused(why, place) => d.checked(same(self.asm, r.asm)).refused(why, place),
+    pub(crate) fn done(self, asm: Asm, answer: Result<(), Refused>) -> Case {
+        let d = self.checked(self.answer.is_ok()).lent(asm);
+        match answer {
+            Ok(()) => d,
+            Err(r) => d.checked(same(self.asm, asm)).refused(r),
         }
     }
 

@@ -2,9 +2,8 @@
 use crate::case::Case;
 use crate::row::Row;
 use assembler::{Jumps, Labels};
-use refusal::Refusal;
+use refusal::Refused;
 use test_rows::Outcome;
-use unused::Unused;
 
 // The row of the family, how many of its answers agreed, and the case at hand.
 #[derive(Clone, Copy)]
@@ -72,15 +71,15 @@ fn lists(r: Row, n: u32, out: &[u32; assembler::LABELS]) -> bool {
 }
 
 // The list is refused so, and nothing is written.
-fn refuses(r: Row, why: Refusal, place: u32, out: &[u32; assembler::LABELS]) -> bool {
-    refusal::number(why) as u32 == r.a && place == r.b && blank(out, 0)
+fn refuses(r: Row, e: Refused, out: &[u32; assembler::LABELS]) -> bool {
+    refusal::number(e.why) as u32 == r.a && e.place == r.b && blank(out, 0)
 }
 
 fn list(c: Case, r: Row, labels: &Labels) -> bool {
     let mut out = [MARK; assembler::LABELS];
     match unused::unused_labels(labels, c.asm, &mut out) {
-        Unused::Labels(n) => r.kind == 0x0c && lists(r, n, &out),
-        Unused::Refused(why, place) => r.kind == 0x0d && refuses(r, why, place, &out),
+        Ok(n) => r.kind == 0x0c && lists(r, n, &out),
+        Err(e) => r.kind == 0x0d && refuses(r, e, &out),
     }
 }
 

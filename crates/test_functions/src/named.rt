@@ -1,7 +1,8 @@
 // Orders by the number of their row, with their operands in the Rust's order. Jumps have the tag 0 here.
 use crate::row::Row;
-use assembler::{Asm, EmitResult, Jumps, Labels};
+use assembler::Assembler;
 use ast::{Binary, Frame, Fused, Head, Order, Place, Scratched, Unary};
+use refusal::Refused;
 
 // ---- numbers: each shape has a block of its own
 
@@ -72,168 +73,98 @@ fn order(r: Row) -> Option<Order> {
 
 // ---- by name
 
-fn unary(
-    o: Unary,
-    d: u32,
-    s: u32,
-    buf: &mut [u8],
-    labels: &mut Labels,
-    jumps: &mut Jumps,
-    asm: Asm,
-) -> EmitResult {
+fn unary(asm: &mut Assembler<'_>, o: Unary, d: u32, s: u32) -> Result<(), Refused> {
     match o {
-        Unary::Fmov => orders::named::fmov(d, s, buf, labels, jumps, asm),
-        Unary::Recip => orders::named::recip(d, s, buf, labels, jumps, asm),
-        Unary::Round => orders::named::round(d, s, buf, labels, jumps, asm),
-        Unary::Floor => orders::named::floor(d, s, buf, labels, jumps, asm),
-        Unary::Not => orders::named::not(d, s, buf, labels, jumps, asm),
+        Unary::Fmov => orders::named::fmov(asm, d, s),
+        Unary::Recip => orders::named::recip(asm, d, s),
+        Unary::Round => orders::named::round(asm, d, s),
+        Unary::Floor => orders::named::floor(asm, d, s),
+        Unary::Not => orders::named::not(asm, d, s),
     }
 }
 
-fn scratched(
-    o: Scratched,
-    d: u32,
-    s: u32,
-    t: u32,
-    buf: &mut [u8],
-    labels: &mut Labels,
-    jumps: &mut Jumps,
-    asm: Asm,
-) -> EmitResult {
+fn scratched(asm: &mut Assembler<'_>, o: Scratched, d: u32, s: u32, t: u32) -> Result<(), Refused> {
     match o {
-        Scratched::Sign => orders::named::sign(d, s, t, buf, labels, jumps, asm),
-        Scratched::Frac => orders::named::frac(d, s, t, buf, labels, jumps, asm),
+        Scratched::Sign => orders::named::sign(asm, d, s, t),
+        Scratched::Frac => orders::named::frac(asm, d, s, t),
     }
 }
 
-fn binary(
-    o: Binary,
-    d: u32,
-    a: u32,
-    b: u32,
-    buf: &mut [u8],
-    labels: &mut Labels,
-    jumps: &mut Jumps,
-    asm: Asm,
-) -> EmitResult {
+fn binary(asm: &mut Assembler<'_>, o: Binary, d: u32, a: u32, b: u32) -> Result<(), Refused> {
     match o {
-        Binary::Minus => orders::named::minus(d, a, b, buf, labels, jumps, asm),
-        Binary::Times => orders::named::times(d, a, b, buf, labels, jumps, asm),
-        Binary::Divide => orders::named::divide(d, a, b, buf, labels, jumps, asm),
-        Binary::Gt => orders::named::gt(d, a, b, buf, labels, jumps, asm),
-        Binary::Neq => orders::named::neq(d, a, b, buf, labels, jumps, asm),
-        Binary::And => orders::named::and(d, a, b, buf, labels, jumps, asm),
-        Binary::Andnot => orders::named::andnot(d, a, b, buf, labels, jumps, asm),
-        Binary::Or => orders::named::or(d, a, b, buf, labels, jumps, asm),
-        Binary::Xor => orders::named::xor(d, a, b, buf, labels, jumps, asm),
+        Binary::Minus => orders::named::minus(asm, d, a, b),
+        Binary::Times => orders::named::times(asm, d, a, b),
+        Binary::Divide => orders::named::divide(asm, d, a, b),
+        Binary::Gt => orders::named::gt(asm, d, a, b),
+        Binary::Neq => orders::named::neq(asm, d, a, b),
+        Binary::And => orders::named::and(asm, d, a, b),
+        Binary::Andnot => orders::named::andnot(asm, d, a, b),
+        Binary::Or => orders::named::or(asm, d, a, b),
+        Binary::Xor => orders::named::xor(asm, d, a, b),
     }
 }
 
-fn fused(
-    o: Fused,
-    d: u32,
-    a: u32,
-    b: u32,
-    c: u32,
-    buf: &mut [u8],
-    labels: &mut Labels,
-    jumps: &mut Jumps,
-    asm: Asm,
-) -> EmitResult {
+fn fused(asm: &mut Assembler<'_>, o: Fused, d: u32, a: u32, b: u32, c: u32) -> Result<(), Refused> {
     match o {
-        Fused::MulAdd => orders::named::fused_mul_add(d, a, b, c, buf, labels, jumps, asm),
-        Fused::MulSub => orders::named::fused_mul_sub(d, a, b, c, buf, labels, jumps, asm),
-        Fused::NegMulAdd => orders::named::fused_neg_mul_add(d, a, b, c, buf, labels, jumps, asm),
-        Fused::NegMulSub => orders::named::fused_neg_mul_sub(d, a, b, c, buf, labels, jumps, asm),
+        Fused::MulAdd => orders::named::fused_mul_add(asm, d, a, b, c),
+        Fused::MulSub => orders::named::fused_mul_sub(asm, d, a, b, c),
+        Fused::NegMulAdd => orders::named::fused_neg_mul_add(asm, d, a, b, c),
+        Fused::NegMulSub => orders::named::fused_neg_mul_sub(asm, d, a, b, c),
     }
 }
 
 // A cell of an odd index by its location.
-fn load(
-    d: u32,
-    p: Place,
-    i: u32,
-    buf: &mut [u8],
-    labels: &mut Labels,
-    jumps: &mut Jumps,
-    asm: Asm,
-) -> EmitResult {
+fn load(asm: &mut Assembler<'_>, d: u32, p: Place, i: u32) -> Result<(), Refused> {
     if i % 2 != 0 {
-        return orders::named::load_d_from_loc(d, p, i, buf, labels, jumps, asm);
+        return orders::named::load_d_from_loc(asm, d, p, i);
     }
     match p {
-        Place::Mem => orders::named::load_mem(d, i, buf, labels, jumps, asm),
-        Place::Stack => orders::named::load_stack(d, i, buf, labels, jumps, asm),
-        Place::Param => orders::named::load_param(d, i, buf, labels, jumps, asm),
+        Place::Mem => orders::named::load_mem(asm, d, i),
+        Place::Stack => orders::named::load_stack(asm, d, i),
+        Place::Param => orders::named::load_param(asm, d, i),
     }
 }
 
 // Parameters are stored by their location.
-fn save(
-    s: u32,
-    p: Place,
-    i: u32,
-    buf: &mut [u8],
-    labels: &mut Labels,
-    jumps: &mut Jumps,
-    asm: Asm,
-) -> EmitResult {
+fn save(asm: &mut Assembler<'_>, s: u32, p: Place, i: u32) -> Result<(), Refused> {
     if i % 2 != 0 {
-        return orders::named::save_d_to_loc(s, p, i, buf, labels, jumps, asm);
+        return orders::named::save_d_to_loc(asm, s, p, i);
     }
     match p {
-        Place::Mem => orders::named::save_mem(s, i, buf, labels, jumps, asm),
-        Place::Stack => orders::named::save_stack(s, i, buf, labels, jumps, asm),
-        Place::Param => orders::named::save_d_to_loc(s, p, i, buf, labels, jumps, asm),
+        Place::Mem => orders::named::save_mem(asm, s, i),
+        Place::Stack => orders::named::save_stack(asm, s, i),
+        Place::Param => orders::named::save_d_to_loc(asm, s, p, i),
     }
 }
 
-fn by_name(
-    o: Order,
-    buf: &mut [u8],
-    labels: &mut Labels,
-    jumps: &mut Jumps,
-    asm: Asm,
-) -> EmitResult {
+fn by_name(asm: &mut Assembler<'_>, o: Order) -> Result<(), Refused> {
     match o {
-        Order::Unary(u, d, s) => unary(u, d, s, buf, labels, jumps, asm),
-        Order::Scratched(u, d, s, t) => scratched(u, d, s, t, buf, labels, jumps, asm),
-        Order::Binary(u, d, a, b) => binary(u, d, a, b, buf, labels, jumps, asm),
-        Order::Fused(u, d, a, b, c) => fused(u, d, a, b, c, buf, labels, jumps, asm),
-        Order::Ifelse(d, a, b, i) => orders::named::ifelse(d, a, b, i, buf, labels, jumps, asm),
-        Order::LoadConst(d, k) => orders::named::load_const(d, k, 0, buf, labels, jumps, asm),
-        Order::Load(d, p, i) => load(d, p, i, buf, labels, jumps, asm),
-        Order::Save(s, p, i) => save(s, p, i, buf, labels, jumps, asm),
-        Order::BranchIf(c, l, e) => orders::named::branch_if(c, l, e, 0, buf, labels, jumps, asm),
-        Order::SetLabel(l) => orders::named::set_label(l, buf, labels, jumps, asm),
+        Order::Unary(u, d, s) => unary(asm, u, d, s),
+        Order::Scratched(u, d, s, t) => scratched(asm, u, d, s, t),
+        Order::Binary(u, d, a, b) => binary(asm, u, d, a, b),
+        Order::Fused(u, d, a, b, c) => fused(asm, u, d, a, b, c),
+        Order::Ifelse(d, a, b, i) => orders::named::ifelse(asm, d, a, b, i),
+        Order::LoadConst(d, k) => orders::named::load_const(asm, d, k, 0),
+        Order::Load(d, p, i) => load(asm, d, p, i),
+        Order::Save(s, p, i) => save(asm, s, p, i),
+        Order::BranchIf(c, l, e) => orders::named::branch_if(asm, c, l, e, 0),
+        Order::SetLabel(l) => orders::named::set_label(asm, l),
     }
 }
 
-// By name where the first operand is even, else over the lent record.
-pub(crate) fn ordered(
-    r: Row,
-    buf: &mut [u8],
-    labels: &mut Labels,
-    jumps: &mut Jumps,
-    asm: Asm,
-) -> EmitResult {
+// By name where the first operand is even, else by `emit`.
+pub(crate) fn ordered(asm: &mut Assembler<'_>, r: Row) -> Result<(), Refused> {
     let Some(o) = order(r) else {
-        return crate::call::unknown(asm);
+        return crate::call::unknown();
     };
     if r.a % 2 == 0 {
-        return by_name(o, buf, labels, jumps, asm);
+        return by_name(asm, o);
     }
-    asm_mut::through(o, 0, buf, labels, jumps, asm)
+    orders::emit(asm, o, 0)
 }
 
 // A constant's load in a deck whose line 1 has the mask c.
-pub(crate) fn load_in(
-    r: Row,
-    buf: &mut [u8],
-    labels: &mut Labels,
-    jumps: &mut Jumps,
-    asm: Asm,
-) -> EmitResult {
+pub(crate) fn load_in(asm: &mut Assembler<'_>, r: Row) -> Result<(), Refused> {
     let head = Head {
         frame: Frame::Indirect,
         cap: 16,
@@ -242,5 +173,5 @@ pub(crate) fn load_in(
         last: 0,
         mask: r.c,
     };
-    orders::emit_in(head, 0, Order::LoadConst(r.a, r.b), buf, labels, jumps, asm)
+    orders::emit_in(asm, head, 0, Order::LoadConst(r.a, r.b))
 }
