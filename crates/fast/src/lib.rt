@@ -280,13 +280,7 @@ fn within(head: Head, q: u64) -> bool
 fn is_ready(asm: Asm) -> bool
     ensures { result ≡ ready asm }
 {
-    if asm.closed {
-        return false;
-    }
-    if asm.len % 4 != 0 {
-        return false;
-    }
-    asm.jumps <= 4096
+    !asm.closed && asm.len % 4 == 0 && asm.jumps <= 4096
 }
 
 // The words of an order of registers alone.

@@ -16,7 +16,7 @@ use Rattle.isa.specs.Instr.{Instr, R, I, U, ADD, LUI, operands, registers_hold, 
 use Rattle.isa.specs.Encode.{encode}
 use Rattle.machine.proofs.Placed.{Valids}
 use Rattle.encoder.specs.Answer.{Encoded, word_answer, encoded}
-use Rattle.std.specs.Prelude.{Ok, Err, Some, None}
+use Rattle.std.specs.Prelude.{Ok, Err}
 use Rattle.refusal.specs.declared.Refusal.TheVariants.{Register, Value}
 use Rattle.encoder.proofs.Answers.{good, bad_value, bad_register}
 use Rattle.assembler.specs.Bytes.{bytes, written, fitted, room}

@@ -1,4 +1,4 @@
-// Each order by its name; those that leave jumps take a tag.
+// Each order by its name, one function for each as the Rust has them; those that leave jumps take a tag.
 ghost use Rattle.std.specs.Prelude.{◌≡◌};
 ghost use Rattle.assembler.specs.State.{SameLent, before, after};
 ghost use Rattle.orders.specs.Emitted.{emitted};

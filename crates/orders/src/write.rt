@@ -266,7 +266,7 @@ fn put_ifelse(d: u32, a: u32, b: u32, n: u32, buf: &mut [u8], len: usize) -> usi
     put_choose(d, a, b, buf, next)
 }
 
-// The branch over a jump.
+// The branch over a jump; `e` is the Rust's flag `is_else`.
 fn put_skip(c: u32, e: bool, buf: &mut [u8], len: usize) -> usize
     requires { Fits (skip_code c e) len buf.old }
     ensures { PutCode (skip_code c e) len buf result }

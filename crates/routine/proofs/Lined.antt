@@ -9,7 +9,6 @@ use borrow.Author.Tests.{le-leb, lt-leb, ltb-true}
 use lib.Dec.{ltb}
 use lib.ListN.{length, take, drop, replicate}
 use Rattle.refusal.specs.Answer.{Answer, accepted, refused}
-use Rattle.refusal.specs.declared.Refusal.{Refusal}
 use Rattle.refusal.specs.declared.Refusal.TheVariants.{Line, Full}
 use Rattle.ast.specs.declared.Head.{Head}
 use Rattle.ast.specs.declared.Order.{Order}
@@ -19,18 +18,15 @@ use Rattle.text.specs.Lines.{lines_of, Ends}
 use Rattle.form.specs.Grammar.{said}
 use Rattle.deck.specs.Judge.{Content, line_judged}
 use Rattle.deck.specs.Judge as Deck
-use Rattle.assembler.specs.State.{State, Outcome, state, outcome, emit_answer}
-use Rattle.assembler.specs.declared.EmitResult.{EmitResult}
-use Rattle.assembler.specs.declared.Answer.TheVariants.{Accepted, Refused}
+use Rattle.assembler.specs.State.{State, Outcome, state}
 use Rattle.orders.specs.Emitted.{emitted_in}
 use Rattle.routine.specs.Inner.Places.{is_constant, first_said}
-use Rattle.routine.specs.Run.{says, fresh, cleared, waiting, line_run, lines_run, leave_run, head_run, file_run, run}
-use Rattle.routine.specs.Answer.{run_outcome}
+use Rattle.routine.specs.Run.{says, fresh, cleared, waiting, line_run, lines_run, leave_run, head_run, file_run, RunOutcome, with_buf, run}
+use Rattle.routine.specs.Answer.{routine_answer}
 use Rattle.std.specs.Prelude.{Result, Ok, Err, is_err}
-use Rattle.refusal.specs.declared.Refused as Refused
-use Rattle.routine.specs.declared.Outline as Outline
-use Rattle.routine.specs.declared.RoutineResult.{RoutineResult}
-use Rattle.routine.proofs.Onward.{no}
+use Rattle.refusal.specs.declared.Refused.{Refused}
+use Rattle.routine.specs.declared.Outline.{Outline}
+use Rattle.routine.proofs.Onward.{no, told}
 
 -- ---- a line behind line n
 
@@ -46,16 +42,15 @@ pub lines_end : (H : Head) (n : ℕ) (cs : List Constant) (l : List (List ℕ)) 
 unfolding lines_run
 lines_end H n cs l s e = rw e
 
--- the line t comes next, and does what `d` tells
-module _ (H : Head) (n : ℕ) (cs : List Constant) (l ts : List (List ℕ)) (t : List ℕ) (i : l ≡ t ∷ ts) (s : State)
-    (d : EmitResult) (ls js b : List ℕ) (u : outcome d ls js b ≡ line_run H (n + 1) (length cs) (says t) s) where
-  pub line_stops : (r : Refusal) (place : ℕ) → d.answer ≡ Refused r place → no r (n + 1) (state d.asm ls js b) ≡ lines_run H n cs l s
+-- the line t comes next, and leaves the state u
+module _ (H : Head) (n : ℕ) (cs : List Constant) (l ts : List (List ℕ)) (t : List ℕ) (i : l ≡ t ∷ ts) (s u : State) where
+  pub line_stops : (e : Refused) → told (Err e) u ≡ line_run H (n + 1) (length cs) (says t) s → no e.why (n + 1) u ≡ lines_run H n cs l s
   unfolding lines_run
-  line_stops r place k = rw (i, ← add-one n, ← u, k)
+  line_stops e h = rw (i, ← add-one n, ← h)
 
-  pub line_goes : d.answer ≡ Accepted → lines_run H n cs l s ≡ lines_run H (n + 1) (cs ++ waiting (says t)) ts (state d.asm ls js b)
+  pub line_goes : told (Ok tt) u ≡ line_run H (n + 1) (length cs) (says t) s → lines_run H n cs l s ≡ lines_run H (n + 1) (cs ++ waiting (says t)) ts u
   unfolding lines_run
-  line_goes k = rw (i, ← add-one n, ← u, k)
+  line_goes h = rw (i, ← add-one n, ← h)
 
 pub line_same : (H : Head) (n : ℕ) (x : Answer Content) {k m : ℕ} {s u : State} → k ≡ m → s ≡ u → line_run H n k x s ≡ line_run H n m x u
 line_same H n x e g = rw (e, g)
@@ -84,11 +79,11 @@ one_waits (accepted (Deck.order o)) e = let z : ◌≡◌ {A = ℕ} 0 1 = cc in 
 one_waits (accepted (Deck.constant c)) e = refl
 
 -- a constant that is accepted has a place
-pub constant_room : (H : Head) (n k : ℕ) (x : Answer Content) (s : State) (d : EmitResult) (ls js b : List ℕ) → outcome d ls js b ≡ line_run H n k x s → d.answer ≡ Accepted → is_constant x ≡ true → k < 1008
-constant_room H n k (refused m place) s d ls js b u h e = let z : ◌≡◌ {A = ℕ} 0 1 = cc in absurd (omega arith)
-constant_room H n k (accepted (Deck.head g)) s d ls js b u h e = let z : ◌≡◌ {A = ℕ} 0 1 = cc in absurd (omega arith)
-constant_room H n k (accepted (Deck.order o)) s d ls js b u h e = let z : ◌≡◌ {A = ℕ} 0 1 = cc in absurd (omega arith)
-constant_room H n k (accepted (Deck.constant c)) s d ls js b u h e = ltb-true k 1008 (by (ltb k 1008) (sym (ap (λ (o : Outcome). o.answer) u) ∙ ap emit_answer h))
+pub constant_room : (H : Head) (n k : ℕ) (x : Answer Content) (s u : State) → told (Ok tt) u ≡ line_run H n k x s → is_constant x ≡ true → k < 1008
+constant_room H n k (refused m place) s u h e = let z : ◌≡◌ {A = ℕ} 0 1 = cc in absurd (omega arith)
+constant_room H n k (accepted (Deck.head g)) s u h e = let z : ◌≡◌ {A = ℕ} 0 1 = cc in absurd (omega arith)
+constant_room H n k (accepted (Deck.order o)) s u h e = let z : ◌≡◌ {A = ℕ} 0 1 = cc in absurd (omega arith)
+constant_room H n k (accepted (Deck.constant c)) s u h e = ltb-true k 1008 (by (ltb k 1008) (sym (ap (λ (o : Outcome). o.answer) h)))
   where
     by : (t : Bool) → (cond {A = Outcome} t (record { answer = accepted tt; state = s }) (record { answer = refused 9 0; state = s })).answer ≡ accepted tt → t ≡ true
     by true q = refl
@@ -119,19 +114,19 @@ module _ (file : List ℕ) (s : State) where
 pub file_fresh : (file js b ls c : List ℕ) → ls ≡ replicate 2039 0 → c ≡ cleared b → file_run file (state (record { len = 0; jumps = 0; closed = false }) ls js c) ≡ file_run file (fresh js b)
 file_fresh file js b ls c e f = rw (e, f)
 
-module _ (file js b : List ℕ) (x : RoutineResult) (ls₂ js₂ b₂ : List ℕ) (e : run_outcome x ls₂ js₂ b₂ ≡ file_run file (fresh js b)) where
-  pub run_refused : is_err x.answer ≡ true → (b₃ : List ℕ) → b₃ ≡ cleared b₂ → run_outcome x ls₂ js₂ b₃ ≡ run file js b
+module _ (file js b : List ℕ) (x : Result Outline Refused) (s : State) (e : ◌≡◌ {A = RunOutcome} (record { answer = routine_answer x; state = s }) (file_run file (fresh js b))) where
+  pub run_refused : is_err x ≡ true → (b' : List ℕ) → b' ≡ cleared s.buf → ◌≡◌ {A = RunOutcome} (record { answer = routine_answer x; state = with_buf b' s }) (run file js b)
   unfolding run
-  run_refused h b₃ g = by x.answer refl
+  run_refused h b' g = by x refl
     where
-      by : (a : Result Outline.Outline Refused.Refused) → x.answer ≡ a → run_outcome x ls₂ js₂ b₃ ≡ run file js b
+      by : (a : Result Outline Refused) → x ≡ a → ◌≡◌ {A = RunOutcome} (record { answer = routine_answer x; state = with_buf b' s }) (run file js b)
       by (Ok t) i = absurd (let z : ◌≡◌ {A = ℕ} 0 1 = cc in omega arith)
       by (Err r) i = rw (← e, g, i)
 
-  pub run_accepted : is_err x.answer ≡ false → run_outcome x ls₂ js₂ b₂ ≡ run file js b
+  pub run_accepted : is_err x ≡ false → ◌≡◌ {A = RunOutcome} (record { answer = routine_answer x; state = s }) (run file js b)
   unfolding run
-  run_accepted h = by x.answer refl
+  run_accepted h = by x refl
     where
-      by : (a : Result Outline.Outline Refused.Refused) → x.answer ≡ a → run_outcome x ls₂ js₂ b₂ ≡ run file js b
+      by : (a : Result Outline Refused) → x ≡ a → ◌≡◌ {A = RunOutcome} (record { answer = routine_answer x; state = s }) (run file js b)
       by (Ok t) i = rw (← e, i)
       by (Err r) i = absurd (let z : ◌≡◌ {A = ℕ} 0 1 = cc in omega arith)

@@ -11,16 +11,15 @@ use Rattle.ast.specs.declared.Constant.{Constant}
 use Rattle.ast.specs.declared.Constant.TheVariants.{Bits}
 use Rattle.text.specs.Lines.{lines_of}
 use Rattle.assembler.specs.Constant.{constant_items, constant_fault}
-use Rattle.assembler.specs.State.{State, state, outcome}
+use Rattle.assembler.specs.State.{State}
 use Rattle.assembler.specs.Put.{put}
-use Rattle.assembler.specs.declared.EmitResult.{EmitResult}
-use Rattle.assembler.specs.declared.Answer.TheVariants.{Accepted, Refused}
 use Rattle.refusal.specs.Answer.{Answer}
-use Rattle.refusal.specs.declared.Refusal.{Refusal}
+use Rattle.refusal.specs.declared.Refused.{Refused}
+use Rattle.std.specs.Prelude.{Ok, Err}
 use Rattle.deck.specs.Judge.{Content}
 use Rattle.routine.specs.Run.{says, RunOutcome, next, waiting, constants_run}
 use Rattle.routine.specs.Inner.Places.{is_constant, first_said, constant_at, constants_at}
-use Rattle.routine.proofs.Onward.{constants_stop, constants_go}
+use Rattle.routine.proofs.Onward.{told, constants_stop, constants_go}
 use Rattle.routine.proofs.Lined.{no_lines, one_waits}
 
 module _ (file : List ℕ) (place : ℕ) where
@@ -60,13 +59,11 @@ module _ (file ps : List ℕ) (n : ℕ) (h : n ≤ length ps) where
         let y : k < length (take n ps) = omega (arith, length-take-le n ps h) in
         rw (drop-cons (take n ps) k 0 y, get_or-take n ps k 0 g, add-one k)
 
-    -- the constant c at place k does what `d` tells
-    module _ (g : k < n) (c : Constant) (i : c ≡ constant_at file (get_or ps k 0)) (s : State) (d : EmitResult) (ls js b : List ℕ)
-        (e : outcome d ls js b ≡ put 0 (constant_fault k) (constant_items k c) s) (line : ℕ) (f : State → RunOutcome) where
-      pub place_stops : (r : Refusal) (place : ℕ) → d.answer ≡ Refused r place
-          → constants_run line k (constants_at file (drop k (take n ps))) s f ≡ next (outcome d ls js b) line f
-      place_stops = constants_stop line k _ (constants_at file (drop (k + 1) (take n ps))) (constant_at file (get_or ps k 0)) (place_next g) s d ls js b (rw i at e) f
+    -- the constant c at place k leaves the state u
+    module _ (g : k < n) (c : Constant) (i : c ≡ constant_at file (get_or ps k 0)) (s u : State) (line : ℕ) (f : State → RunOutcome) where
+      pub place_stops : (e : Refused) → told (Err e) u ≡ put 0 (constant_fault k) (constant_items k c) s → constants_run line k (constants_at file (drop k (take n ps))) s f ≡ next (told (Err e) u) line f
+      place_stops e h = constants_stop line k _ (constants_at file (drop (k + 1) (take n ps))) (constant_at file (get_or ps k 0)) (place_next g) s u f e (rw i at h)
 
-      pub place_goes : d.answer ≡ Accepted
-          → constants_run line k (constants_at file (drop k (take n ps))) s f ≡ constants_run line (k + 1) (constants_at file (drop (k + 1) (take n ps))) (state d.asm ls js b) f
-      place_goes = constants_go line k _ (constants_at file (drop (k + 1) (take n ps))) (constant_at file (get_or ps k 0)) (place_next g) s d ls js b (rw i at e) f
+      pub place_goes : told (Ok tt) u ≡ put 0 (constant_fault k) (constant_items k c) s
+          → constants_run line k (constants_at file (drop k (take n ps))) s f ≡ constants_run line (k + 1) (constants_at file (drop (k + 1) (take n ps))) u f
+      place_goes h = constants_go line k _ (constants_at file (drop (k + 1) (take n ps))) (constant_at file (get_or ps k 0)) (place_next g) s u f (rw i at h)

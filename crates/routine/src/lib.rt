@@ -1,30 +1,25 @@
 // Document 01, "Added: the routine".
 #![tactic(auto)]
 
-ghost use Rattle.std.specs.Prelude.{◌≡◌, false, List, [], ◌++◌, ℕ, Err, ◌≤◌, ◌<◌, length, take, drop, replicate};
+ghost use Rattle.std.specs.Prelude.{◌≡◌, [], Err, OnOk, ◌≤◌, length, drop};
 ghost use Rattle.text.specs.Lines.{lines_of};
-ghost use Rattle.assembler.specs.Bytes.{room};
-ghost use Rattle.assembler.specs.State.{state, outcome, before, after};
+ghost use Rattle.assembler.specs.State.{SameLent, before, after};
 ghost use Rattle.assembler.specs.Put.{put};
-ghost use Rattle.assembler.specs.declared.Answer.TheVariants.{Accepted as Taken, Refused as Stop};
 ghost use Rattle.ast.specs.Constant.{constant_limit};
 ghost use Rattle.call.specs.Layout.{padding};
-ghost use Rattle.routine.specs.Run.{cleared, enter_run, finish_run, leave_run, constant_run, says, line_run};
+ghost use Rattle.routine.specs.Run.{cleared, enter_run, finish_run, leave_run, says, line_run};
 ghost use Rattle.routine.specs.Run.{lines_run, file_run, run};
 ghost use Rattle.routine.specs.Routine.{Promise};
-ghost use Rattle.routine.specs.Inner.Places.{constant_at, constants_at, is_constant, Placed, Unwound, Open, Entered};
-ghost use Rattle.routine.specs.Answer.{routine_answer, run_after};
+ghost use Rattle.routine.specs.Inner.Places.{constant_at, constants_at, is_constant, on_line, done, Waits, Placed, Unwound, Open, Entered};
+ghost use Rattle.routine.specs.Answer.{routine_answer, run_left, run_after};
 
-use assembler::{Asm, EmitResult, JUMPS, Jumps, LABELS, Labels};
+use assembler::{Asm, Assembler, JUMPS, Jumps, LABELS, Labels, ROOM};
 use ast::{Constant, Frame, Head};
 use deck::Line;
 use refusal::{Refusal, Refused};
 
 // At most so many constants.
 const CONSTANTS: usize = 1008;
-
-// The bytes of the file where their lines start.
-type Places = [u16; CONSTANTS];
 
 // What is told of an accepted file: the code's length, the constants' offset and count, the jump count, the frame.
 #[derive(Clone, Copy)]
@@ -43,159 +38,87 @@ pub struct RoutineResult {
     pub answer: Result<Outline, Refused>,
 }
 
-// What a line did; `waits` where it is a constant, which is placed at the end.
-#[derive(Clone, Copy)]
-struct Step {
-    done: EmitResult,
-    waits: bool,
+// The refusal gets its line.
+fn on_line(r: Result<(), Refused>, line: u32) -> Result<(), Refused>
+    ensures { result ≡ on_line r line }
+{
+    r.map_err(|e| Refused {
+        why: e.why,
+        place: line,
+    })
 }
 
-fn refused(r: Refusal, line: u32, asm: Asm) -> RoutineResult
-    ensures { result ≡ record { asm = asm; answer = Err (record { why = r; place = line }) } }
+// Refused at a line.
+fn refused(why: Refusal, line: u32) -> Result<Outline, Refused>
+    ensures { result ≡ Err (record { why = why; place = line }) }
 {
-    RoutineResult {
-        asm,
-        answer: Err(Refused {
-            why: r,
-            place: line,
-        }),
-    }
-}
-
-// Accepted, and nothing changes.
-fn accepted(asm: Asm) -> EmitResult
-    ensures { result ≡ record { asm = asm; answer = Taken } }
-{
-    EmitResult {
-        asm,
-        answer: assembler::Answer::Accepted,
-    }
-}
-
-// A refusal that changes nothing.
-fn stopped(r: Refusal, asm: Asm) -> EmitResult
-    ensures { result ≡ record { asm = asm; answer = Stop r 0 } }
-{
-    EmitResult {
-        asm,
-        answer: assembler::Answer::Refused(r, 0),
-    }
+    Err(Refused { why, place: line })
 }
 
 // ---- the lent memory
-
-fn counts(n: usize) -> usize
-    ensures { (result ≡ room n) × (result ≤ n) }
-{
-    if n < 65536 { n } else { 65536 }
-}
-
-fn clear_to(buf: &mut [u8], n: usize)
-    requires { n ≤ length buf.old }
-    ensures { buf.new ≡ replicate n 0 ++ drop n buf.old }
-{
-    let mut i = 0;
-    while i < n {
-        buf[i] = 0;
-        i += 1;
-    }
-}
 
 // Zeros in the room.
 fn clear(buf: &mut [u8])
     ensures { buf.new ≡ cleared buf.old }
 {
-    let n = counts(buf.len());
-    clear_to(buf, n);
-}
-
-// No label set.
-fn clear_labels(labels: &mut Labels)
-    ensures { labels.new ≡ replicate 2039 0 }
-{
-    *labels = [0u64; LABELS];
+    let n = buf.len().min(ROOM);
+    buf[..n].fill(0);
 }
 
 // ---- line 1
 
 // Prologue and saves.
-fn enter(head: Head, buf: &mut [u8], labels: &mut Labels, jumps: &mut Jumps, asm: Asm) -> EmitResult
-    ensures { Entered head (before asm labels jumps buf) (after result labels jumps buf) }
+fn enter(asm: &mut Assembler<'_>, head: Head) -> Result<(), Refused>
+    ensures whole { Entered head (before asm.old) (after result asm.new) }
+    ensures lent { SameLent asm.old asm.new }
 {
-    let d = frames::prologue(head, 1, buf, labels, jumps, asm);
-    let w = d.answer;
-    if let assembler::Answer::Refused(_, _) = w {
-        return d;
-    }
-    frames::save_used_registers(head.mask, buf, labels, jumps, d.asm)
+    frames::prologue(asm, head, 1)?;
+    frames::save_used_registers(asm, head.mask)
 }
 
 // ---- behind the body
 
 // Finishing; constants start at `at`, and there are n.
-fn close(
-    head: Head,
-    at: usize,
-    n: usize,
-    buf: &mut [u8],
-    labels: &mut Labels,
-    jumps: &mut Jumps,
-    asm: Asm,
-) -> RoutineResult
+fn close(asm: &mut Assembler<'_>, head: Head, at: usize, n: usize) -> Result<Outline, Refused>
     requires { (at ≤ 65536) × (n ≤ constant_limit) }
-    ensures { run_after result labels jumps buf ≡ finish_run head at n (before asm labels jumps buf) }
+    ensures whole { run_left result asm.new ≡ finish_run head at n (before asm.old) }
+    ensures lent { SameLent asm.old asm.new }
 {
-    let f = finish::apply_jumps(buf, labels, jumps, asm);
-    let w = f.answer;
-    let a = f.asm;
-    if let assembler::Answer::Refused(r, _) = w {
-        return refused(r, f.tag, a);
+    if let Err(e) = finish::apply_jumps(asm.buf, asm.labels, asm.jumps, &mut asm.asm) {
+        return refused(e.refused.why, e.tag);
     }
-    let g = head.frame;
-    RoutineResult {
-        asm: a,
-        answer: Ok(Outline {
-            length: a.len as u32,
-            offset: at as u32,
-            constants: n as u32,
-            jumps: a.jumps as u32,
-            frame: g,
-        }),
-    }
+    Ok(Outline {
+        length: asm.asm.len as u32,
+        offset: at as u32,
+        constants: n as u32,
+        jumps: asm.asm.jumps as u32,
+        frame: head.frame,
+    })
 }
 
 // Reloads and epilogue, at the last line.
-fn unwind(
-    head: Head,
-    line: u32,
-    buf: &mut [u8],
-    labels: &mut Labels,
-    jumps: &mut Jumps,
-    asm: Asm,
-) -> EmitResult
-    ensures { Unwound head line (before asm labels jumps buf) (after result labels jumps buf)
-        × (result.answer ≡ Taken → Open (after result labels jumps buf).state) }
+fn unwind(asm: &mut Assembler<'_>, head: Head, line: u32) -> Result<(), Refused>
+    ensures whole { Unwound head line (before asm.old) (after result asm.new) }
+    ensures open { OnOk result (Open (before asm.new)) }
+    ensures lent { SameLent asm.old asm.new }
 {
-    let d = frames::load_used_registers(head.mask, buf, labels, jumps, asm);
-    let w = d.answer;
-    if let assembler::Answer::Refused(_, _) = w {
-        return d;
-    }
-    frames::epilogue(head, line, buf, labels, jumps, d.asm)
+    frames::load_used_registers(asm, head.mask)?;
+    frames::epilogue(asm, head, line)
 }
 
 // A nop, if constants follow and the length is no multiple of 8.
-fn pad(n: usize, buf: &mut [u8], labels: &mut Labels, jumps: &mut Jumps, asm: Asm) -> EmitResult
-    requires { Open (state asm labels.old jumps.old buf.old) }
-    ensures { after result labels jumps buf ≡ put 0 0 (padding asm.len n) (before asm labels jumps buf) }
+fn pad(asm: &mut Assembler<'_>, n: usize) -> Result<(), Refused>
+    requires { Open (before asm.old) }
+    ensures whole { after result asm.new ≡ put 0 0 (padding asm.old.asm.len n) (before asm.old) }
+    ensures lent { SameLent asm.old asm.new }
 {
     if n == 0 {
-        return accepted(asm);
+        return Ok(());
     }
-    if asm.len % 8 == 0 {
-        return accepted(asm);
+    if asm.asm.len % 8 == 0 {
+        return Ok(());
     }
-    assembler::append_word(encoder::nop().unwrap_or(0), buf, labels, jumps, asm)
+    asm.append_word(encoder::nop().unwrap_or(0))
 }
 
 // The constant of the line that starts at `place`; 0 where there is none.
@@ -215,129 +138,81 @@ fn constant_at(file: &[u8], place: u16) -> Constant
     }
 }
 
-// The constants at the first n places.
-fn constants(
-    file: &[u8],
-    places: &Places,
-    n: usize,
-    buf: &mut [u8],
-    labels: &mut Labels,
-    jumps: &mut Jumps,
-    mut asm: Asm,
-) -> EmitResult
-    requires { (n ≤ constant_limit) × (length places.now ≡ constant_limit) }
-    ensures { Placed (constants_at file.now (take n places.now)) (before asm labels jumps buf) (after result labels jumps buf) }
+// The constants at these places.
+fn constants(asm: &mut Assembler<'_>, file: &[u8], places: &[u16]) -> Result<(), Refused>
+    requires { length places.now ≤ constant_limit }
+    ensures whole { Placed (constants_at file.now places.now) (before asm.old) (after result asm.new) }
+    ensures lent { SameLent asm.old asm.new }
 {
-    let mut k = 0;
-    while k < n {
-        let c = constant_at(file, places[k]);
-        let d = assembler::append_const(k as u32, c, buf, labels, jumps, asm);
-        let w = d.answer;
-        if let assembler::Answer::Refused(_, _) = w {
-            return d;
-        }
-        asm = d.asm;
-        k += 1;
+    for (k, place) in places.iter().enumerate() {
+        let c = constant_at(file, *place);
+        asm.append_const(k as u32, c)?;
     }
-    EmitResult {
-        asm,
-        answer: assembler::Answer::Accepted,
-    }
+    Ok(())
 }
 
-// All that comes behind the body: reloads, epilogue, a nop or none, the constants at the first n places, finishing.
+// All that comes behind the body: reloads, epilogue, a nop or none, the constants at these places, finishing.
 fn leave(
+    asm: &mut Assembler<'_>,
     file: &[u8],
-    places: &Places,
-    n: usize,
+    places: &[u16],
     head: Head,
     line: u32,
-    buf: &mut [u8],
-    labels: &mut Labels,
-    jumps: &mut Jumps,
-    asm: Asm,
-) -> RoutineResult
-    requires { (n ≤ constant_limit) × (length places.now ≡ constant_limit) }
-    ensures { run_after result labels jumps buf
-        ≡ leave_run head line (constants_at file.now (take n places.now)) (before asm labels jumps buf) }
+) -> Result<Outline, Refused>
+    requires { length places.now ≤ constant_limit }
+    ensures whole { run_left result asm.new ≡ leave_run head line (constants_at file.now places.now) (before asm.old) }
+    ensures lent { SameLent asm.old asm.new }
 {
-    let u = unwind(head, line, buf, labels, jumps, asm);
-    let v = u.answer;
-    if let assembler::Answer::Refused(r, _) = v {
-        return refused(r, line, u.asm);
-    }
-    let p = pad(n, buf, labels, jumps, u.asm);
-    let q = p.answer;
-    if let assembler::Answer::Refused(r, _) = q {
-        return refused(r, line, p.asm);
-    }
-    let a = p.asm;
-    let d = constants(file, places, n, buf, labels, jumps, a);
-    let w = d.answer;
-    if let assembler::Answer::Refused(r, _) = w {
-        return refused(r, line, d.asm);
-    }
-    close(head, a.len, n, buf, labels, jumps, d.asm)
+    let n = places.len();
+    on_line(unwind(asm, head, line), line)?;
+    on_line(pad(asm, n), line)?;
+    let at = asm.asm.len;
+    on_line(constants(asm, file, places), line)?;
+    close(asm, head, at, n)
 }
 
 // ---- the body
 
-// One constant more than k.
-fn keep(k: usize, asm: Asm) -> EmitResult
-    ensures { (ls js b : List ℕ) → outcome result ls js b ≡ constant_run k (state asm ls js b) }
-{
-    if k < CONSTANTS {
-        return accepted(asm);
-    }
-    stopped(Refusal::Count, asm)
-}
-
-// A line by what it says, behind k constants: an order is emitted, a constant waits.
+// A line by what it says, behind k constants: an order is emitted, a constant waits. Whether it is one that waits.
 fn take_line(
+    asm: &mut Assembler<'_>,
     head: Head,
     n: u32,
     k: usize,
     line: &[u8],
-    buf: &mut [u8],
-    labels: &mut Labels,
-    jumps: &mut Jumps,
-    asm: Asm,
-) -> Step
-    ensures { (after result.done labels jumps buf ≡ line_run head n k (says line.now) (before asm labels jumps buf))
-        × (result.waits ≡ is_constant (says line.now)) }
+) -> Result<bool, Refused>
+    ensures whole { after (done result) asm.new ≡ line_run head n k (says line.now) (before asm.old) }
+    ensures waits { Waits result (is_constant (says line.now)) }
+    ensures lent { SameLent asm.old asm.new }
 {
     match deck::read_line(false, line) {
-        Ok(Line::Order(o)) => Step {
-            done: orders::emit_in(head, n, o, buf, labels, jumps, asm),
-            waits: false,
-        },
-        Ok(Line::Constant(_)) => Step {
-            done: keep(k, asm),
-            waits: true,
-        },
-        Ok(Line::Head(_)) => Step {
-            done: stopped(Refusal::Line, asm),
-            waits: false,
-        },
-        Err(r) => Step {
-            done: stopped(r, asm),
-            waits: false,
-        },
+        Ok(Line::Order(o)) => {
+            orders::emit_in(asm, head, n, o)?;
+            Ok(false)
+        }
+        Ok(Line::Constant(_)) => {
+            if k < CONSTANTS {
+                Ok(true)
+            } else {
+                Err(Refused {
+                    why: Refusal::Count,
+                    place: 0,
+                })
+            }
+        }
+        Ok(Line::Head(_)) => Err(Refused {
+            why: Refusal::Line,
+            place: 0,
+        }),
+        Err(why) => Err(Refused { why, place: 0 }),
     }
 }
 
 // The lines from byte `at` on, behind line 1.
-fn body(
-    file: &[u8],
-    mut at: usize,
-    head: Head,
-    buf: &mut [u8],
-    labels: &mut Labels,
-    jumps: &mut Jumps,
-    mut asm: Asm,
-) -> RoutineResult
+fn body(asm: &mut Assembler<'_>, file: &[u8], mut at: usize, head: Head) -> Result<Outline, Refused>
     requires { (length file.now ≤ 65536) × (at ≤ length file.now) }
-    ensures { run_after result labels jumps buf ≡ lines_run head 1 [] (lines_of (drop at file.now)) (before asm labels jumps buf) }
+    ensures whole { run_left result asm.new ≡ lines_run head 1 [] (lines_of (drop at file.now)) (before asm.old) }
+    ensures lent { SameLent asm.old asm.new }
 {
     let mut places = [0u16; CONSTANTS];
     let mut k = 0;
@@ -346,71 +221,54 @@ fn body(
         let place = at;
         at = lines::line_end(file, place);
         n += 1;
-        if let Some(next) = fast::line(head, n, &file[place..at], buf, labels, jumps, asm) {
-            asm = next;
+        if fast::line(head, n, &file[place..at], asm) {
             continue;
         }
-        let l = take_line(head, n, k, &file[place..at], buf, labels, jumps, asm);
-        let d = l.done;
-        let w = d.answer;
-        asm = d.asm;
-        if let assembler::Answer::Refused(r, _) = w {
-            return refused(r, n, asm);
-        }
-        if l.waits {
-            places[k] = place as u16;
-            k += 1;
-            continue;
+        match take_line(asm, head, n, k, &file[place..at]) {
+            Ok(false) => {}
+            Ok(true) => {
+                places[k] = place as u16;
+                k += 1;
+            }
+            Err(e) => return refused(e.why, n),
         }
     }
-    leave(file, &places, k, head, n, buf, labels, jumps, asm)
+    leave(asm, file, &places[..k], head, n)
 }
 
 // ---- the whole
 
 // A file whose line 1 is the head, and ends at byte `at`.
 fn read_headed(
+    asm: &mut Assembler<'_>,
     file: &[u8],
     at: usize,
     head: Head,
-    buf: &mut [u8],
-    labels: &mut Labels,
-    jumps: &mut Jumps,
-    asm: Asm,
-) -> RoutineResult
+) -> Result<Outline, Refused>
     requires { (length file.now ≤ 65536) × (at ≤ length file.now) }
-    ensures { run_after result labels jumps buf
-        ≡ enter_run head (before asm labels jumps buf) (lines_run head 1 [] (lines_of (drop at file.now))) }
+    ensures whole { run_left result asm.new ≡ enter_run head (before asm.old) (lines_run head 1 [] (lines_of (drop at file.now))) }
+    ensures lent { SameLent asm.old asm.new }
 {
-    let d = enter(head, buf, labels, jumps, asm);
-    let w = d.answer;
-    if let assembler::Answer::Refused(r, _) = w {
-        return refused(r, 1, d.asm);
-    }
-    body(file, at, head, buf, labels, jumps, d.asm)
+    on_line(enter(asm, head), 1)?;
+    body(asm, file, at, head)
 }
 
-fn read_file(
-    file: &[u8],
-    buf: &mut [u8],
-    labels: &mut Labels,
-    jumps: &mut Jumps,
-    asm: Asm,
-) -> RoutineResult
-    ensures { run_after result labels jumps buf ≡ file_run file.now (before asm labels jumps buf) }
+fn read_file(asm: &mut Assembler<'_>, file: &[u8]) -> Result<Outline, Refused>
+    ensures whole { run_left result asm.new ≡ file_run file.now (before asm.old) }
+    ensures lent { SameLent asm.old asm.new }
 {
-    if 65536 < file.len() {
-        return refused(Refusal::Full, 1, asm);
+    if file.len() > 65536 {
+        return refused(Refusal::Full, 1);
     }
     if file.len() == 0 {
-        return refused(Refusal::Line, 1, asm);
+        return refused(Refusal::Line, 1);
     }
     let e = lines::line_end(file, 0);
     match deck::read_line(true, &file[..e]) {
-        Ok(Line::Head(h)) => read_headed(file, e, h, buf, labels, jumps, asm),
-        Ok(Line::Order(_)) => refused(Refusal::Line, 1, asm),
-        Ok(Line::Constant(_)) => refused(Refusal::Line, 1, asm),
-        Err(r) => refused(r, 1, asm),
+        Ok(Line::Head(h)) => read_headed(asm, file, e, h),
+        Ok(Line::Order(_)) => refused(Refusal::Line, 1),
+        Ok(Line::Constant(_)) => refused(Refusal::Line, 1),
+        Err(why) => refused(why, 1),
     }
 }
 
@@ -424,19 +282,26 @@ pub fn routine_in(
     ensures { run_after result labels jumps buf ≡ run file.now jumps.old buf.old }
 {
     clear(buf);
-    clear_labels(labels);
-    let asm = Asm {
+    *labels = [0u64; LABELS];
+    let empty = Asm {
         len: 0,
         jumps: 0,
         closed: false,
     };
-    let r = read_file(file, buf, labels, jumps, asm);
-    let w = r.answer;
-    if w.is_err() {
-        clear(buf);
-        return r;
+    let mut asm = Assembler {
+        buf,
+        labels,
+        jumps,
+        asm: empty,
+    };
+    let answer = read_file(&mut asm, file);
+    if answer.is_err() {
+        clear(asm.buf);
     }
-    r
+    RoutineResult {
+        asm: asm.asm,
+        answer,
+    }
 }
 
 // The routine: the code in the buffer with zeros behind it, or the refusal and zeros.
@@ -445,6 +310,5 @@ pub fn routine(file: &[u8], buf: &mut [u8]) -> Result<Outline, Refused>
 {
     let mut labels = [0u64; LABELS];
     let mut jumps = [0u32; JUMPS];
-    let r = routine_in(file, buf, &mut labels, &mut jumps);
-    r.answer
+    routine_in(file, buf, &mut labels, &mut jumps).answer
 }

@@ -9,7 +9,7 @@ use Rattle.fast.proofs.line.Goals as goal
 
 pub returns-in_default-clause-whole : goal.returns-in_default-clause-whole
 unfolding fast_line
-returns-in_default-clause-whole c = ?
+returns-in_default-clause-whole c = (rw (unsaid c.args.line.now c.order_in.result c.order_in.ensures c.in_default.is), λ h. refl)
 
 pub returns-then-not-keeps-clause-whole : goal.returns-then-not-keeps-clause-whole
 unfolding fast_line

@@ -1,6 +1,5 @@
-use mathlib.Core.Path.{◌≡◌, sym, ◌∙◌}
+use mathlib.Core.Path.{◌∙◌}
 use Rattle.assembler.specs.State.{before}
-use Rattle.orders.specs.Fault.{fault}
 use Rattle.orders.proofs.Whole.{fault_some, fault_none, items_none, order_refused, order_label, order_alone, tail_right, tail_fits}
 use Rattle.orders.proofs.emit.Goals as goal
 

@@ -1,4 +1,3 @@
-use mathlib.Core.Path.{sym, ◌∙◌}
 use Rattle.orders.proofs.Whole.{fault_some, fault_none, items_none, goes_behind}
 use Rattle.orders.proofs.goes.Goals as goal
 

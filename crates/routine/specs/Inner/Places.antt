@@ -1,6 +1,7 @@
 -- What private functions promise: constants by their lines' places (the byte of the file where a line starts), and parts of the run.
-use Rattle.std.specs.Prelude.{◌≡◌, Bool, true, false, List, [], ◌∷◌, map, ℕ, drop}
+use Rattle.std.specs.Prelude.{◌≡◌, Bool, true, false, List, [], ◌∷◌, map, ℕ, drop, Result, Ok, Err}
 use Rattle.refusal.specs.Answer.{Answer, accepted, refused}
+use Rattle.refusal.specs.declared.Refused.{Refused}
 use Rattle.ast.specs.declared.Head.{Head}
 use Rattle.ast.specs.declared.Constant.{Constant}
 use Rattle.ast.specs.declared.Constant.TheVariants.{Bits}
@@ -34,6 +35,20 @@ unfoldable pub constants_at : (file places : List ℕ) → List Constant
 constants_at file places = map (constant_at file) places
 
 -- ---- parts of the run, with their outcome
+
+-- the refusal gets its line
+abbrev pub on_line : Result (Unit {0}) Refused → (line : ℕ) → Result (Unit {0}) Refused
+on_line (Ok u) line = Ok u
+on_line (Err e) line = Err (record { why = e.why; place = line })
+
+-- what a line answers, and whether it waits
+abbrev pub done : Result Bool Refused → Result (Unit {0}) Refused
+done (Ok b) = Ok tt
+done (Err e) = Err e
+
+abbrev pub Waits : Result Bool Refused → Bool → Type 0
+Waits (Ok b) c = b ≡ c
+Waits (Err e) c = Unit {0}
 
 -- constants from number 0 on are placed
 abbrev pub Placed : List Constant → State → Outcome → Type 0
