@@ -16,7 +16,7 @@ use Rattle.unused.specs.Unused.{is_unused, unused_in, numbers_good, listed, unus
 use Rattle.stale.specs.Deck.{labels_text}
 use Rattle.stale.specs.Inner.Scan.{file_line}
 use Rattle.stale.specs.Inner.Text.{list_of, count_of, line_in, memory_text, Says}
-use Rattle.unused.specs.declared.Unused.{Unused}
+use Rattle.refusal.specs.declared.Refused.{Refused}
 use Rattle.unused.proofs.From.{from_short}
 use Rattle.stale.proofs.Texts.{labels_short, same_text}
 
@@ -43,7 +43,7 @@ module _ (m : List ℕ) (a : Asm) where
       by false = y
 
   -- that was put over zeros
-  module _ (r : Unused) (list : List ℕ) (n : ℕ) (e : unused_answer r ≡ counted (listed m a)) (w : list ≡ put_list (listed m a) (replicate 2039 0)) (c : n ≡ count_of (unused_answer r)) where
+  module _ (r : Result ℕ Refused) (list : List ℕ) (n : ℕ) (e : unused_answer r ≡ counted (listed m a)) (w : list ≡ put_list (listed m a) (replicate 2039 0)) (c : n ≡ count_of (unused_answer r)) where
     whole : (n ≤ length list) × (take n list ≡ list_of (listed m a))
     whole =
         let z : List ℕ = replicate 2039 0 in

@@ -44,12 +44,8 @@ fn operand_label(p: Operand) -> Option<u32>
     ensures { first_answer result ≡ label_set p }
 {
     match p {
-        Operand::Nothing => None,
-        Operand::Loaded(_, _) => None,
-        Operand::Stored(_, _) => None,
-        Operand::Constant(_) => None,
-        Operand::GoneTo(_) => None,
         Operand::Set(l) => Some(l),
+        _ => None,
     }
 }
 
@@ -58,12 +54,8 @@ fn label_of(line: &[u8]) -> Option<u32>
     ensures { first_answer result ≡ label_of line.now }
 {
     match deck::read_line(false, line) {
-        Ok(Line::Order(o)) => {
-            let u = ast::uses(o);
-            let p = u.operand;
-            operand_label(p)
-        }
-        Ok(Line::Head(_)) | Ok(Line::Constant(_)) | Err(_) => None,
+        Ok(Line::Order(o)) => operand_label(ast::uses(o).operand),
+        _ => None,
     }
 }
 
@@ -135,22 +127,13 @@ fn put_labels(list: &[u32], found: &SetLines, w: &mut Writer)
     }
 }
 
-fn count(a: Unused) -> usize
-    ensures { result ≡ count_of (unused_answer a) }
-{
-    match a {
-        Unused::Labels(n) => n as usize,
-        Unused::Refused(_, _) => 0,
-    }
-}
-
 // The lines of the listed labels, of a file that isn't too long.
 fn labels_text(file: &[u8], labels: &Labels, asm: Asm, out: &mut [u8]) -> Result<usize, TooLong>
     requires { length file.now ≤ 65536 }
     ensures { Says (memory_text file.now labels.now asm) out.old result out.new }
 {
     let mut list = [0u32; LABELS];
-    let n = count(unused::unused_labels(labels, asm, &mut list));
+    let n = unused::unused_labels(labels, asm, &mut list).unwrap_or(0) as usize;
     let found = set_lines(file);
     let mut text = [0u8; TEXT];
     let mut w = Writer {
