@@ -9,10 +9,9 @@ ghost use Rattle.print.specs.Listing.{first_answer};
 ghost use Rattle.print.specs.Writer.{HasRoom, Wrote};
 ghost use Rattle.routine.specs.Routine.{program_of, summary_answer};
 ghost use Rattle.routine.specs.Answer.{routine_answer};
-ghost use Rattle.unused.specs.Unused.{unused_answer};
 ghost use Rattle.stale.specs.Deck.{label_text, own_text, labels_text, deck_labels};
 ghost use Rattle.stale.specs.Inner.Scan.{label_of, set_line, file_line};
-ghost use Rattle.stale.specs.Inner.Text.{count_of, line_in, memory_text, Within, summary_text, Says};
+ghost use Rattle.stale.specs.Inner.Text.{line_in, memory_text, Within, summary_text, Says};
 
 use assembler::{Asm, JUMPS, LABELS, Labels, ROOM};
 use ast::Operand;
