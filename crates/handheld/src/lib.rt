@@ -314,7 +314,7 @@ fn put_constant(asm: &mut Assembler<'_>, line: &[u8], k: u32) -> Result<(), Refu
     match says(line) {
         Said::Constant(c) => asm.append_const(k, c),
         Said::TooBig => too_big(asm),
-        Said::Order(_) | Said::Other => Err(NO_SUCH),
+        _ => Err(NO_SUCH),
     }
 }
 
