@@ -10,7 +10,7 @@ ghost use Rattle.print.specs.Writer.{HasRoom, Wrote};
 ghost use Rattle.routine.specs.Routine.{program_of, summary_answer};
 ghost use Rattle.routine.specs.Answer.{routine_answer};
 ghost use Rattle.stale.specs.Deck.{label_text, own_text, labels_text, deck_labels};
-ghost use Rattle.stale.specs.Inner.Scan.{label_of, set_line, file_line};
+ghost use Rattle.stale.specs.Inner.Scan.{label_of, with_line, set_line, file_line};
 ghost use Rattle.stale.specs.Inner.Text.{line_in, memory_text, Within, summary_text, Says};
 
 use assembler::{Asm, JUMPS, LABELS, Labels, ROOM};
@@ -58,6 +58,18 @@ fn label_of(line: &[u8]) -> Option<u32>
     }
 }
 
+// The first line that sets a label stays.
+fn note(found: &mut SetLines, label: Option<u32>, line: u32)
+    ensures { found.new ≡ with_line found.old (first_answer label) line }
+{
+    if let Some(l) = label {
+        let i = l as usize;
+        if i < OWN && found[i] == 0 {
+            found[i] = line;
+        }
+    }
+}
+
 // The lines from byte `at` on, of which the first is line 2.
 fn lines_from(file: &[u8], mut at: usize) -> SetLines
     requires { (length file.now ≤ 65536) × (at < length file.now → 0 < at) }
@@ -67,21 +79,10 @@ fn lines_from(file: &[u8], mut at: usize) -> SetLines
     let mut found = [0u32; OWN];
     let mut next: u32 = 2;
     while at < file.len() {
-        let place = at;
-        at = lines::line_end(file, place);
-        let line = next;
+        let end = lines::line_end(file, at);
+        note(&mut found, label_of(&file[at..end]), next);
+        at = end;
         next += 1;
-        let Some(label) = label_of(&file[place..at]) else {
-            continue;
-        };
-        let l = label as usize;
-        if l >= OWN {
-            continue;
-        }
-        if found[l] != 0 {
-            continue;
-        }
-        found[l] = line;
     }
     found
 }
