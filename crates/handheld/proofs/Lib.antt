@@ -3,4 +3,3 @@ pub mod Forms
 pub mod Shown
 pub mod Attendant
 pub mod Limits
-pub mod Unused

@@ -11,7 +11,7 @@ use Rattle.deck.specs.Judge.{Content, judged}
 use Rattle.deck.specs.Judge as Deck
 use Rattle.assembler.specs.declared.Asm.{Asm}
 use Rattle.assembler.specs.Constant.{constant_fault, constant_items}
-use Rattle.assembler.specs.State.{State, Outcome, Lent, Read, state, before}
+use Rattle.assembler.specs.State.{State, Outcome, Lent, Read, state}
 use Rattle.assembler.specs.Put.{put}
 use Rattle.finish.specs.Finish.{FinishOutcome}
 use Rattle.orders.specs.Emitted.{emitted}
@@ -122,7 +122,7 @@ finish_told e = place e.answer ∷ e.tag ∷ []
 
 -- the state that a function is called in, and what it answers and leaves
 abbrev pub single_before : (rec labels jumps buf : Lent) → State
-single_before rec labels jumps buf = before (asm_of rec.entry.now) labels jumps buf
+single_before rec labels jumps buf = state (asm_of rec.entry.now) labels.entry.now jumps.entry.now buf.entry.now
 
 abbrev pub single_after : (number : ℕ) → (rec labels jumps buf : Lent) → SingleOutcome
 single_after n rec labels jumps buf = single n rec.exit.now labels.exit.now jumps.exit.now buf.exit.now

@@ -5,7 +5,7 @@ ghost use Rattle.std.specs.Prelude.{◌≡◌, List, [], ℕ};
 ghost use Rattle.refusal.specs.Number.{number_of};
 ghost use Rattle.form.specs.Grammar.{said};
 ghost use Rattle.deck.specs.Inner.Forms.{form_judged};
-ghost use Rattle.assembler.specs.State.{state, outcome, emit_answer, before, after};
+ghost use Rattle.assembler.specs.State.{SameLent, emit_answer, before, after};
 ghost use Rattle.assembler.specs.Put.{put};
 ghost use Rattle.finish.specs.Finish.{finish};
 ghost use Rattle.routine.specs.Answer.{routine_answer};
@@ -16,14 +16,14 @@ ghost use Rattle.listing.specs.Listing.{code_answer, listed, deck_listing};
 ghost use Rattle.listing.specs.Views.{deck_view};
 ghost use Rattle.handheld.specs.Numbers.{number, place, frame_number, deck_numbers, Deck, DeckIn, text_number};
 ghost use Rattle.handheld.specs.Numbers.{CodeTold, listing_numbers, DeckListed, view_of};
-ghost use Rattle.handheld.specs.Single.{constant_of, says, no_such, line_put, constant_put};
+ghost use Rattle.handheld.specs.Single.{constant_of, says, line_put, constant_put};
 ghost use Rattle.handheld.specs.Single.{asm_of, numbers_of, record_after, order_outcome, finish_outcome, finish_told};
 ghost use Rattle.handheld.specs.Single.{single_before, single_after, finish_before, finish_after};
 ghost use Rattle.unused.specs.Unused.{listed as unused_listed};
 ghost use Rattle.handheld.specs.Single.{UnusedTold};
 ghost use Rattle.handheld.specs.Inner.Forms.{field_of, form_says};
 
-use assembler::{Asm, EmitResult, Jumps, LABELS, Labels};
+use assembler::{Asm, Assembler, Jumps, LABELS, Labels};
 use ast::{Constant, Frame, Order};
 use deck::Line;
 use form::Form;
@@ -32,7 +32,6 @@ use print::TooLong;
 use refusal::{Refusal, Refused};
 use routine::Outline;
 use text::Number;
-use unused::Unused;
 
 // ---- a deck file
 
@@ -99,8 +98,7 @@ pub extern "C" fn deck_emit_in(
 ) -> u32
     ensures { DeckIn file.now result told labels jumps buf }
 {
-    let e = routine::routine_in(file, buf, labels, jumps);
-    let a = e.answer;
+    let a = routine::routine_in(file, buf, labels, jumps).answer;
     *told = numbers(a);
     answer_number(a)
 }
@@ -145,8 +143,7 @@ fn code_place(a: Result<(), CodeError>) -> u64
     ensures { (text : List ℕ) → result ≡ place (code_answer a text) }
 {
     match a {
-        Ok(()) => 0,
-        Err(CodeError::Offset) => 0,
+        Ok(()) | Err(CodeError::Offset) => 0,
         Err(CodeError::Foreign(place)) => place as u64,
     }
 }
@@ -241,8 +238,7 @@ fn constant(form: Form) -> Said
 {
     match deck::judge(form) {
         Ok(Line::Constant(c)) => Said::Constant(c),
-        Ok(Line::Order(_)) => Said::Other,
-        Ok(Line::Head(_)) => Said::Other,
+        Ok(Line::Order(_) | Line::Head(_)) => Said::Other,
         Err(_) => Said::TooBig,
     }
 }
@@ -278,89 +274,58 @@ fn form_says(form: Form) -> Said
         Form::Save(s, p, i) => Said::Order(Order::Save(field(s), p, field(i))),
         Form::BranchIf(c, l, e) => Said::Order(Order::BranchIf(field(c), field(l), e)),
         Form::SetLabel(l) => Said::Order(Order::SetLabel(field(l))),
-        Form::Float(_, _) => constant(form),
-        Form::Bits(_) => constant(form),
+        Form::Float(_, _) | Form::Bits(_) => constant(form),
         Form::Head(_, _, _, _, _, _) => Said::Other,
     }
 }
 
-fn no_such(asm: Asm) -> EmitResult
-    ensures { (ls js b : List ℕ) → outcome result ls js b ≡ no_such (state asm ls js b) }
-{
-    EmitResult {
-        asm,
-        answer: assembler::Answer::Refused(Refusal::Line, 0),
-    }
-}
+// Neither an order nor a constant, where one is asked for.
+const NO_SUCH: Refused = Refused {
+    why: Refusal::Line,
+    place: 0,
+};
 
 // A float beyond 2^53: 8, or else 2.
-fn too_big(asm: Asm) -> EmitResult
-    ensures { (ls js b : List ℕ) → outcome result ls js b ≡ put 0 (number_of Refusal.Value) [] (state asm ls js b) }
+#[tactic(auto, unfolding(assembler::specs::Put::labels, assembler::specs::Put::targets, assembler::specs::Put::words, assembler::specs::Put::put, assembler::specs::Put::placed))]
+fn too_big(asm: &Assembler<'_>) -> Result<(), Refused>
+    ensures { after result asm.now ≡ put 0 (number_of Refusal.Value) [] (before asm.now) }
 {
-    if asm.closed {
-        return EmitResult {
-            asm,
-            answer: assembler::Answer::Refused(Refusal::Closed, 0),
-        };
-    }
-    EmitResult {
-        asm,
-        answer: assembler::Answer::Refused(Refusal::Value, 0),
-    }
+    asm.check_whole(Some(Refusal::Value), &[], &[], 0)
 }
 
 // A line's order.
-fn put_line(
-    line: &[u8],
-    tag: u32,
-    buf: &mut [u8],
-    labels: &mut Labels,
-    jumps: &mut Jumps,
-    asm: Asm,
-) -> EmitResult
-    ensures { after result labels jumps buf ≡ line_put tag (said line.now) (before asm labels jumps buf) }
+#[tactic(auto, unfolding(crate::specs::Single::line_put))]
+fn put_line(asm: &mut Assembler<'_>, line: &[u8], tag: u32) -> Result<(), Refused>
+    ensures whole { after result asm.new ≡ line_put tag (said line.now) (before asm.old) }
+    ensures lent { SameLent asm.old asm.new }
 {
     match says(line) {
-        Said::Order(o) => orders::emit(o, tag, buf, labels, jumps, asm),
-        Said::Constant(_) => no_such(asm),
-        Said::TooBig => no_such(asm),
-        Said::Other => no_such(asm),
+        Said::Order(o) => orders::emit(asm, o, tag),
+        _ => Err(NO_SUCH),
     }
 }
 
 // A line's constant, as constant k.
-fn put_constant(
-    line: &[u8],
-    k: u32,
-    buf: &mut [u8],
-    labels: &mut Labels,
-    jumps: &mut Jumps,
-    asm: Asm,
-) -> EmitResult
-    ensures { after result labels jumps buf ≡ constant_put k (said line.now) (before asm labels jumps buf) }
+#[tactic(auto, unfolding(crate::specs::Single::constant_put))]
+fn put_constant(asm: &mut Assembler<'_>, line: &[u8], k: u32) -> Result<(), Refused>
+    ensures whole { after result asm.new ≡ constant_put k (said line.now) (before asm.old) }
+    ensures lent { SameLent asm.old asm.new }
 {
     match says(line) {
-        Said::Constant(c) => assembler::append_const(k, c, buf, labels, jumps, asm),
+        Said::Constant(c) => asm.append_const(k, c),
         Said::TooBig => too_big(asm),
-        Said::Order(_) => no_such(asm),
-        Said::Other => no_such(asm),
+        _ => Err(NO_SUCH),
     }
 }
 
 // ---- the record of three numbers
 
-fn size(n: u64) -> usize
-    ensures { result ≡ n }
-{
-    n as usize
-}
-
 fn asm_of(rec: &[u64; 3]) -> Asm
     ensures { result ≡ asm_of rec.now }
 {
     Asm {
-        len: size(rec[0]),
-        jumps: size(rec[1]),
+        len: rec[0] as usize,
+        jumps: rec[1] as usize,
         closed: rec[2] != 0,
     }
 }
@@ -368,23 +333,21 @@ fn asm_of(rec: &[u64; 3]) -> Asm
 fn numbers_of(asm: Asm) -> [u64; 3]
     ensures { result ≡ numbers_of asm }
 {
-    if asm.closed {
-        return [asm.len as u64, asm.jumps as u64, 1];
-    }
-    [asm.len as u64, asm.jumps as u64, 0]
+    [asm.len as u64, asm.jumps as u64, asm.closed as u64]
 }
 
 // The answer's number; the record's numbers anew, if it is no refusal.
-fn kept(d: EmitResult, rec: &mut [u64; 3]) -> u32
-    ensures { (result ≡ number (emit_answer d.answer))
-        × (rec.new ≡ record_after (emit_answer d.answer) d.asm rec.old) }
+fn kept(answer: Result<(), Refused>, asm: Asm, rec: &mut [u64; 3]) -> u32
+    ensures { (result ≡ number (emit_answer answer))
+        × (rec.new ≡ record_after (emit_answer answer) asm rec.old) }
 {
-    let a = d.answer;
-    if let assembler::Answer::Refused(why, _) = a {
-        return refusal::number(why) as u32;
+    match answer {
+        Ok(()) => {
+            *rec = numbers_of(asm);
+            0
+        }
+        Err(refused) => refusal::number(refused.why) as u32,
     }
-    *rec = numbers_of(d.asm);
-    0
 }
 
 // One order by its line, byte 10 included: 0, or the number of the refusal. `tag` is kept with each jump.
@@ -399,8 +362,15 @@ pub extern "C" fn order_emit(
 ) -> u32
     ensures { single_after result rec labels jumps buf ≡ order_outcome (line_put tag (said line.now)) rec labels jumps buf }
 {
-    let d = put_line(line, tag, buf, labels, jumps, asm_of(rec));
-    kept(d, rec)
+    let asm = asm_of(rec);
+    let mut a = Assembler {
+        buf,
+        labels,
+        jumps,
+        asm,
+    };
+    let answer = put_line(&mut a, line, tag);
+    kept(answer, a.asm, rec)
 }
 
 // The constant of a `float` or `bits` line, byte 10 included, as constant k: 0, or the number of the refusal.
@@ -415,8 +385,15 @@ pub extern "C" fn order_constant(
 ) -> u32
     ensures { single_after result rec labels jumps buf ≡ order_outcome (constant_put k (said line.now)) rec labels jumps buf }
 {
-    let d = put_constant(line, k, buf, labels, jumps, asm_of(rec));
-    kept(d, rec)
+    let asm = asm_of(rec);
+    let mut a = Assembler {
+        buf,
+        labels,
+        jumps,
+        asm,
+    };
+    let answer = put_constant(&mut a, line, k);
+    kept(answer, a.asm, rec)
 }
 
 // Finishing: 0, or the number of the refusal, with its place and the jump's tag.
@@ -431,16 +408,18 @@ pub extern "C" fn order_finish(
     ensures { (finish_after result rec labels jumps buf ≡ finish_outcome rec (finish (finish_before rec labels jumps buf)))
         × (told.new ≡ finish_told (finish (finish_before rec labels jumps buf))) }
 {
-    let f = finish::apply_jumps(buf, labels, jumps, asm_of(rec));
-    let a = f.answer;
-    let tag = f.tag;
-    if let assembler::Answer::Refused(why, at) = a {
-        *told = [at, tag];
-        return refusal::number(why) as u32;
+    let mut asm = asm_of(rec);
+    match finish::apply_jumps(buf, labels, jumps, &mut asm) {
+        Ok(()) => {
+            *told = [0, 0];
+            *rec = numbers_of(asm);
+            0
+        }
+        Err(e) => {
+            *told = [e.refused.place, e.tag];
+            refusal::number(e.refused.why) as u32
+        }
     }
-    *told = [0, tag];
-    *rec = numbers_of(f.asm);
-    0
 }
 
 // The labels that are set and that no jump goes to, behind an accepted finish: 0 and how many, or the number of the refusal.
@@ -454,12 +433,11 @@ pub extern "C" fn label_unused(
     ensures { UnusedTold (unused_listed labels.now (asm_of rec.now)) result
         told.old told.new out.old out.new }
 {
-    let u = unused::unused_labels(labels, asm_of(rec), out);
-    match u {
-        Unused::Labels(n) => {
+    match unused::unused_labels(labels, asm_of(rec), out) {
+        Ok(n) => {
             *told = [n];
             0
         }
-        Unused::Refused(why, _) => refusal::number(why) as u32,
+        Err(refused) => refusal::number(refused.why) as u32,
     }
 }

@@ -15,7 +15,8 @@ use Rattle.assembler.specs.Put.{put, placed}
 use Rattle.assembler.specs.State.{State, sound}
 use Rattle.assembler.specs.declared.Asm.{Asm}
 use Rattle.finish.specs.Finish.{FinishOutcome, finish, finish_number, finished, finish_outcome}
-use Rattle.std.specs.Prelude.{Ok}
+use Rattle.std.specs.Prelude.{Result, Ok, Err, OnOk}
+use Rattle.refusal.specs.declared.Refused.{Refused}
 use Rattle.finish.proofs.All.{accepts, zero_then, zero_else}
 use Rattle.finish.proofs.Both.{moved, Accepts, put_split}
 use Rattle.finish.proofs.Resolves.{finish_accepts}
@@ -47,6 +48,10 @@ put_open tag fault is s t e =
     let p = accepts tag fault is s t a in
     let q : Accepts tag (is ++ []) s t = rw (append-nil is) (ap (λ (k : ℕ). put tag k is s) (sym p.0.no_fault) ∙ a) in
     rw (← p.1) at (put_split tag is [] s t q).1
+
+pub ok_open : (tag fault : ℕ) (is : List Item) (s : State) (r : Result (Unit {0}) Refused) (t : State) → told r t ≡ put tag fault is s → OnOk r (Open t)
+ok_open tag fault is s (Ok u) t e = put_open tag fault is s t e
+ok_open tag fault is s (Err x) t e = tt
 
 pub put_bound : (tag fault : ℕ) (is : List Item) (s : State) (t : State) → told (Ok tt) t ≡ put tag fault is s → t.asm.len ≤ 65536
 put_bound tag fault is s t e =

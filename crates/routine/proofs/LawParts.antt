@@ -68,7 +68,7 @@ module _ (b : List ℕ) (is : List Item) (ts : List ℕ) (s : State) (a : Repres
   pub fault_agrees : (js : List Item) (tag k : ℕ) → Labelled js → (suc k ≡ 1 → ⊥) → (suc k ≡ 3 → ⊥) → (line : ℕ) (f : State → RunOutcome) → Agrees b (refused (suc k) line) (next (put tag (suc k) js s) line f)
   unfolding put
   fault_agrees js tag k lab h g line f =
-      let q : suc k ≡ put_number (suc k) js s = v_fault (suc k) _ _ _ _ a.unclosed h g (join _ _ (numbers_known b is ts s a js lab) (laid_sound b is ts s a)) (λ z. omega arith) in
+      let q : suc k ≡ put_number (suc k) js s = v_fault (suc k) _ _ _ _ a.unclosed (join _ _ (numbers_known b is ts s a js lab) (laid_sound b is ts s a)) (λ z. omega arith) in
       rw (← q, settled_no (suc k) s (placed tag js s) (λ z. omega arith)) (laid_refuses (suc k) line)
 
   module _ (js : List Item) (tag fault : ℕ) (h : Labelled js) (o : Once (labels js)) (z : fault ≡ 0) where

@@ -21,7 +21,7 @@ use Rattle.deck.specs.Judge as Deck
 use Rattle.assembler.specs.State.{State, Outcome, state}
 use Rattle.orders.specs.Emitted.{emitted_in}
 use Rattle.routine.specs.Inner.Places.{is_constant, first_said}
-use Rattle.routine.specs.Run.{says, fresh, cleared, waiting, line_run, lines_run, leave_run, head_run, file_run, RunOutcome, with_buf, run}
+use Rattle.routine.specs.Run.{says, fresh, cleared, waiting, line_run, lines_run, leave_run, head_run, file_run, RunOutcome, with_buf, whole_run, run}
 use Rattle.routine.specs.Answer.{routine_answer}
 use Rattle.std.specs.Prelude.{Result, Ok, Err, is_err}
 use Rattle.refusal.specs.declared.Refused.{Refused}
@@ -111,22 +111,22 @@ module _ (file : List ℕ) (s : State) where
 
 -- ---- the whole
 
-pub file_fresh : (file js b ls c : List ℕ) → ls ≡ replicate 2039 0 → c ≡ cleared b → file_run file (state (record { len = 0; jumps = 0; closed = false }) ls js c) ≡ file_run file (fresh js b)
-file_fresh file js b ls c e f = rw (e, f)
-
-module _ (file js b : List ℕ) (x : Result Outline Refused) (s : State) (e : ◌≡◌ {A = RunOutcome} (record { answer = routine_answer x; state = s }) (file_run file (fresh js b))) where
-  pub run_refused : is_err x ≡ true → (b' : List ℕ) → b' ≡ cleared s.buf → ◌≡◌ {A = RunOutcome} (record { answer = routine_answer x; state = with_buf b' s }) (run file js b)
-  unfolding run
-  run_refused h b' g = by x refl
+module _ (file : List ℕ) (s u : State) (x : Result Outline Refused) (e : ◌≡◌ {A = RunOutcome} (record { answer = routine_answer x; state = u }) (file_run file s)) where
+  pub run_refused : is_err x ≡ true → (b : List ℕ) → b ≡ cleared u.buf → ◌≡◌ {A = RunOutcome} (record { answer = routine_answer x; state = with_buf b u }) (whole_run file s)
+  run_refused h b g = by x refl
     where
-      by : (a : Result Outline Refused) → x ≡ a → ◌≡◌ {A = RunOutcome} (record { answer = routine_answer x; state = with_buf b' s }) (run file js b)
+      by : (a : Result Outline Refused) → x ≡ a → ◌≡◌ {A = RunOutcome} (record { answer = routine_answer x; state = with_buf b u }) (whole_run file s)
       by (Ok t) i = absurd (let z : ◌≡◌ {A = ℕ} 0 1 = cc in omega arith)
       by (Err r) i = rw (← e, g, i)
 
-  pub run_accepted : is_err x ≡ false → ◌≡◌ {A = RunOutcome} (record { answer = routine_answer x; state = s }) (run file js b)
-  unfolding run
+  pub run_accepted : is_err x ≡ false → ◌≡◌ {A = RunOutcome} (record { answer = routine_answer x; state = u }) (whole_run file s)
   run_accepted h = by x refl
     where
-      by : (a : Result Outline Refused) → x ≡ a → ◌≡◌ {A = RunOutcome} (record { answer = routine_answer x; state = s }) (run file js b)
+      by : (a : Result Outline Refused) → x ≡ a → ◌≡◌ {A = RunOutcome} (record { answer = routine_answer x; state = u }) (whole_run file s)
       by (Ok t) i = rw (← e, i)
       by (Err r) i = absurd (let z : ◌≡◌ {A = ℕ} 0 1 = cc in omega arith)
+
+-- a run from an empty state
+pub run_fresh : (file js b c : List ℕ) → c ≡ cleared b → whole_run file (state (record { len = 0; jumps = 0; closed = false }) (replicate 2039 0) js c) ≡ run file js b
+unfolding run
+run_fresh file js b c f = rw f

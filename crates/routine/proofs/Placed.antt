@@ -6,7 +6,7 @@ use Prim.Native.Nat.{ℕ, ◌+◌, ◌-◌, ◌≤◌, ◌<◌}
 use native.Mathlib.Numerals.{add-one}
 use native.Mathlib.Omega.{arith}
 use lib.ListN.{length, get_or, set, take, drop, length-map, drop_of_length-le}
-use lib.Seq.{drop-cons, get_or-take, length-take-le, take-suc-set}
+use lib.Seq.{drop-cons, take-suc-set}
 use Rattle.ast.specs.declared.Constant.{Constant}
 use Rattle.ast.specs.declared.Constant.TheVariants.{Bits}
 use Rattle.text.specs.Lines.{lines_of}
@@ -15,7 +15,7 @@ use Rattle.assembler.specs.State.{State}
 use Rattle.assembler.specs.Put.{put}
 use Rattle.refusal.specs.Answer.{Answer}
 use Rattle.refusal.specs.declared.Refused.{Refused}
-use Rattle.std.specs.Prelude.{Ok, Err}
+use Rattle.std.specs.Prelude.{Result, Ok, Err}
 use Rattle.deck.specs.Judge.{Content}
 use Rattle.routine.specs.Run.{says, RunOutcome, next, waiting, constants_run}
 use Rattle.routine.specs.Inner.Places.{is_constant, first_said, constant_at, constants_at}
@@ -41,29 +41,25 @@ pub place_kept : (file ps : List ℕ) (k place : ℕ) (t : List ℕ) (ts : List 
 unfolding constants_at
 place_kept file ps k place t ts i h e = rw (add-one k, take-suc-set ps k place h, map-append, ← said_at file place t ts i, ← one_waits (says t) e)
 
-module _ (file ps : List ℕ) (n : ℕ) (h : n ≤ length ps) where
-  pub places_length : length (constants_at file (take n ps)) ≡ n
+module _ (file ps : List ℕ) where
+  pub places_length : length (constants_at file ps) ≡ length ps
   unfolding constants_at
-  places_length = length-map (take n ps) (constant_at file) ∙ length-take-le n ps h
+  places_length = length-map ps (constant_at file)
 
   module _ (k : ℕ) where
-    pub places_done : n ≤ k → (s : State) (line : ℕ) (f : State → RunOutcome) → constants_run line k (constants_at file (drop k (take n ps))) s f ≡ f s
+    pub places_done : length ps ≤ k → (s : State) (line : ℕ) (f : State → RunOutcome) → constants_run line k (constants_at file (drop k ps)) s f ≡ f s
     unfolding constants_at constants_run
-    places_done g s line f =
-        let y : length (take n ps) ≤ k = omega (arith, length-take-le n ps h) in
-        rw (drop_of_length-le (take n ps) y)
+    places_done g s line f = rw (drop_of_length-le ps g)
 
-    place_next : k < n → constants_at file (drop k (take n ps)) ≡ constant_at file (get_or ps k 0) ∷ constants_at file (drop (k + 1) (take n ps))
+    place_next : k < length ps → constants_at file (drop k ps) ≡ constant_at file (get_or ps k 0) ∷ constants_at file (drop (k + 1) ps)
     unfolding constants_at
-    place_next g =
-        let y : k < length (take n ps) = omega (arith, length-take-le n ps h) in
-        rw (drop-cons (take n ps) k 0 y, get_or-take n ps k 0 g, add-one k)
+    place_next g = rw (drop-cons ps k 0 g, add-one k)
 
     -- the constant c at place k leaves the state u
-    module _ (g : k < n) (c : Constant) (i : c ≡ constant_at file (get_or ps k 0)) (s u : State) (line : ℕ) (f : State → RunOutcome) where
-      pub place_stops : (e : Refused) → told (Err e) u ≡ put 0 (constant_fault k) (constant_items k c) s → constants_run line k (constants_at file (drop k (take n ps))) s f ≡ next (told (Err e) u) line f
-      place_stops e h = constants_stop line k _ (constants_at file (drop (k + 1) (take n ps))) (constant_at file (get_or ps k 0)) (place_next g) s u f e (rw i at h)
+    module _ (g : k < length ps) (c : Constant) (i : c ≡ constant_at file (get_or ps k 0)) (s u : State) (line : ℕ) (f : State → RunOutcome) where
+      pub place_stops : (r : Result (Unit {0}) Refused) (e : Refused) → r ≡ Err e → told (Err e) u ≡ put 0 (constant_fault k) (constant_items k c) s → constants_run line k (constants_at file (drop k ps)) s f ≡ next (told r u) line f
+      place_stops r e q h = constants_stop line k _ (constants_at file (drop (k + 1) ps)) (constant_at file (get_or ps k 0)) (place_next g) s u f r e q (rw i at h)
 
       pub place_goes : told (Ok tt) u ≡ put 0 (constant_fault k) (constant_items k c) s
-          → constants_run line k (constants_at file (drop k (take n ps))) s f ≡ constants_run line (k + 1) (constants_at file (drop (k + 1) (take n ps))) u f
-      place_goes h = constants_go line k _ (constants_at file (drop (k + 1) (take n ps))) (constant_at file (get_or ps k 0)) (place_next g) s u f (rw i at h)
+          → constants_run line k (constants_at file (drop k ps)) s f ≡ constants_run line (k + 1) (constants_at file (drop (k + 1) ps)) u f
+      place_goes h = constants_go line k _ (constants_at file (drop (k + 1) ps)) (constant_at file (get_or ps k 0)) (place_next g) s u f (rw i at h)

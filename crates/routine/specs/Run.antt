@@ -143,5 +143,8 @@ abbrev pub blanked : Answer Summary → State → RunOutcome
 blanked (accepted t) s = record { answer = accepted t; state = s }
 blanked (refused n line) s = record { answer = refused n line; state = with_buf (cleared s.buf) s }
 
+abbrev pub whole_run : (file : List ℕ) → State → RunOutcome
+whole_run file s = blanked (file_run file s).answer (file_run file s).state
+
 unfoldable pub run : (file jumps buf : List ℕ) → RunOutcome
-run file js b = blanked (file_run file (fresh js b)).answer (file_run file (fresh js b)).state
+run file js b = whole_run file (fresh js b)

@@ -1,14 +1,14 @@
 // Document 01, "Added: the routine".
 #![tactic(auto)]
 
-ghost use Rattle.std.specs.Prelude.{◌≡◌, [], Err, OnOk, ◌≤◌, length, drop};
+ghost use Rattle.std.specs.Prelude.{◌≡◌, [], Err, OnOk, ◌≤◌, length, drop, replicate};
 ghost use Rattle.text.specs.Lines.{lines_of};
 ghost use Rattle.assembler.specs.State.{SameLent, before, after};
 ghost use Rattle.assembler.specs.Put.{put};
 ghost use Rattle.ast.specs.Constant.{constant_limit};
 ghost use Rattle.call.specs.Layout.{padding};
 ghost use Rattle.routine.specs.Run.{cleared, enter_run, finish_run, leave_run, says, line_run};
-ghost use Rattle.routine.specs.Run.{lines_run, file_run, run};
+ghost use Rattle.routine.specs.Run.{lines_run, file_run, whole_run, run};
 ghost use Rattle.routine.specs.Routine.{Promise};
 ghost use Rattle.routine.specs.Inner.Places.{constant_at, constants_at, is_constant, on_line, done, Waits, Placed, Unwound, Open, Entered};
 ghost use Rattle.routine.specs.Answer.{routine_answer, run_left, run_after};
@@ -57,12 +57,20 @@ fn refused(why: Refusal, line: u32) -> Result<Outline, Refused>
 
 // ---- the lent memory
 
+fn zero(bytes: &mut [u8])
+    ensures { bytes.new ≡ replicate (length bytes.old) 0 }
+{
+    for b in bytes.iter_mut() {
+        *b = 0;
+    }
+}
+
 // Zeros in the room.
 fn clear(buf: &mut [u8])
     ensures { buf.new ≡ cleared buf.old }
 {
     let n = buf.len().min(ROOM);
-    buf[..n].fill(0);
+    zero(&mut buf[..n]);
 }
 
 // ---- line 1
@@ -272,6 +280,18 @@ fn read_file(asm: &mut Assembler<'_>, file: &[u8]) -> Result<Outline, Refused>
     }
 }
 
+// A refused file leaves zeros.
+fn read_whole(asm: &mut Assembler<'_>, file: &[u8]) -> Result<Outline, Refused>
+    ensures whole { run_left result asm.new ≡ whole_run file.now (before asm.old) }
+    ensures lent { SameLent asm.old asm.new }
+{
+    let answer = read_file(asm, file);
+    if answer.is_err() {
+        clear(asm.buf);
+    }
+    answer
+}
+
 // The routine in lent label and jump memory, for a caller that looks at them afterwards.
 pub fn routine_in(
     file: &[u8],
@@ -294,10 +314,7 @@ pub fn routine_in(
         jumps,
         asm: empty,
     };
-    let answer = read_file(&mut asm, file);
-    if answer.is_err() {
-        clear(asm.buf);
-    }
+    let answer = read_whole(&mut asm, file);
     RoutineResult {
         asm: asm.asm,
         answer,

@@ -3,6 +3,8 @@ use mathlib.Core.Path.{◌≡◌, refl, sym, ap, subst, ◌∙◌}
 use mathlib.Core.Bool.{Bool, true, false, ◌&&◌, cond}
 use mathlib.Core.List.{List}
 use Rattle.std.specs.declared.result.Result.{Result}
+use Rattle.std.specs.declared.result.Result.TheVariants.{Ok, Err}
+use Rattle.std.specs.Result.{result_unwrap_or}
 use Prim.Native.Nat.{ℕ, ◌+◌, ◌≤◌, ◌<◌}
 use native.Mathlib.Omega.{arith}
 use lib.ListN.{length, get_or, take, drop, replicate, length-replicate}
@@ -16,7 +18,7 @@ use Rattle.unused.specs.Unused.{is_unused, unused_in, numbers_good, listed, unus
 use Rattle.stale.specs.Deck.{labels_text}
 use Rattle.stale.specs.Inner.Scan.{file_line}
 use Rattle.stale.specs.Inner.Text.{list_of, count_of, line_in, memory_text, Says}
-use Rattle.unused.specs.declared.Unused.{Unused}
+use Rattle.refusal.specs.declared.Refused.{Refused}
 use Rattle.unused.proofs.From.{from_short}
 use Rattle.stale.proofs.Texts.{labels_short, same_text}
 
@@ -33,6 +35,10 @@ few m = omega (arith, from_short (λ l. is_unused (get_or m l 0)) 0 2039, length
 in_front : (z ls : List ℕ) → length ls ≤ length z → (length ls ≤ length (sets z 0 ls)) × (take (length ls) (sets z 0 ls) ≡ ls)
 in_front z ls h = (omega (arith, length-sets z 0 ls), front z ls h)
 
+count_is : (r : Result ℕ Refused) → result_unwrap_or r 0 ≡ count_of (unused_answer r)
+count_is (Ok n) = refl
+count_is (Err e) = refl
+
 module _ (m : List ℕ) (a : Asm) where
   list_cases : (P : Answer (List ℕ) → Type 0) → P (accepted (unused_in m)) → P (refused 2 0) → P (listed m a)
   unfolding listed
@@ -43,12 +49,12 @@ module _ (m : List ℕ) (a : Asm) where
       by false = y
 
   -- that was put over zeros
-  module _ (r : Unused) (list : List ℕ) (n : ℕ) (e : unused_answer r ≡ counted (listed m a)) (w : list ≡ put_list (listed m a) (replicate 2039 0)) (c : n ≡ count_of (unused_answer r)) where
+  module _ (r : Result ℕ Refused) (list : List ℕ) (n : ℕ) (e : (unused_answer r ≡ counted (listed m a)) × (list ≡ put_list (listed m a) (replicate 2039 0))) (c : n ≡ result_unwrap_or r 0) where
     whole : (n ≤ length list) × (take n list ≡ list_of (listed m a))
     whole =
         let z : List ℕ = replicate 2039 0 in
-        subst (λ (k : ℕ). (k ≤ length list) × (take k list ≡ list_of (listed m a))) (sym (c ∙ ap count_of e))
-        (subst (λ (xs : List ℕ). (count_of (counted (listed m a)) ≤ length xs) × (take (count_of (counted (listed m a))) xs ≡ list_of (listed m a))) (sym w)
+        subst (λ (k : ℕ). (k ≤ length list) × (take k list ≡ list_of (listed m a))) (sym (c ∙ count_is r ∙ ap count_of e.0))
+        (subst (λ (xs : List ℕ). (count_of (counted (listed m a)) ≤ length xs) × (take (count_of (counted (listed m a))) xs ≡ list_of (listed m a))) (sym e.1)
         (list_cases (λ x. (count_of (counted x) ≤ length (put_list x z)) × (take (count_of (counted x)) (put_list x z) ≡ list_of x))
         (in_front z (unused_in m) (few m))
         (omega arith, refl)))

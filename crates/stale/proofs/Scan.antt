@@ -1,17 +1,14 @@
 -- The lines that set labels: as the loop over the file's lines notes them, and as the program has them. Assumes nothing.
 use mathlib.Core.Path.{◌≡◌, refl, sym, ap, ◌∙◌}
-use mathlib.Core.Bool.{Bool, true, false, cond}
+use mathlib.Core.Bool.{Bool, true, false, ◌&&◌, cond}
 use mathlib.Core.List.{List, [], ◌∷◌, map}
 use mathlib.Core.Option
 use mathlib.Core.Option.{Option, some, none}
-use Rattle.std.specs.Prelude
-use Rattle.std.specs.Prelude.{Some, None}
-use Rattle.print.specs.Listing.{first_answer}
 use Prim.Native.Nat.{ℕ, suc, ◌+◌, ◌≤◌, ◌<◌}
 use native.Mathlib.Numerals.{add-one}
 use native.Mathlib.Omega.{arith}
-use borrow.Author.Tests.{eq-eqb, ne_eqb, eqb-true, eqb-false}
-use lib.Dec.{eqb}
+use borrow.Author.Tests.{eq-eqb, ne_eqb, eqb-true, eqb-false, ltb-true, ltb-false}
+use lib.Dec.{eqb, ltb}
 use lib.ListN.{length, drop, get_or, set, replicate, length-set, length-replicate, get_or-replicate, drop_of_length-le}
 use lib.Seq.{get_or-set_same, get_or-set_other}
 use Rattle.refusal.specs.Answer.{accepted}
@@ -22,7 +19,7 @@ use Rattle.reading.specs.Program.{Program, here_or, label_line}
 use Rattle.routine.specs.Routine.{program_of}
 use Rattle.correctness.proofs.Lined.{says, content, lined}
 use Rattle.stale.specs.Deck.{line_of}
-use Rattle.stale.specs.Inner.Scan.{sets_in, label_of, text_line, set_line, file_line}
+use Rattle.stale.specs.Inner.Scan.{sets_in, label_of, with_line, text_line, set_line, file_line}
 
 -- ---- a line that sets label k, 1,024 for none
 
@@ -57,14 +54,6 @@ none_found all =
     }
 
 -- the label of a line, as the code has it
-pub label_some : (o : Option ℕ) (r : Prelude.Option ℕ) (k : ℕ) → first_answer r ≡ o → r ≡ Some k → k ≡ Option.get_or o 1024
-label_some o (Some j) k e h = let q : j ≡ k = cc in rw (← e) (sym q)
-label_some o None k e h = let z : ◌≡◌ {A = ℕ} 0 1 = cc in absurd (omega arith)
-
-pub label_none : (o : Option ℕ) (r : Prelude.Option ℕ) → first_answer r ≡ o → r ≡ None → 1024 ≡ Option.get_or o 1024
-label_none o (Some j) e h = let z : ◌≡◌ {A = ℕ} 0 1 = cc in absurd (omega arith)
-label_none o None e h = rw (← e)
-
 module _ {all ls ts : List (List ℕ)} {t : List ℕ} {next : ℕ} {found : List ℕ} (i : ls ≡ t ∷ ts) (here : Found all ls next found) (k : ℕ) (e : k ≡ Option.get_or (label_of t) 1024) where
   f : Found all (t ∷ ts) next found
   f = rw i at here
@@ -81,11 +70,11 @@ module _ {all ls ts : List (List ℕ)} {t : List ℕ} {next : ℕ} {found : List
   still : (l : ℕ) → l < 1024 → (k ≡ l → ⊥) → set_line l all ≡ noted_or (get_or found l 0) (text_line l (next + 1) ts)
   still l g h = f.noted l g ∙ ap (noted_or (get_or found l 0)) (other l h)
 
-  pub passed_by : 1024 ≤ k → Found all ts (next + 1) found
+  passed_by : 1024 ≤ k → Found all ts (next + 1) found
   passed_by h =
       record { later = omega (arith, f.later); size = f.size; few = f.few; noted = λ l g. still l g (λ z. omega arith) }
 
-  pub set_before : (get_or found k 0 ≡ 0 → ⊥) → Found all ts (next + 1) found
+  set_before : (get_or found k 0 ≡ 0 → ⊥) → Found all ts (next + 1) found
   set_before h =
       record { later = omega (arith, f.later); size = f.size; few = f.few; noted = λ l g. by l g (eqb k l) refl }
     where
@@ -96,7 +85,7 @@ module _ {all ls ts : List (List ℕ)} {t : List ℕ} {next : ℕ} {found : List
           f.noted l g ∙ rw n
       by l g false q = still l g (eqb-false k l q)
 
-  pub noted_one : k < 1024 → get_or found k 0 ≡ 0 → next ≤ 65536 → Found all ts (next + 1) (set found k next)
+  noted_one : k < 1024 → get_or found k 0 ≡ 0 → next ≤ 65536 → Found all ts (next + 1) (set found k next)
   noted_one h y s =
       record {
         later = omega (arith, f.later);
@@ -121,6 +110,19 @@ module _ {all ls ts : List (List ℕ)} {t : List ℕ} {next : ℕ} {found : List
           let n : eqb next 0 ≡ false = ne_eqb next 0 (λ w. omega (arith, w, f.later)) in
           rw (same l z, n, ← z) (f.noted k h ∙ rw (own h, y))
       by l g false q = let z = eqb-false k l q in rw (apart l z) (still l g z)
+
+module _ {all ls ts : List (List ℕ)} {t : List ℕ} {next : ℕ} {found : List ℕ} (i : ls ≡ t ∷ ts) (here : Found all ls next found) where
+  pub one_noted : next ≤ 65536 → Found all ts (next + 1) (with_line found (label_of t) next)
+  one_noted s = go (label_of t) refl
+    where
+      by : (k : ℕ) → k ≡ Option.get_or (label_of t) 1024 → (a : Bool) → ltb k 1024 ≡ a → (b : Bool) → eqb (get_or found k 0) 0 ≡ b → Found all ts (next + 1) (cond (a && b) (set found k next) found)
+      by k e true p true q = noted_one i here k e (ltb-true k 1024 p) (eqb-true (get_or found k 0) 0 q) s
+      by k e true p false q = set_before i here k e (eqb-false (get_or found k 0) 0 q)
+      by k e false p b q = passed_by i here k e (ltb-false k 1024 p)
+
+      go : (o : Option ℕ) → label_of t ≡ o → Found all ts (next + 1) (with_line found o next)
+      go none q = passed_by i here 1024 (sym (ap (λ (o : Option ℕ). Option.get_or o 1024) q)) (omega arith)
+      go (some k) q = by k (sym (ap (λ (o : Option ℕ). Option.get_or o 1024) q)) (ltb k 1024) refl (eqb (get_or found k 0) 0) refl
 
 -- what the loop answers
 pub all_found : (all : List (List ℕ)) (next : ℕ) (found : List ℕ) → Found all [] next found → (l : ℕ) → l < 1024 → (get_or found l 0 ≡ set_line l all) × (get_or found l 0 ≤ 65536)

@@ -9,10 +9,9 @@ ghost use Rattle.print.specs.Listing.{first_answer};
 ghost use Rattle.print.specs.Writer.{HasRoom, Wrote};
 ghost use Rattle.routine.specs.Routine.{program_of, summary_answer};
 ghost use Rattle.routine.specs.Answer.{routine_answer};
-ghost use Rattle.unused.specs.Unused.{unused_answer};
 ghost use Rattle.stale.specs.Deck.{label_text, own_text, labels_text, deck_labels};
-ghost use Rattle.stale.specs.Inner.Scan.{label_of, set_line, file_line};
-ghost use Rattle.stale.specs.Inner.Text.{count_of, line_in, memory_text, Within, summary_text, Says};
+ghost use Rattle.stale.specs.Inner.Scan.{label_of, with_line, set_line, file_line};
+ghost use Rattle.stale.specs.Inner.Text.{line_in, memory_text, Within, summary_text, Says};
 
 use assembler::{Asm, JUMPS, LABELS, Labels, ROOM};
 use ast::Operand;
@@ -44,12 +43,8 @@ fn operand_label(p: Operand) -> Option<u32>
     ensures { first_answer result ≡ label_set p }
 {
     match p {
-        Operand::Nothing => None,
-        Operand::Loaded(_, _) => None,
-        Operand::Stored(_, _) => None,
-        Operand::Constant(_) => None,
-        Operand::GoneTo(_) => None,
         Operand::Set(l) => Some(l),
+        _ => None,
     }
 }
 
@@ -58,12 +53,20 @@ fn label_of(line: &[u8]) -> Option<u32>
     ensures { first_answer result ≡ label_of line.now }
 {
     match deck::read_line(false, line) {
-        Ok(Line::Order(o)) => {
-            let u = ast::uses(o);
-            let p = u.operand;
-            operand_label(p)
+        Ok(Line::Order(o)) => operand_label(ast::uses(o).operand),
+        _ => None,
+    }
+}
+
+// The first line that sets a label stays.
+fn note(found: &mut SetLines, label: Option<u32>, line: u32)
+    ensures { found.new ≡ with_line found.old (first_answer label) line }
+{
+    if let Some(l) = label {
+        let i = l as usize;
+        if i < OWN && found[i] == 0 {
+            found[i] = line;
         }
-        Ok(Line::Head(_)) | Ok(Line::Constant(_)) | Err(_) => None,
     }
 }
 
@@ -76,21 +79,10 @@ fn lines_from(file: &[u8], mut at: usize) -> SetLines
     let mut found = [0u32; OWN];
     let mut next: u32 = 2;
     while at < file.len() {
-        let place = at;
-        at = lines::line_end(file, place);
-        let line = next;
+        let end = lines::line_end(file, at);
+        note(&mut found, label_of(&file[at..end]), next);
+        at = end;
         next += 1;
-        let Some(label) = label_of(&file[place..at]) else {
-            continue;
-        };
-        let l = label as usize;
-        if l >= OWN {
-            continue;
-        }
-        if found[l] != 0 {
-            continue;
-        }
-        found[l] = line;
     }
     found
 }
@@ -135,22 +127,13 @@ fn put_labels(list: &[u32], found: &SetLines, w: &mut Writer)
     }
 }
 
-fn count(a: Unused) -> usize
-    ensures { result ≡ count_of (unused_answer a) }
-{
-    match a {
-        Unused::Labels(n) => n as usize,
-        Unused::Refused(_, _) => 0,
-    }
-}
-
 // The lines of the listed labels, of a file that isn't too long.
 fn labels_text(file: &[u8], labels: &Labels, asm: Asm, out: &mut [u8]) -> Result<usize, TooLong>
     requires { length file.now ≤ 65536 }
     ensures { Says (memory_text file.now labels.now asm) out.old result out.new }
 {
     let mut list = [0u32; LABELS];
-    let n = count(unused::unused_labels(labels, asm, &mut list));
+    let n = unused::unused_labels(labels, asm, &mut list).unwrap_or(0) as usize;
     let found = set_lines(file);
     let mut text = [0u8; TEXT];
     let mut w = Writer {

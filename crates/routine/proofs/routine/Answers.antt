@@ -9,4 +9,4 @@ pub returns : goal.returns
 returns c =
     let a = c.args in
     let p = run_promise a.file.now (replicate 20480 0) a.buf.now (length-replicate {A = ℕ} 20480 0) in
-    (ap (λ (m : RunOutcome). m.answer) c.routine_in-r.ensures ∙ p.0, ap (λ (m : RunOutcome). m.state.buf) c.routine_in-r.ensures ∙ p.1)
+    (ap (λ (m : RunOutcome). m.answer) c.routine_in.ensures ∙ p.0, ap (λ (m : RunOutcome). m.state.buf) c.routine_in.ensures ∙ p.1)

@@ -1,6 +1,7 @@
 -- The line that sets a label, as the code finds it: by what each line of the file says.
-use Rattle.std.specs.Prelude.{false, List, [], ◌∷◌, ℕ, suc, drop}
-use Rattle.std.proofs.Math.Option.{Option, none, get_or}
+use Rattle.std.specs.Prelude as N
+use Rattle.std.specs.Prelude.{false, ◌&&◌, cond, List, [], ◌∷◌, ℕ, suc, drop, ltb, eqb, set}
+use Rattle.std.proofs.Math.Option.{Option, some, none, get_or}
 use Rattle.refusal.specs.Answer.{Answer, accepted, refused}
 use Rattle.ast.specs.Uses.{sets}
 use Rattle.text.specs.Lines.{lines_of}
@@ -24,6 +25,11 @@ label_of t = sets_in (line_judged false (said t))
 unfoldable pub text_line : (l n : ℕ) → List (List ℕ) → Option ℕ
 text_line l n [] = none
 text_line l n (t ∷ ts) = here_or l n (label_of t) (text_line l (suc n) ts)
+
+-- label and line noted, if the label is the file's own and has no line yet
+abbrev pub with_line : (found : List ℕ) → Option ℕ → (line : ℕ) → List ℕ
+with_line found none n = found
+with_line found (some l) n = cond (ltb l 1024 && eqb (N.get_or found l 0) 0) (set found l n) found
 
 -- the same as a number, 0 for none
 abbrev pub set_line : (l : ℕ) → List (List ℕ) → ℕ
