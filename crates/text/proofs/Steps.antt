@@ -1,8 +1,8 @@
 -- The readers' loops, byte by byte.
-use mathlib.Core.Path.{◌≡◌, refl, sym, ◌∙◌}
+use mathlib.Core.Path.{◌≡◌, refl, sym, ap, ◌∙◌}
 use mathlib.Core.Bool.{Bool, true, false, cond, ◌&&◌}
 use mathlib.Core.List.{List, [], ◌∷◌}
-use Prim.Native.Nat.{ℕ, ◌+◌, ◌<◌, ◌≤◌, max}
+use Prim.Native.Nat.{ℕ, suc, ◌+◌, ◌<◌, ◌≤◌, max}
 use native.Mathlib.Numerals.{add-one}
 use native.Mathlib.Omega.{arith}
 use borrow.Author.Tests.{le-ltb, ltb-true, ltb-false, eq-eqb, ne_eqb, eqb-false}
@@ -64,3 +64,10 @@ same_is [] [] = refl
 same_is [] (b ∷ w) = refl
 same_is (a ∷ s) [] = refl
 same_is (a ∷ s) (b ∷ w) = rw (same_is s w)
+
+pub same_length : (s w : List ℕ) → (length s ≡ length w → ⊥) → same s w ≡ false
+unfolding same
+same_length [] [] h = absurd (h refl)
+same_length [] (b ∷ w) h = refl
+same_length (a ∷ s) [] h = refl
+same_length (a ∷ s) (b ∷ w) h = rw (same_length s w (λ e. h (ap suc e))) (off (eqb a b))
