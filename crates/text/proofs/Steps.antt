@@ -6,7 +6,6 @@ use Prim.Native.Nat.{ℕ, suc, ◌+◌, ◌<◌, ◌≤◌, max}
 use native.Mathlib.Numerals.{add-one}
 use native.Mathlib.Omega.{arith}
 use borrow.Author.Tests.{le-ltb, ltb-true, ltb-false, eq-eqb, ne_eqb, eqb-false}
-use lib.Pointwise.{pointwise}
 use lib.Dec.{eqb, ltb}
 use lib.ListN.{length, get_or, drop, drop_of_length-le}
 use lib.Seq.{drop-cons}
@@ -58,12 +57,17 @@ off false = refl
 
 -- ---- the same bytes
 
-pub same_is : (s w : List ℕ) → pointwise eqb s w ≡ same s w
+pub same_at : (s w : List ℕ) (i : ℕ) → i < length s → i < length w → get_or s i 0 ≡ get_or w i 0 → same (drop i s) (drop i w) ≡ same (drop (i + 1) s) (drop (i + 1) w)
 unfolding same
-same_is [] [] = refl
-same_is [] (b ∷ w) = refl
-same_is (a ∷ s) [] = refl
-same_is (a ∷ s) (b ∷ w) = rw (same_is s w)
+same_at s w i h k e = rw (at s i h, at w i k, eq-eqb _ _ e)
+
+pub differ_at : (s w : List ℕ) (i : ℕ) → i < length s → i < length w → (get_or s i 0 ≡ get_or w i 0 → ⊥) → same (drop i s) (drop i w) ≡ false
+unfolding same
+differ_at s w i h k e = rw (at s i h, at w i k, ne_eqb _ _ e)
+
+pub same_end : (s w : List ℕ) (i : ℕ) → length s ≤ i → length w ≤ i → same (drop i s) (drop i w) ≡ true
+unfolding same
+same_end s w i h k = rw (drop_of_length-le s h, drop_of_length-le w k)
 
 pub same_length : (s w : List ℕ) → (length s ≡ length w → ⊥) → same s w ≡ false
 unfolding same
