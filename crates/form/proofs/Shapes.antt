@@ -1,9 +1,9 @@
 -- Forms, field by field.
 use mathlib.Core.Path.{◌≡◌, refl, sym, ap, ◌∙◌}
-use mathlib.Core.Bool.{Bool, true, false, cond, and-true}
+use mathlib.Core.Bool.{Bool, true, false, and-true}
 use mathlib.Core.Option.{Option, some, none, map}
 use mathlib.Core.List.{List, [], ◌∷◌, ◌++◌, append-nil, append_assoc}
-use Prim.Native.Nat.{ℕ, zero, suc, ◌+◌, ◌-◌, ◌<◌, ◌≤◌}
+use Prim.Native.Nat.{ℕ, suc, ◌+◌, ◌-◌, ◌<◌, ◌≤◌}
 use native.Mathlib.Omega.{arith}
 use borrow.Author.Tests.{le-ltb, ltb-true, ltb-false, eq-eqb, ne_eqb, eqb-true, eqb-false}
 use lib.Dec.{eqb, ltb}
@@ -11,10 +11,9 @@ use lib.IntN.{ℤ, pos, negsuc}
 use lib.ListN.{length, get_or, take, drop, set, replicate, length-drop, length-set, length-replicate, drop_of_length-le}
 use lib.Pointwise.{pointwise}
 use lib.Seq.{take_all}
-use Rattle.text.specs.Readers.{sized, as_option, numeral, read_integer, read_word, integer, word, split, fields_from, end_from, next_from, first_decimal}
+use Rattle.text.specs.Readers.{as_option, numeral, read_integer, read_word, integer, word, split, fields_from, end_from, next_from, first_decimal}
 use Rattle.text.specs.Fields.{commas}
 use Rattle.text.specs.declared.Number.{Number}
-use Rattle.text.specs.declared.Number.TheVariants as Number
 use Rattle.text.specs.declared.Integer.{Integer}
 use Rattle.std.specs.Prelude as rust
 use Rattle.std.specs.Prelude.{Some, None, option_map, MatchOption, IsSomeAnd}

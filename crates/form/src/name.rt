@@ -109,30 +109,30 @@ fn name_at(place: u64) -> u64
     ensures { result ≡ entry (row_at place) }
 {
     match place {
-        0 => text::word_of(b"times,\0\x12"),
-        1 => text::word_of(b"fast,\0\0\x0a"),
-        3 => text::word_of(b"bits,\0\0\x0c"),
-        4 => text::word_of(b"xor,\0\0\0\x82"),
-        5 => text::word_of(b"label,\0\x09"),
-        6 => text::word_of(b"fmov,\0\0\x00"),
-        7 => text::word_of(b"neq,\0\0\0\x42"),
-        8 => text::word_of(b"floor,\0\x30"),
-        9 => text::word_of(b"sign,\0\0\x01"),
-        12 => text::word_of(b"float,\0\x0b"),
-        13 => text::word_of(b"divide,\x22"),
-        14 => text::word_of(b"minus,\0\x02"),
-        15 => text::word_of(b"recip,\0\x10"),
-        17 => text::word_of(b"or,\0\0\0\0\x72"),
-        18 => text::word_of(b"gt,\0\0\0\0\x32"),
-        20 => text::word_of(b"andnot,\x62"),
-        21 => text::word_of(b"frac,\0\0\x11"),
-        22 => text::word_of(b"and,\0\0\0\x52"),
-        24 => text::word_of(b"round,\0\x20"),
-        25 => text::word_of(b"ifelse,\x04"),
-        28 => text::word_of(b"get,\0\0\0\x05"),
-        29 => text::word_of(b"not,\0\0\0\x40"),
-        30 => text::word_of(b"put,\0\0\0\x06"),
-        31 => text::word_of(b"branch,\x08"),
+        0 => u64::from_le_bytes(*b"times,\0\x12"),
+        1 => u64::from_le_bytes(*b"fast,\0\0\x0a"),
+        3 => u64::from_le_bytes(*b"bits,\0\0\x0c"),
+        4 => u64::from_le_bytes(*b"xor,\0\0\0\x82"),
+        5 => u64::from_le_bytes(*b"label,\0\x09"),
+        6 => u64::from_le_bytes(*b"fmov,\0\0\x00"),
+        7 => u64::from_le_bytes(*b"neq,\0\0\0\x42"),
+        8 => u64::from_le_bytes(*b"floor,\0\x30"),
+        9 => u64::from_le_bytes(*b"sign,\0\0\x01"),
+        12 => u64::from_le_bytes(*b"float,\0\x0b"),
+        13 => u64::from_le_bytes(*b"divide,\x22"),
+        14 => u64::from_le_bytes(*b"minus,\0\x02"),
+        15 => u64::from_le_bytes(*b"recip,\0\x10"),
+        17 => u64::from_le_bytes(*b"or,\0\0\0\0\x72"),
+        18 => u64::from_le_bytes(*b"gt,\0\0\0\0\x32"),
+        20 => u64::from_le_bytes(*b"andnot,\x62"),
+        21 => u64::from_le_bytes(*b"frac,\0\0\x11"),
+        22 => u64::from_le_bytes(*b"and,\0\0\0\x52"),
+        24 => u64::from_le_bytes(*b"round,\0\x20"),
+        25 => u64::from_le_bytes(*b"ifelse,\x04"),
+        28 => u64::from_le_bytes(*b"get,\0\0\0\x05"),
+        29 => u64::from_le_bytes(*b"not,\0\0\0\x40"),
+        30 => u64::from_le_bytes(*b"put,\0\0\0\x06"),
+        31 => u64::from_le_bytes(*b"branch,\x08"),
         _ => 0,
     }
 }
@@ -180,10 +180,8 @@ fn name_word(s: &[u8]) -> u64
     ensures { (result ≡ name_word s.now) × (are_bytes s.now ≡ true) }
 {
     let mut w = 44;
-    let mut i = s.len();
-    while i > 0 {
-        i -= 1;
-        w = w * 256 + text::wide(s[i]);
+    for i in (0..s.len()).rev() {
+        w = w * 256 + u64::from(s[i]);
     }
     w
 }

@@ -10,7 +10,7 @@ use lib.Bits.{bit_or, and_le_l, and_le_r, or_add_and, or_zero_l, shifted_half, s
 use lib.Count.{count_trailing_zeros}
 use lib.Dec.{eqb}
 use lib.ListN.{length, get_or}
-use Rattle.text.specs.Inner.Parts.{four_are, marks}
+use Rattle.text.specs.Inner.Parts.{bytes_are, marks}
 
 shifted : (j k n : ℕ) → count_trailing_zeros (j + k) (n * 2 ^ j) ≡ j + count_trailing_zeros k n
 unfolding count_trailing_zeros
@@ -25,22 +25,9 @@ ten_first k n =
     let s : 8 + k ≡ 7 + suc k = omega arith in
     rw (e, s, shifted 7 (suc k) (n * 2 + 1), o)
 
--- the k lowest bytes of x are those of f from i on
-abbrev pub bytes_are : List ℕ → ℕ → ℕ → ℕ → Type 0
-bytes_are f i zero x = Unit {0}
-bytes_are f i (suc k) x = (x % 256 ≡ get_or f i 0) × bytes_are f (i + 1) k (x / 256)
-
 -- z marks those of k bytes that are c. `P i r`: a search from i on ends at r. With none it goes on behind them, else it ends at the first, or d behind it.
 abbrev pub Found : (ℕ → ℕ → Type 0) → (d i k z : ℕ) → Type 0
 Found P d i k z = (z ≡ 0 → (r : ℕ) → P (i + k) r → P i r) × ((z ≡ 0 → ⊥) → P i (i + count_trailing_zeros (k * 8) z / 8 + d))
-
-same_byte : (f : List ℕ) (p q i j : ℕ) → p ≡ q → j ≡ i → q % 256 ≡ get_or f j 0 → p % 256 ≡ get_or f i 0
-same_byte f p q i j d e h = rw (d, ← e) h
-
-pub eight_are : (f : List ℕ) (i x : ℕ) → four_are f i x → four_are f (i + 4) (x / 4294967296) → bytes_are f i 8 x
-eight_are f i x a b =
-    let m = same_byte f in
-    (a.0, (a.1, (m _ _ _ _ (omega arith) (omega arith) a.2, (m _ _ _ _ (omega arith) (omega arith) a.3, (m _ _ _ _ (omega arith) (omega arith) b.0, (m _ _ _ _ (omega arith) (omega arith) b.1, (m _ _ _ _ (omega arith) (omega arith) b.2, (m _ _ _ _ (omega arith) (omega arith) b.3, tt))))))))
 
 module _ (f : List ℕ) (c d : ℕ) (P : ℕ → ℕ → Type 0) (stops : (i : ℕ) → i < length f → get_or f i 0 ≡ c → P i (i + d)) (passes : (i r : ℕ) → i < length f → (get_or f i 0 ≡ c → ⊥) → P (i + 1) r → P i r) where
   module _ (k i w : ℕ) (h : i < length f) where
@@ -71,8 +58,8 @@ module _ (f : List ℕ) (c d : ℕ) (P : ℕ → ℕ → Type 0) (stops : (i : �
       by true q v = here k i (marks c k (x / 256)) (omega arith) (sym b.0 ∙ eqb-true _ _ q)
       by false q v = later k i (marks c k (x / 256)) (omega arith) (λ e. eqb-false _ _ q (b.0 ∙ e)) v
 
-  pub found_eight : (i x : ℕ) → i + 8 ≤ length f → four_are f i x → four_are f (i + 4) (x / 4294967296) → Found P d i 8 (marks c 8 x)
-  found_eight i x h a b = found 8 i x h (eight_are f i x a b)
+  pub found_eight : (i x : ℕ) → i + 8 ≤ length f → bytes_are f i 8 x → Found P d i 8 (marks c 8 x)
+  found_eight i x h b = found 8 i x h b
 
 -- the same of two eights, y in front of z
 abbrev pub FoundTwo : (ℕ → ℕ → Type 0) → (d i y z : ℕ) → Type 0

@@ -2,7 +2,7 @@
 use mathlib.Core.Path.{◌≡◌, refl, ◌∙◌}
 use mathlib.Core.Bool.{Bool, true, false}
 use mathlib.Core.List.{List, [], ◌∷◌}
-use Prim.Native.Nat.{ℕ, suc, ◌+◌, ◌-◌, ◌≤◌, ◌<◌}
+use Prim.Native.Nat.{ℕ, suc, ◌+◌, ◌-◌, ◌≤◌, ◌<◌, max}
 use native.Mathlib.Nat.{add-zero}
 use native.Mathlib.Omega.{arith}
 use borrow.Author.Tests.{eq-eqb, ne_eqb, ltb-true, ltb-false}
@@ -16,6 +16,14 @@ use Rattle.text.proofs.Steps.{at}
 pub ends_behind : (f : List ℕ) (a : ℕ) → length f ≤ a → Ends f a a
 unfolding lines_of
 ends_behind f a h = (rw (drop_of_length-le f h) (omega arith), λ g. absurd (omega arith))
+
+-- no byte 10 from a to the end, which i has reached
+pub ends_last : (f : List ℕ) (a i m : ℕ) → length f ≤ i → (a ≤ length f → i ≤ length f) → ((r : ℕ) → Ends f i r → Ends f a r) → m ≡ max (length f) a → Ends f a m
+ends_last f a i m h k e z = go (ltb (length f) a) refl
+  where
+    go : (t : Bool) → ltb (length f) a ≡ t → Ends f a m
+    go true q = let g = ltb-true (length f) a q in let y : m ≡ a = omega (arith, z, g) in rw y (ends_behind f a (omega (arith, g)))
+    go false q = let g = ltb-false (length f) a q in let y : m ≡ i = omega (arith, z, g, h, k g) in rw y (e i (ends_behind f i h))
 
 module _ (f : List ℕ) (a : ℕ) (h : a < length f) where
   ends : (r : ℕ) → a < r → r ≤ length f → lines_of (drop a f) ≡ take (r - a) (drop a f) ∷ lines_of (drop r f) → Ends f a r

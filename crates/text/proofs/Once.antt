@@ -7,12 +7,9 @@ use mathlib.Core.Logic.{◌⊎◌, inl, inr}
 use Prim.Native.Nat.{ℕ, zero, suc, ◌+◌, ◌*◌, ◌-◌, ◌^◌, ◌<◌, ◌≤◌}
 use native.Mathlib.Omega.{arith}
 use borrow.Author.Tests.{lt-ltb, le-ltb, lt-leb, le-leb, ltb-true, ltb-false, leb-true, leb-false, eq-eqb, ne_eqb, eqb-true, eqb-false}
-use lib.Bits.{bit_xor}
 use lib.Dec.{eqb, ltb, leb}
 use lib.ListN.{length, get_or, take, drop, drop_of_length-le, length-drop}
 use lib.Seq.{take_all}
-use Rattle.base.proofs.Bools.{both}
-use Rattle.base.proofs.Tested.{tested}
 use Rattle.text.specs.Readers.{digit_value, read_from, read_decimal, numeral, upto, field, end_from, next_from, fields_from, first_decimal}
 use Rattle.text.specs.Once.{reads, CommaEnds}
 use Rattle.text.specs.Inner.Parts.{Decimal, stays_big}
@@ -25,17 +22,7 @@ use Rattle.text.proofs.Numerals.{digit_0}
 use Rattle.text.proofs.Short.{none_in}
 use Rattle.text.proofs.Answers.{field_is, next_is}
 
--- ---- a digit's byte: a computed test of all
-
-abbrev fits : ℕ → Bool
-fits c = cond (ltb (bit_xor c 48) 10) (eqb (bit_xor c 48) (digit_value c)) (leb 10 (digit_value c)) && leb (bit_xor c 48) 255
-
-pub decimal_byte : (c : ℕ) → c < 256 → Decimal c (bit_xor c 48)
-decimal_byte c h = go (ltb (bit_xor c 48) 10) (both (cond (ltb (bit_xor c 48) 10) (eqb (bit_xor c 48) (digit_value c)) (leb 10 (digit_value c))) (leb (bit_xor c 48) 255) (tested fits 256 c refl h)) refl
-  where
-    go : (t : Bool) → (cond t (eqb (bit_xor c 48) (digit_value c)) (leb 10 (digit_value c)) ≡ true) × (leb (bit_xor c 48) 255 ≡ true) → ltb (bit_xor c 48) 10 ≡ t → Decimal c (bit_xor c 48)
-    go true g e = (λ l. eqb-true (bit_xor c 48) (digit_value c) g.0, λ l. absurd (omega (arith, ltb-true (bit_xor c 48) 10 e)), omega (arith, leb-true (bit_xor c 48) 255 g.1))
-    go false g e = (λ l. absurd (omega (arith, ltb-false (bit_xor c 48) 10 e)), λ l. leb-true 10 (digit_value c) g.0, omega (arith, leb-true (bit_xor c 48) 255 g.1))
+-- ---- a digit
 
 pub is_digit : (c r : ℕ) → Decimal c r → r ≤ 9 → (r ≡ digit_value c) × (digit_value c < 10)
 is_digit c r d h = let e = d.0 (omega arith) in (e, omega (arith, e))

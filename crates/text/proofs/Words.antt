@@ -13,7 +13,7 @@ use lib.Pow.{are_bytes, field, shl-shr, mod-pow-add}
 use lib.Seq.{take-suc, length-take-le}
 use Rattle.text.specs.Bytes.{joined, word_to}
 use Rattle.text.proofs.Steps.{at}
-use Rattle.text.proofs.Eights.{bytes_are}
+use Rattle.text.specs.Inner.Parts.{bytes_are}
 
 module _ (f : List ℕ) where
   fewer : (k j i x : ℕ) → bytes_are f i (k + j) x → bytes_are f i k x

@@ -1,6 +1,6 @@
 -- The parts of the reader: what only its own functions promise.
 use Rattle.std.specs.Prelude.{Bool, List, [], ◌∷◌, ℕ, zero, suc, replicate}
-use Rattle.std.proofs.Math.Option.{Option, some, none, map}
+use Rattle.std.proofs.Math.Option.{Option, none, map}
 use Rattle.std.specs.Prelude as rust
 use Rattle.std.specs.Prelude.{option_map}
 use Rattle.text.specs.Readers.{sized, as_option}

@@ -18,7 +18,7 @@ returns-then-y-z-ne0 c =
     let g = c.eight-in-loop-i in
     let f = c.args.file.now in
     let at = found_eight f 10 1 (Ends f) (ends_here f) (λ i r h. ends_later f i h r) in
-    rw (c.equal_bytes-y.ensures.0 refl, c.equal_bytes-z.ensures.0 refl) (found_two (Ends f) 1 i _ _ (at i e.result (search rules) e.ensures.0 e.ensures.1) (at (i + 8) g.result (search rules) g.ensures.0 g.ensures.1)) in
+    rw (c.equal_bytes-y.ensures.0 refl, c.equal_bytes-z.ensures.0 refl) (found_two (Ends f) 1 i _ _ (at i e.result (search rules) e.ensures) (at (i + 8) g.result (search rules) g.ensures)) in
     rw c.first_mark.ensures.0 (c.loop-i.invariant.2 _ (told.1 c.if-y-z-ne0.true))
 
 pub loop-i-preserved : goal.loop-i-preserved
@@ -29,5 +29,5 @@ loop-i-preserved c =
     let g = c.eight-in-loop-i in
     let f = c.args.file.now in
     let at = found_eight f 10 1 (Ends f) (ends_here f) (λ i r h. ends_later f i h r) in
-    rw (c.equal_bytes-y.ensures.0 refl, c.equal_bytes-z.ensures.0 refl) (found_two (Ends f) 1 i _ _ (at i e.result (search rules) e.ensures.0 e.ensures.1) (at (i + 8) g.result (search rules) g.ensures.0 g.ensures.1)) in
+    rw (c.equal_bytes-y.ensures.0 refl, c.equal_bytes-z.ensures.0 refl) (found_two (Ends f) 1 i _ _ (at i e.result (search rules) e.ensures) (at (i + 8) g.result (search rules) g.ensures)) in
     (refl, search rules, λ r e. c.loop-i.invariant.2 r (told.0 c.if-y-z-ne0.false r e))

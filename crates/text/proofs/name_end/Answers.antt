@@ -14,7 +14,7 @@ unfolding each
 returns-then-z-eq0 c =
     let told : Found (λ i r. r ≡ end_from c.args.s.now i) 0 0 8 c.equal_bytes-z.result = let e = c.eight in
     let f = c.args.s.now in
-    rw (c.equal_bytes-z.ensures.1 refl) (found_eight f 44 0 (λ i r. r ≡ end_from f i) (λ i h q. add-zero i ∙ sym (ends_here f i h q)) (λ i r h n q. q ∙ sym (ends_later f i h n)) 0 e.result (search rules) e.ensures.0 e.ensures.1) in
+    rw (c.equal_bytes-z.ensures.1 refl) (found_eight f 44 0 (λ i r. r ≡ end_from f i) (λ i h q. add-zero i ∙ sym (ends_here f i h q)) (λ i r h n q. q ∙ sym (ends_later f i h n)) 0 e.result (search rules) e.ensures) in
     (told.0 c.if-z-eq0.true _ c.field_end-then-z-eq0.ensures.0, c.field_end-then-z-eq0.ensures.2 (omega arith))
 
 pub returns : goal.returns
@@ -22,7 +22,7 @@ unfolding each
 returns c =
     let told : Found (λ i r. r ≡ end_from c.args.s.now i) 0 0 8 c.equal_bytes-z.result = let e = c.eight in
     let f = c.args.s.now in
-    rw (c.equal_bytes-z.ensures.1 refl) (found_eight f 44 0 (λ i r. r ≡ end_from f i) (λ i h q. add-zero i ∙ sym (ends_here f i h q)) (λ i r h n q. q ∙ sym (ends_later f i h n)) 0 e.result (search rules) e.ensures.0 e.ensures.1) in
+    rw (c.equal_bytes-z.ensures.1 refl) (found_eight f 44 0 (λ i r. r ≡ end_from f i) (λ i h q. add-zero i ∙ sym (ends_here f i h q)) (λ i r h n q. q ∙ sym (ends_later f i h n)) 0 e.result (search rules) e.ensures) in
     let q = told.1 c.if-z-eq0.false in
     let t = trailing_le 64 c.equal_bytes-z.result in
     (omega (arith, q), omega (arith, t))

@@ -8,10 +8,10 @@ pub returns-then-s-w : goal.returns-then-s-w
 returns-then-s-w c = sym (same_length _ _ c.if-s-w.true)
 
 pub returns-then-s-i : goal.returns-then-s-i
-returns-then-s-i c = sym (c.loop-i.invariant.2 ∙ differ_at _ _ _ c.loop-i-test.true (omega arith) c.if-s-i.true)
+returns-then-s-i c = sym (c.loop-i.invariant.1 ∙ differ_at _ _ _ c.loop-i-test.true (omega arith) c.if-s-i.true)
 
 pub loop-i-preserved : goal.loop-i-preserved
-loop-i-preserved c = (search rules, search rules, c.loop-i.invariant.2 ∙ same_at _ _ _ c.loop-i-test.true (omega arith) c.if-s-i.false)
+loop-i-preserved c = (search rules, c.loop-i.invariant.1 ∙ same_at _ _ _ c.loop-i-test.true (omega arith) c.if-s-i.false)
 
 pub returns : goal.returns
-returns c = sym (c.loop-i.invariant.2 ∙ same_end _ _ _ c.loop-i-test.false (omega arith))
+returns c = sym (c.loop-i.invariant.1 ∙ same_end _ _ _ c.loop-i-test.false (omega arith))

@@ -1,6 +1,5 @@
 use native.Mathlib.Omega.{arith}
 use borrow.Author.Tests.{lt-leb, le-leb, ne_eqb}
-use Rattle.text.proofs.Eights.{eight_are}
 use Rattle.text.proofs.Words.{word_is, no_word}
 use Rattle.text.proofs.word_to.Goals as goal
 
@@ -18,5 +17,5 @@ pub returns : goal.returns
 returns c =
     let e = c.eight.ensures in
     let f = c.args.s.now in
-    let w = word_is f _ _ c.if-s-lt8.false c.if-e-gt6.false c.if-s-e-ne44.false (eight_are f 0 _ e.0 e.1) in
+    let w = word_is f _ _ c.if-s-lt8.false c.if-e-gt6.false c.if-s-e-ne44.false e in
     (w.0, λ h. w.1)

@@ -7,13 +7,10 @@ use Rattle.text.specs.declared.Number.{Number}
 use Rattle.text.specs.declared.Number.TheVariants.{Value, TooBig}
 use Rattle.text.specs.Inner.Short.{below}
 
--- the four lowest bytes of x are those of f from i on
-abbrev pub four_are : List ℕ → ℕ → ℕ → Type 0
-four_are f i x =
-    (x % 256 ≡ get_or f i 0)
-    × (x / 256 % 256 ≡ get_or f (i + 1) 0)
-    × (x / 65536 % 256 ≡ get_or f (i + 2) 0)
-    × (x / 16777216 % 256 ≡ get_or f (i + 3) 0)
+-- the k lowest bytes of x are those of f from i on
+abbrev pub bytes_are : List ℕ → (i k x : ℕ) → Type 0
+bytes_are f i zero x = Unit {0}
+bytes_are f i (suc k) x = (x % 256 ≡ get_or f i 0) × bytes_are f (i + 1) k (x / 256)
 
 -- c in each of k bytes
 unfoldable pub each : (c k : ℕ) → ℕ
