@@ -5,14 +5,14 @@ use mathlib.Core.List.{List, [], ◌∷◌, ◌++◌, map}
 use Prim.Native.Nat.{ℕ, zero, suc, ◌+◌, ◌-◌, ◌*◌, ◌/◌, ◌%◌, ◌^◌, ◌≤◌, ◌<◌}
 use native.Mathlib.Nat.{div-div-eq-div-mul, div-add-mod, div-one, mul_assoc, mul-mod_right, mod-one, pow-zero, pow-succ', pow-le-pow_right, div-eq_of_lt}
 use native.Mathlib.Omega.{arith}
-use borrow.Author.Tests.{eqb-true, eqb-false, ne_eqb, lt-ltb, le-ltb, le-leb, lt-leb}
-use lib.Dec.{eqb, leb}
+use borrow.Author.Tests.{eqb-true, eqb-false, ne_eqb}
+use lib.Dec.{eqb}
 use lib.Pow.{pow-add}
 use Rattle.base.specs.Tests.{any, member}
 use Rattle.base.proofs.Bools.{true_not_false, and_true, and_false, or_false, neither}
 use Rattle.base.proofs.Tested.{tested}
 use Rattle.ast.specs.declared.Place.TheVariants.{Stack}
-use Rattle.ast.specs.Mask.{preserved, in_mask, chosen, saved, save_cell, is_preserved, saves, free, open_cell}
+use Rattle.ast.specs.Mask.{preserved, in_mask, chosen, saved, save_cell, saves, free, open_cell}
 
 -- ---- i among k numbers from c on that pass a test of those from r on, or else the rest
 
@@ -43,20 +43,11 @@ module _ (p : ℕ → Bool) (i : ℕ) where
 
 -- ---- a register
 
-abbrev yes : ℕ → Bool
-yes r = true
-
-member_spread : (r : ℕ) → member r preserved ≡ spread yes r 8 8 2 (spread yes r 18 18 10 false)
-member_spread r = simp (← and_true)
-
 -- a bit for each register that isn't preserved
 abbrev others : ℕ → Bool
 others r = eqb (4026793215 / 2 ^ r % 2) (cond (member r preserved) 0 1)
 
 module _ (mask r : ℕ) where
-  pub free_above : 32 ≤ r → true ≡ free mask r
-  free_above h = rw (member_spread r, more yes r 8 8 2 _ (omega arith), more yes r 18 18 10 false (omega arith))
-
   pub free_bits : r < 32 → not (eqb (mask / 2 ^ r % 2 + 4026793215 / 2 ^ r % 2) 0) ≡ free mask r
   free_bits h = rw (eqb-true (4026793215 / 2 ^ r % 2) (cond (member r preserved) 0 1) (tested others 32 r refl h)) (by (member r preserved) (mask / 2 ^ r % 2) (omega arith))
     where
@@ -142,7 +133,7 @@ part_off m lo k e =
     zero_bits k (m / 2 ^ lo) (λ i h g. eqb-false (m / 2 ^ (lo + i) % 2) 1 (run_off (in_mask m) lo k e i h) (rw (pow-add 2 lo i, ← div-div-eq-div-mul m (2 ^ lo) (2 ^ i)) g))
 
 module _ (m : ℕ) where
-  pub has_none : m / 256 % 4 ≡ 0 → m / 262144 % 1024 ≡ 0 → saves m ≡ false
+  has_none : m / 256 % 4 ≡ 0 → m / 262144 % 1024 ≡ 0 → saves m ≡ false
   unfolding saves
   has_none a b =
       let off : (k : ℕ) → m / k % 2 ≡ 0 → eqb (m / k % 2) 1 ≡ false = λ k h. ne_eqb (m / k % 2) 1 (λ e. let z : 0 ≡ 1 = sym h ∙ e in omega arith) in
@@ -171,27 +162,6 @@ module _ (m : ℕ) where
       go : (t : Bool) → eqb (m / 262144 % 1024) 0 ≡ t → not t ≡ saves m
       go true e = sym (has_none a (eqb-true (m / 262144 % 1024) 0 e))
       go false e = some_set (λ g. eqb-false (m / 262144 % 1024) 0 e (parts g).1)
-
--- ---- preserved, and where
-
-module _ (r : ℕ) where
-  pub below : r < 8 → false ≡ is_preserved r
-  below h = rw (lt-leb 8 r h, lt-leb 18 r (omega arith))
-
-  pub low : 8 ≤ r → r ≤ 9 → true ≡ is_preserved r
-  low h l = rw (le-leb 8 r h, le-leb r 9 l)
-
-  pub between : 9 < r → r < 18 → false ≡ is_preserved r
-  between h l = rw (lt-leb r 9 h, lt-leb 18 r l, le-leb 8 r (omega arith))
-
-  pub high : 18 ≤ r → leb r 27 ≡ is_preserved r
-  high h = rw (le-leb 18 r h, lt-leb r 9 (omega arith), le-leb 8 r (omega arith))
-
-  pub cell_low : r < 18 → r - 4 ≡ save_cell r
-  cell_low h = rw (lt-ltb r 18 h)
-
-  pub cell_high : 18 ≤ r → r - 12 ≡ save_cell r
-  cell_high h = rw (le-ltb r 18 h)
 
 -- a register that the mask has no bit for
 pub no_bit : (mask r : ℕ) → mask < 2 ^ 32 → 32 ≤ r → false ≡ in_mask mask r
