@@ -10,4 +10,3 @@ equal a b = grind arith
 
 pub fault_equal : (a : Option Refusal) (w : Refusal) → option_eq TheImpl.eq-value.it a (Some w) ≡ eqb (fault_number a) (number_of w)
 fault_equal a w = grind arith
-

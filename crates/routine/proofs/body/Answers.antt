@@ -21,8 +21,7 @@ loop-at-preserved-then-line c =
     let split = c.line_end-at.ensures.1 c.loop-at-test.true in
     let text = take (c.line_end-at.result - l.at) (drop l.at f) in
     let rest = lines_of (drop c.line_end-at.result f) in
-    let kept = constants_at f (take l.k l.places) in
-    (
+    let kept = constants_at f (take l.k l.places) in (
       split.1,
       omega (arith, split, l.invariant),
       search rules,
@@ -42,15 +41,14 @@ loop-at-preserved-in-Ok-true c =
     let few : length kept ≡ l.k = places_length f (take l.k l.places) ∙ length-take-le l.k l.places (omega (arith, l.invariant)) in
     let step = c.in-Ok-true.ensures.whole ∙ line_same c.args.head (l.n + 1) (says text) (sym few) (c.if-line.ensures.whole.1 refl) in
     let waits = sym c.in-Ok-true.ensures.waits ∙ c.in-Ok-true.field-0-test in
-    let has-place : l.k < 1008 = omega (arith, few, constant_room c.args.head (l.n + 1) (length kept) (says text) (before l.asm) _ step waits) in
-    (
+    let has-place : l.k < 1008 = omega (arith, few, constant_room c.args.head (l.n + 1) (length kept) (says text) (before l.asm) _ step waits) in (
       split.1,
       omega (arith, split, l.invariant),
       omega (arith, has-place),
       simp length-set l.invariant.3,
       search rules,
       l.invariant.5 ∙ line_goes c.args.head l.n kept _ rest text split.2 (before l.asm) _ step
-        ∙ rw (place_kept f l.places l.k l.at text rest split.2 (omega (arith, has-place, l.invariant.3)) waits),
+          ∙ rw (place_kept f l.places l.k l.at text rest split.2 (omega (arith, has-place, l.invariant.3)) waits),
     )
 
 pub loop-at-preserved : goal.loop-at-preserved
@@ -62,8 +60,7 @@ loop-at-preserved c =
     let rest = lines_of (drop c.line_end-at.result f) in
     let kept = constants_at f (take l.k l.places) in
     let few : length kept ≡ l.k = places_length f (take l.k l.places) ∙ length-take-le l.k l.places (omega (arith, l.invariant)) in
-    let step = c.in-Ok-false.ensures.whole ∙ line_same c.args.head (l.n + 1) (says text) (sym few) (c.if-line.ensures.whole.1 refl) in
-    (
+    let step = c.in-Ok-false.ensures.whole ∙ line_same c.args.head (l.n + 1) (says text) (sym few) (c.if-line.ensures.whole.1 refl) in (
       split.1,
       omega (arith, split, l.invariant),
       search rules,

@@ -18,7 +18,7 @@ returns-in_err-on_line-3-clause-whole c =
     let a = c.args in
     let cs = constants_at a.file.now a.places.now in
     let e = no_constants a.head a.line cs (before a.asm.now) _ _ _ (c.unwind.ensures.whole cs) c.on_line.ensures _ c.in_ok-on_line.was _ (places_length a.file.now a.places.now) _ _ _ c.pad.ensures.whole c.on_line-2.ensures
-      _ c.in_ok-on_line-2.was _ _ _ c.constants.ensures.whole c.on_line-3.ensures _ c.in_err-on_line-3.was in
+    _ c.in_ok-on_line-2.was _ _ _ c.constants.ensures.whole c.on_line-3.ensures _ c.in_err-on_line-3.was in
     search (e, rules)
 
 pub close-requires : goal.close-requires
