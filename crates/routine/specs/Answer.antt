@@ -2,8 +2,7 @@
 use Rattle.std.specs.Prelude.{List, ℕ, Result, Ok, Err}
 use Rattle.refusal.specs.Answer.{Answer, accepted, refused}
 use Rattle.refusal.specs.Number.{number_of}
-use Rattle.assembler.specs.State.{state, before, Lent}
-use Rattle.assembler.specs.declared.Assembler.{Assembler}
+use Rattle.assembler.specs.State.{state, Lent}
 use Rattle.routine.specs.Routine.{Summary}
 use Rattle.routine.specs.Run.{RunOutcome}
 use Rattle.refusal.specs.declared.Refused.{Refused}
@@ -16,10 +15,6 @@ routine_answer (Err e) = refused (number_of e.why) e.place
 
 abbrev pub run_outcome : RoutineResult → (labels jumps buf : List ℕ) → RunOutcome
 run_outcome r ls js b = record { answer = routine_answer r.answer; state = state r.asm ls js b }
-
--- the same of the assembler that a part of the run leaves
-abbrev pub run_left : Result Outline Refused → Assembler → RunOutcome
-run_left r a = record { answer = routine_answer r; state = before a }
 
 -- what the routine answers and leaves in lent memory
 abbrev pub run_after : RoutineResult → (labels jumps buf : Lent) → RunOutcome

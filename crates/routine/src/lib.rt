@@ -10,8 +10,8 @@ ghost use Rattle.call.specs.Layout.{padding};
 ghost use Rattle.routine.specs.Run.{cleared, enter_run, finish_run, leave_run, says, line_run};
 ghost use Rattle.routine.specs.Run.{lines_run, file_run, whole_run, run};
 ghost use Rattle.routine.specs.Routine.{Promise};
-ghost use Rattle.routine.specs.Inner.Places.{constant_at, constants_at, is_constant, on_line, done, Waits, Placed, Unwound, Open, Entered};
-ghost use Rattle.routine.specs.Answer.{routine_answer, run_left, run_after};
+ghost use Rattle.routine.specs.Inner.Places.{constant_at, constants_at, is_constant, on_line, run_left, done, Waits, Placed, Unwound, Open, Entered};
+ghost use Rattle.routine.specs.Answer.{routine_answer, run_after};
 
 use assembler::{Asm, Assembler, JUMPS, Jumps, LABELS, Labels, ROOM};
 use ast::{Constant, Frame, Head};

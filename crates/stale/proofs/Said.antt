@@ -17,7 +17,7 @@ use Rattle.print.specs.declared.TooLong.{TooLong}
 use Rattle.unused.specs.Unused.{is_unused, unused_in, numbers_good, listed, unused_answer, counted, put_list}
 use Rattle.stale.specs.Deck.{labels_text}
 use Rattle.stale.specs.Inner.Scan.{file_line}
-use Rattle.stale.specs.Inner.Text.{list_of, count_of, line_in, memory_text, Says}
+use Rattle.stale.specs.Inner.Text.{list_of, line_in, memory_text, Says}
 use Rattle.refusal.specs.declared.Refused.{Refused}
 use Rattle.unused.proofs.From.{from_short}
 use Rattle.stale.proofs.Texts.{labels_short, same_text}
@@ -34,6 +34,10 @@ few m = omega (arith, from_short (λ l. is_unused (get_or m l 0)) 0 2039, length
 
 in_front : (z ls : List ℕ) → length ls ≤ length z → (length ls ≤ length (sets z 0 ls)) × (take (length ls) (sets z 0 ls) ≡ ls)
 in_front z ls h = (omega (arith, length-sets z 0 ls), front z ls h)
+
+abbrev count_of : Answer ℕ → ℕ
+count_of (accepted n) = n
+count_of (refused n place) = 0
 
 count_is : (r : Result ℕ Refused) → result_unwrap_or r 0 ≡ count_of (unused_answer r)
 count_is (Ok n) = refl

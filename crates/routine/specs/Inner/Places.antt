@@ -8,8 +8,11 @@ use Rattle.ast.specs.declared.Constant.TheVariants.{Bits}
 use Rattle.text.specs.Lines.{lines_of}
 use Rattle.deck.specs.Judge.{Content}
 use Rattle.deck.specs.Judge as Deck
-use Rattle.assembler.specs.State.{State, Outcome}
+use Rattle.assembler.specs.State.{State, Outcome, before}
+use Rattle.assembler.specs.declared.Assembler.{Assembler}
 use Rattle.assembler.specs.Put.{put}
+use Rattle.routine.specs.Answer.{routine_answer}
+use Rattle.routine.specs.declared.Outline.{Outline}
 use Rattle.routine.specs.Run.{RunOutcome, next, constants_run, padding_then, leave_run, enter_run, says, waiting}
 
 -- the first constant, 0 where there is none
@@ -40,6 +43,10 @@ constants_at file places = map (constant_at file) places
 abbrev pub on_line : Result (Unit {0}) Refused → (line : ℕ) → Result (Unit {0}) Refused
 on_line (Ok u) line = Ok u
 on_line (Err e) line = Err (record { why = e.why; place = line })
+
+-- what a part answers of the whole, and the assembler that it leaves
+abbrev pub run_left : Result Outline Refused → Assembler → RunOutcome
+run_left r a = record { answer = routine_answer r; state = before a }
 
 -- what a line answers, and whether it waits
 abbrev pub done : Result Bool Refused → Result (Unit {0}) Refused

@@ -14,10 +14,6 @@ abbrev pub list_of : Answer (List ℕ) → List ℕ
 list_of (accepted ls) = ls
 list_of (refused n place) = []
 
-abbrev pub count_of : Answer ℕ → ℕ
-count_of (accepted n) = n
-count_of (refused n place) = 0
-
 -- the line that was found for a label
 abbrev pub line_in : (found : List ℕ) → (l : ℕ) → ℕ
 line_in found l = get_or found l 0
