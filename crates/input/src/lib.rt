@@ -18,6 +18,7 @@ pub fn read(reader: &mut impl io::Read, buf: &mut [u8]) -> io::Result<usize>
     ensures { Within (length buf.new) result }
 {
     let mut n = 0;
+    // No `for`: how far a read comes is the reader's answer.
     while n < buf.len() {
         match reader.read(&mut buf[n..])? {
             0 => break,
@@ -32,6 +33,7 @@ pub fn read_full(reader: &mut impl io::Read, buf: &mut [u8]) -> usize
     ensures { result ≤ length buf.new }
 {
     let mut n = 0;
+    // No `for`: as in `read`.
     while n < buf.len() {
         match reader.read(&mut buf[n..]) {
             Ok(0) | Err(_) => break,

@@ -43,6 +43,7 @@ fn marks_from(file: &[u8], mut at: usize) -> Marks
 {
     let mut marks = [0u8; CONSTANTS];
     let mut k = 0;
+    // No `for`: a line starts where the one before ends.
     while at < file.len() {
         if k == CONSTANTS {
             return marks;

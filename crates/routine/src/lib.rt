@@ -225,6 +225,7 @@ fn body(asm: &mut Assembler<'_>, file: &[u8], mut at: usize, head: Head) -> Resu
     let mut places = [0u16; CONSTANTS];
     let mut k = 0;
     let mut n: u32 = 1;
+    // No `for`: a line starts where the one before ends, and a constant's place is kept.
     while at < file.len() {
         let place = at;
         at = lines::line_end(file, place);

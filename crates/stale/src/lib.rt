@@ -78,6 +78,7 @@ fn lines_from(file: &[u8], mut at: usize) -> SetLines
 {
     let mut found = [0u32; OWN];
     let mut next: u32 = 2;
+    // No `for`: a line starts where the one before ends.
     while at < file.len() {
         let end = lines::line_end(file, at);
         note(&mut found, label_of(&file[at..end]), next);
