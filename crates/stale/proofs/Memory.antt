@@ -33,7 +33,7 @@ use Rattle.unused.specs.Unused.{is_unused, passing, numbers_good, listed}
 use Rattle.stale.specs.Deck.{unused_by, unused_of}
 use Rattle.stale.specs.Laws.{FileSays}
 use Rattle.unused.proofs.From.{passing_same}
-use Rattle.unused.proofs.Listed.{is_list}
+use Rattle.unused.proofs.From.{is_list}
 
 -- ---- numbers
 
