@@ -17,29 +17,31 @@ use Rattle.call.specs.Layout.{items, place, routine_words, code_length}
 use Rattle.call.proofs.Items.{resolved_length}
 use Rattle.routine.specs.Routine.{Summary, Promise, program_of, summary_answer, buffer_after}
 use Rattle.ast.specs.declared.Frame.{Frame}
-use Rattle.routine.specs.declared.RoutineAnswer.{RoutineAnswer}
-use Rattle.routine.specs.declared.RoutineAnswer.TheVariants.{Accepted, Refused}
+use Rattle.refusal.specs.declared.Refused.{Refused}
+use Rattle.routine.specs.declared.Outline.{Outline}
+use Rattle.std.specs.declared.result.Result.{Result}
+use Rattle.std.specs.declared.result.Result.TheVariants.{Ok, Err}
 use Rattle.routine.specs.Answer.{routine_answer}
 use Rattle.print.specs.Text.{Puts, le_word, words_of, hex, word_line, word_lines, refusal_line}
-use Rattle.print.specs.declared.Text.{Text}
+use Rattle.print.specs.declared.TooLong.{TooLong}
 use Rattle.print.proofs.Short.{words_short, refusal_short}
 use Rattle.answer.specs.Answer.{answer_text, program_text, deck_text}
 
 -- the promise, and the bound
-abbrev pub Tells : (text : List ℕ) → (code out : List ℕ) → Text → (after : List ℕ) → Type 0
+abbrev pub Tells : (text : List ℕ) → (code out : List ℕ) → Result ℕ TooLong → (after : List ℕ) → Type 0
 Tells text code out r after = Puts text 0 out r after × (length code ≤ 65536 → length text ≤ 245760)
 
-module _ (a : RoutineAnswer) (code out after : List ℕ) (r : Text) where
-  pub words_told : (l o k j : ℕ) (f : Frame) → a ≡ Accepted l o k j f → Puts (word_lines 0 (words_of (take l code))) 0 out r after → Tells (answer_text (routine_answer a) code) code out r after
-  words_told l o k j f e p =
-      let n = length-take l code in
-      rw e (p, λ h. words_short (take l code) (omega arith))
+module _ (a : Result Outline Refused) (code out after : List ℕ) (r : Result ℕ TooLong) where
+  pub words_told : (t : Outline) → a ≡ Ok t → Puts (word_lines 0 (words_of (take t.length code))) 0 out r after → Tells (answer_text (routine_answer a) code) code out r after
+  words_told t e p =
+      let n = length-take t.length code in
+      rw e (p, λ h. words_short (take t.length code) (omega arith))
 
-  pub all_told : (l o k j : ℕ) (f : Frame) → a ≡ Accepted l o k j f → length code ≤ l → Puts (word_lines 0 (words_of code)) 0 out r after → Tells (answer_text (routine_answer a) code) code out r after
-  all_told l o k j f e h p = words_told l o k j f e (rw (take_all l code h) p)
+  pub all_told : (t : Outline) → a ≡ Ok t → length code ≤ t.length → Puts (word_lines 0 (words_of code)) 0 out r after → Tells (answer_text (routine_answer a) code) code out r after
+  all_told t e h p = words_told t e (rw (take_all t.length code h) p)
 
-  pub refusal_told : (why : Refusal) (line n : ℕ) → a ≡ Refused why line → n ≡ number_of why → n < 256 → line < 2 ^ 32 → Puts (refusal_line n line) 0 out r after → Tells (answer_text (routine_answer a) code) code out r after
-  refusal_told why line n e h x y p = rw (e, ← h) (p, λ z. refusal_short n line x y)
+  pub refusal_told : (x : Refused) (n : ℕ) → a ≡ Err x → n ≡ number_of x.why → n < 256 → x.place < 2 ^ 32 → Puts (refusal_line n x.place) 0 out r after → Tells (answer_text (routine_answer a) code) code out r after
+  refusal_told x n e h u v p = rw (e, ← h) (p, λ z. refusal_short n x.place u v)
 
 -- ---- words from the buffer's bytes
 
@@ -95,5 +97,5 @@ module _ (file buf after : List ℕ) (full : length buf ≡ 65536) where
   unfolding deck_text
   listed t p = rw (← full, p.0) (of_program (program_of (length buf) file) p.1)
 
-  pub deck_told : (t : Answer Summary) (r : Text) (out left : List ℕ) → length after ≡ length buf → Promise file buf t after → Tells (answer_text t after) after out r left → Puts (deck_text file) 0 out r left × (length (deck_text file) ≤ 245760)
+  pub deck_told : (t : Answer Summary) (r : Result ℕ TooLong) (out left : List ℕ) → length after ≡ length buf → Promise file buf t after → Tells (answer_text t after) after out r left → Puts (deck_text file) 0 out r left × (length (deck_text file) ≤ 245760)
   deck_told t r out left n p q = rw (← listed t p) (q.0, q.1 (omega arith))

@@ -4,8 +4,7 @@
 // Where standard input can't be read, or standard output takes less than all, a message goes to standard error.
 #![tactic(auto)]
 
-use input::{FILE, Input};
-use print::Text;
+use answer::{DeckAnswer, Messages};
 use std::env::{Env, FillError};
 
 // 1,024 lines of at most 11 bytes.
@@ -14,53 +13,21 @@ const TEXT: usize = 11264;
 // Enough for a refusal in words.
 const REASON: usize = 128;
 
-fn print_text(rt: &HostRuntime, s: &[u8]) {
-    if rt.stdout().write_all(s).is_err() {
-        let _ = rt
-            .stderr()
-            .write_all(b"decklabels: the answer was not written whole\n");
-    }
-}
+const SAYS: Messages = Messages {
+    unwritten: b"decklabels: the answer was not written whole\n",
+    too_long: b"decklabels: the answer is too long\n",
+};
 
 // What is printed of a file.
 fn print_labels(rt: &HostRuntime, file: &[u8]) {
     let mut out = [0u8; TEXT];
     let mut err = [0u8; REASON];
-    let told = stale::deck_labels(file, &mut out);
-    let answer = told.answer;
-    let text = told.text;
-    match text {
-        Text::Length(n) => print_text(rt, &out[..n]),
-        // It can't be: no answer is longer than TEXT.
-        Text::TooLong => {
-            let _ = rt
-                .stderr()
-                .write_all(b"decklabels: the answer is too long\n");
-        }
-    }
-    // No reason is longer than REASON.
-    if let Text::Length(n) = answer::reason_text(answer, &mut err) {
-        let _ = rt.stderr().write_all(&err[..n]);
-    }
-}
-
-// The labels of the file on standard input.
-fn print_input(rt: &HostRuntime) {
-    let mut file = [0u8; FILE];
-    let mut stdin = rt.stdin();
-    match input::read(&mut stdin, &mut file) {
-        Input::Read(n) => {
-            print_labels(rt, &file[..n]);
-            if n == FILE {
-                input::skip_rest(&mut stdin);
-            }
-        }
-        Input::Failed => {
-            let _ = rt
-                .stderr()
-                .write_all(b"decklabels: standard input can't be read\n");
-        }
-    }
+    let labels = stale::deck_labels(file, &mut out);
+    let told = DeckAnswer {
+        text: labels.text,
+        reason: answer::reason_text(labels.answer, &mut err),
+    };
+    answer::print_answer(rt, SAYS, told, &out, &err);
 }
 
 // There is an argument behind the program's own name, whatever it is.
@@ -77,5 +44,9 @@ fn main(rt: HostRuntime) {
         let _ = rt.stderr().write_all(b"usage: decklabels < FILE\n");
         return;
     }
-    print_input(&rt);
+    input::with_file(
+        &rt,
+        b"decklabels: standard input can't be read\n",
+        |file| print_labels(&rt, file),
+    );
 }

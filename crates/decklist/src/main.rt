@@ -7,9 +7,8 @@
 ghost use Rattle.std.specs.Prelude.{◌≡◌};
 ghost use Rattle.decklist.specs.Inner.Arguments.{asked_for};
 
-use input::{FILE, Input};
+use answer::{DeckAnswer, Messages};
 use listing::View;
-use print::Text;
 use std::env::{Env, FillError};
 
 // 16,384 lines of at most 29 bytes.
@@ -21,74 +20,37 @@ const REASON: usize = 128;
 // Longer than any argument that is known.
 const WORD: usize = 16;
 
-// What the arguments ask for.
-#[derive(Clone, Copy)]
-enum Asked {
-    For(View),
-    Unknown,
-}
-
-fn print_text(rt: &HostRuntime, s: &[u8]) {
-    if rt.stdout().write_all(s).is_err() {
-        let _ = rt
-            .stderr()
-            .write_all(b"decklist: the answer was not written whole\n");
-    }
-}
+const SAYS: Messages = Messages {
+    unwritten: b"decklist: the answer was not written whole\n",
+    too_long: b"decklist: the answer is too long\n",
+};
 
 // What is printed of a file.
 fn print_view(rt: &HostRuntime, file: &[u8], view: View) {
     let mut out = [0u8; TEXT];
     let mut err = [0u8; REASON];
-    let told = listing::deck_view(file, view, &mut out);
-    let answer = told.answer;
-    let text = told.text;
-    match text {
-        Text::Length(n) => print_text(rt, &out[..n]),
-        // It can't be: no answer is longer than TEXT.
-        Text::TooLong => {
-            let _ = rt.stderr().write_all(b"decklist: the answer is too long\n");
-        }
-    }
-    // No reason is longer than REASON.
-    if let Text::Length(n) = answer::reason_text(answer, &mut err) {
-        let _ = rt.stderr().write_all(&err[..n]);
-    }
+    let listing = listing::deck_view(file, view, &mut out);
+    let told = DeckAnswer {
+        text: listing.text,
+        reason: answer::reason_text(listing.answer, &mut err),
+    };
+    answer::print_answer(rt, SAYS, told, &out, &err);
 }
 
-// The listing of the file on standard input.
-fn print_input(rt: &HostRuntime, view: View) {
-    let mut file = [0u8; FILE];
-    let mut stdin = rt.stdin();
-    match input::read(&mut stdin, &mut file) {
-        Input::Read(n) => {
-            print_view(rt, &file[..n], view);
-            if n == FILE {
-                input::skip_rest(&mut stdin);
-            }
-        }
-        Input::Failed => {
-            let _ = rt
-                .stderr()
-                .write_all(b"decklist: standard input can't be read\n");
-        }
-    }
-}
-
-// `count` arguments, the program's own name among them, of which `word` is the first behind it.
-fn asked_for(count: usize, word: &[u8]) -> Asked
+// What the arguments ask for, if it is known: `count` arguments, the program's own name among them, of which `word` is the first behind it.
+fn asked_for(count: usize, word: &[u8]) -> Option<View>
     ensures { result ≡ asked_for count word.now }
 {
     if count < 2 {
-        return Asked::For(View::Maintainer);
+        return Some(View::Maintainer);
     }
     if count > 2 {
-        return Asked::Unknown;
+        return None;
     }
     if text::same(word, b"attendant") {
-        return Asked::For(View::Attendant);
+        return Some(View::Attendant);
     }
-    Asked::Unknown
+    None
 }
 
 // How many arguments there are, the program's own name among them. Whether there are more than three isn't asked.
@@ -103,7 +65,7 @@ fn count(rt: &impl Env) -> usize {
 }
 
 // An argument longer than WORD counts as empty: neither is known.
-fn arguments(rt: &impl Env) -> Asked {
+fn arguments(rt: &impl Env) -> Option<View> {
     let mut word = [0u8; WORD];
     match rt.arg(1, &mut word) {
         Ok(n) => asked_for(count(rt), &word[..n]),
@@ -113,8 +75,14 @@ fn arguments(rt: &impl Env) -> Asked {
 
 fn main(rt: HostRuntime) {
     match arguments(&rt) {
-        Asked::For(view) => print_input(&rt, view),
-        Asked::Unknown => {
+        Some(view) => {
+            input::with_file(
+                &rt,
+                b"decklist: standard input can't be read\n",
+                |file| print_view(&rt, file, view),
+            );
+        }
+        None => {
             let _ = rt
                 .stderr()
                 .write_all(b"usage: decklist [attendant] < FILE\n");

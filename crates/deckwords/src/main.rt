@@ -3,8 +3,7 @@
 // Where standard input can't be read, or standard output takes less than all, a message goes to standard error.
 #![tactic(auto)]
 
-use input::{FILE, Input};
-use print::Text;
+use answer::Messages;
 
 // 16,384 lines of at most 15 bytes.
 const TEXT: usize = 245760;
@@ -12,50 +11,23 @@ const TEXT: usize = 245760;
 // Enough for a refusal in words.
 const REASON: usize = 128;
 
-fn print_text(rt: &HostRuntime, s: &[u8]) {
-    if rt.stdout().write_all(s).is_err() {
-        let _ = rt
-            .stderr()
-            .write_all(b"deckwords: the answer was not written whole\n");
-    }
-}
+const SAYS: Messages = Messages {
+    unwritten: b"deckwords: the answer was not written whole\n",
+    too_long: b"deckwords: the answer is too long\n",
+};
 
 // What is printed of a file.
-fn print_answer(rt: &HostRuntime, file: &[u8]) {
+fn print_file(rt: &HostRuntime, file: &[u8]) {
     let mut out = [0u8; TEXT];
     let mut err = [0u8; REASON];
     let told = answer::deck_answer(file, &mut out, &mut err);
-    let text = told.text;
-    let reason = told.reason;
-    match text {
-        Text::Length(n) => print_text(rt, &out[..n]),
-        // It can't be: no answer is longer than TEXT.
-        Text::TooLong => {
-            let _ = rt
-                .stderr()
-                .write_all(b"deckwords: the answer is too long\n");
-        }
-    }
-    // No reason is longer than REASON.
-    if let Text::Length(n) = reason {
-        let _ = rt.stderr().write_all(&err[..n]);
-    }
+    answer::print_answer(rt, SAYS, told, &out, &err);
 }
 
 fn main(rt: HostRuntime) {
-    let mut file = [0u8; FILE];
-    let mut stdin = rt.stdin();
-    match input::read(&mut stdin, &mut file) {
-        Input::Read(n) => {
-            print_answer(&rt, &file[..n]);
-            if n == FILE {
-                input::skip_rest(&mut stdin);
-            }
-        }
-        Input::Failed => {
-            let _ = rt
-                .stderr()
-                .write_all(b"deckwords: standard input can't be read\n");
-        }
-    }
+    input::with_file(
+        &rt,
+        b"deckwords: standard input can't be read\n",
+        |file| print_file(&rt, file),
+    );
 }

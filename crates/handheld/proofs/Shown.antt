@@ -2,6 +2,7 @@
 use mathlib.Core.Path.{◌≡◌, refl, sym, ap, ◌∙◌}
 use mathlib.Core.Bool.{Bool, true, false, cond}
 use mathlib.Core.List.{List, [], ◌∷◌}
+use Rattle.std.specs.declared.result.Result.{Result}
 use Prim.Native.Nat.{ℕ, zero, suc, ◌<◌, ◌≤◌}
 use borrow.Author.Tests.{le-leb, lt-leb}
 use lib.ListN.{length}
@@ -24,7 +25,7 @@ use Rattle.reading.specs.Program.{Program}
 use Rattle.routine.specs.Routine.{Summary, Promise, program_of, summary_answer}
 use Rattle.routine.specs.Run.{RunOutcome}
 use Rattle.print.specs.Text.{Puts}
-use Rattle.print.specs.declared.Text.{Text}
+use Rattle.print.specs.declared.TooLong.{TooLong}
 use Rattle.listing.specs.Listing.{text_of, code_answer, Lists}
 use Rattle.listing.specs.declared.CodeListing.{CodeListing}
 use Rattle.listing.specs.declared.View.TheVariants.{Attendant}
@@ -109,7 +110,7 @@ module _ (a : Answer (List ℕ)) (out after : List ℕ) (l : CodeListing) (h : L
         h.1.1,
       )
 
-pub listing_told : (file text out after : List ℕ) (t : Answer Summary) (x : Text) (n : ℕ) (l : List ℕ) → Puts text 0 out x after → t ≡ summary_answer (program_of 65536 file)
+pub listing_told : (file text out after : List ℕ) (t : Answer Summary) (x : Result ℕ TooLong) (n : ℕ) (l : List ℕ) → Puts text 0 out x after → t ≡ summary_answer (program_of 65536 file)
     → n ≡ number t → l ≡ Numbers.listing_numbers t (Numbers.text_number x) → Numbers.DeckListed file text n l out after
 listing_told file text out after t x n l p e g h =
     (rw (g, e) (number_told (program_of 65536 file)), rw (h, e, p.0), p.1)

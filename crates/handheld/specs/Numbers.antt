@@ -1,11 +1,10 @@
 -- Answers as the numbers that a caller in C gets.
-use Rattle.std.specs.Prelude.{◌≡◌, List, [], ◌∷◌, ℕ, zero, suc, length}
+use Rattle.std.specs.Prelude.{◌≡◌, List, [], ◌∷◌, ℕ, zero, suc, length, Result, Ok, Err}
 use Rattle.refusal.specs.Answer.{Answer, accepted, refused}
 use Rattle.ast.specs.declared.Frame.{Frame}
 use Rattle.ast.specs.declared.Frame.TheVariants.{Fast, Indirect}
 use Rattle.print.specs.Text.{length_in, put_in}
-use Rattle.print.specs.declared.Text.{Text}
-use Rattle.print.specs.declared.Text.TheVariants as Text
+use Rattle.print.specs.declared.TooLong.{TooLong}
 use Rattle.routine.specs.Routine.{Summary, program_of, summary_answer, buffer_after}
 use Rattle.assembler.specs.State.{Lent}
 use Rattle.listing.specs.Listing.{text_of}
@@ -54,9 +53,9 @@ DeckIn file answer told labels jumps buf =
     told.exit.now labels.exit.now jumps.exit.now buf.exit.now
 
 -- how long a text is that was put; 0 where it was not
-abbrev pub text_number : Text → ℕ
-text_number (Text.Length n) = n
-text_number Text.TooLong = 0
+abbrev pub text_number : Result ℕ TooLong → ℕ
+text_number (Ok n) = n
+text_number (Err e) = 0
 
 -- ---- listings
 

@@ -27,10 +27,10 @@ use assembler::{Asm, EmitResult, Jumps, LABELS, Labels};
 use ast::{Constant, Frame, Order};
 use deck::Judged;
 use form::Form;
-use listing::{CodeAnswer, View};
-use print::Text;
-use refusal::Refusal;
-use routine::RoutineAnswer;
+use listing::{CodeError, View};
+use print::TooLong;
+use refusal::{Refusal, Refused};
+use routine::Outline;
 use text::Number;
 use unused::Unused;
 
@@ -46,27 +46,35 @@ fn frame_number(f: Frame) -> u32
 }
 
 // Number, line, length, the constants' offset and count, jump count, frame.
-fn numbers(a: RoutineAnswer) -> [u32; 7]
+fn numbers(a: Result<Outline, Refused>) -> [u32; 7]
     ensures { result ≡ deck_numbers (routine_answer a) }
 {
     match a {
-        RoutineAnswer::Accepted(length, offset, constants, jumps, frame) => {
-            let f = frame_number(frame);
-            [0, 0, length, offset, constants, jumps, f]
+        Ok(told) => {
+            let f = frame_number(told.frame);
+            [
+                0,
+                0,
+                told.length,
+                told.offset,
+                told.constants,
+                told.jumps,
+                f,
+            ]
         }
-        RoutineAnswer::Refused(why, line) => {
-            let n = refusal::number(why) as u32;
-            [n, line, 0, 0, 0, 0, 0]
+        Err(refused) => {
+            let n = refusal::number(refused.why) as u32;
+            [n, refused.place, 0, 0, 0, 0, 0]
         }
     }
 }
 
-fn answer_number(a: RoutineAnswer) -> u32
+fn answer_number(a: Result<Outline, Refused>) -> u32
     ensures { result ≡ number (routine_answer a) }
 {
     match a {
-        RoutineAnswer::Accepted(_, _, _, _, _) => 0,
-        RoutineAnswer::Refused(why, _) => refusal::number(why) as u32,
+        Ok(_) => 0,
+        Err(refused) => refusal::number(refused.why) as u32,
     }
 }
 
@@ -103,10 +111,7 @@ pub extern "C" fn deck_text(file: &[u8], out: &mut [u8]) -> usize
     ensures { (result ≡ text_number (length_in (deck_text file.now) 0 out.old))
         × (out.new ≡ put_in (deck_text file.now) 0 out.old) }
 {
-    match answer::deck_text(file, out) {
-        Text::Length(n) => n,
-        Text::TooLong => 0,
-    }
+    answer::deck_text(file, out).unwrap_or(0)
 }
 
 // A refusal in words: the text's length, or 0 and nothing written where `out` is too short or there is no such number.
@@ -115,40 +120,34 @@ pub extern "C" fn refusal_text(number: u32, out: &mut [u8]) -> usize
     ensures { (result ≡ text_number (length_in (refusal_text number) 0 out.old))
         × (out.new ≡ put_in (refusal_text number) 0 out.old) }
 {
-    match print::refusal_text(number, out) {
-        Text::Length(n) => n,
-        Text::TooLong => 0,
-    }
+    print::refusal_text(number, out).unwrap_or(0)
 }
 
 // ---- a listing
 
-fn text_number(t: Text) -> u64
+fn text_number(t: Result<usize, TooLong>) -> u64
     ensures { result ≡ text_number t }
 {
-    match t {
-        Text::Length(n) => n as u64,
-        Text::TooLong => 0,
-    }
+    t.unwrap_or(0) as u64
 }
 
-fn code_number(a: CodeAnswer) -> u32
+fn code_number(a: Result<(), CodeError>) -> u32
     ensures { (text : List ℕ) → result ≡ number (code_answer a text) }
 {
     match a {
-        CodeAnswer::Listed => 0,
-        CodeAnswer::Offset => 2,
-        CodeAnswer::Foreign(_) => 14,
+        Ok(()) => 0,
+        Err(CodeError::Offset) => 2,
+        Err(CodeError::Foreign(_)) => 14,
     }
 }
 
-fn code_place(a: CodeAnswer) -> u64
+fn code_place(a: Result<(), CodeError>) -> u64
     ensures { (text : List ℕ) → result ≡ place (code_answer a text) }
 {
     match a {
-        CodeAnswer::Listed => 0,
-        CodeAnswer::Offset => 0,
-        CodeAnswer::Foreign(place) => place as u64,
+        Ok(()) => 0,
+        Err(CodeError::Offset) => 0,
+        Err(CodeError::Foreign(place)) => place as u64,
     }
 }
 
@@ -170,13 +169,13 @@ pub extern "C" fn code_listing(
 }
 
 // The refusal's line, the code's length, the text's length.
-fn listing_numbers(a: RoutineAnswer, text: Text) -> [u64; 3]
+fn listing_numbers(a: Result<Outline, Refused>, text: Result<usize, TooLong>) -> [u64; 3]
     ensures { result ≡ listing_numbers (routine_answer a) (text_number text) }
 {
     let k = text_number(text);
     match a {
-        RoutineAnswer::Accepted(length, _, _, _, _) => [0, length as u64, k],
-        RoutineAnswer::Refused(_, line) => [line as u64, 0, k],
+        Ok(told) => [0, told.length as u64, k],
+        Err(refused) => [refused.place as u64, 0, k],
     }
 }
 

@@ -63,3 +63,22 @@ pub fn skip_rest(reader: &mut impl io::Read) {
         turns -= 1;
     }
 }
+
+// Hands the file on standard input to f, and then reads past a file too long; or says on standard error that it can't be read.
+pub fn with_file<F: FnOnce(&[u8])>(rt: &HostRuntime, unread: &[u8], f: F)
+    requires { F.IsAlwaysCallable f }
+{
+    let mut file = [0u8; FILE];
+    let mut stdin = rt.stdin();
+    match read(&mut stdin, &mut file) {
+        Input::Read(n) => {
+            f(&file[..n]);
+            if n == FILE {
+                skip_rest(&mut stdin);
+            }
+        }
+        Input::Failed => {
+            let _ = rt.stderr().write_all(unread);
+        }
+    }
+}

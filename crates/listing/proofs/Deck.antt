@@ -15,24 +15,24 @@ use Rattle.isa.specs.Decode.{decode}
 use Rattle.isa.proofs.Encodings.{encodings}
 use Rattle.machine.specs.Word.{w64, load4}
 use Rattle.refusal.specs.Answer.{Answer, accepted, refused}
-use Rattle.refusal.specs.declared.Refusal.{Refusal}
 use Rattle.refusal.specs.Number.{number_of}
-use Rattle.ast.specs.declared.Frame.{Frame}
 use Rattle.reading.specs.Program.{Program}
 use Rattle.assembler.specs.Bytes.{bytes}
 use Rattle.call.specs.Layout.{constants_offset, routine_words}
 use Rattle.routine.specs.Routine.{Summary, Promise, program_of, summary_of, summary_answer, buffer_after}
 use Rattle.routine.specs.Answer.{routine_answer}
-use Rattle.routine.specs.declared.RoutineAnswer.{RoutineAnswer}
-use Rattle.routine.specs.declared.RoutineAnswer.TheVariants.{Accepted, Refused}
+use Rattle.refusal.specs.declared.Refused.{Refused}
+use Rattle.routine.specs.declared.Outline.{Outline}
+use Rattle.std.specs.declared.result.Result.{Result}
+use Rattle.std.specs.declared.result.Result.TheVariants.{Ok, Err}
 use Rattle.correctness.proofs.Correct.{program, answered, told, code_left, extent, words_valid}
 use Rattle.print.specs.Text.{Puts, words_of, refusal_line}
 use Rattle.print.specs.Listing.{foreign, listing_lines, view_lines}
 use Rattle.print.specs.Inner.Text.{word_in}
-use Rattle.print.specs.declared.Text.{Text}
+use Rattle.print.specs.declared.TooLong.{TooLong}
 use Rattle.print.proofs.Short.{refusal_short}
 use Rattle.print.proofs.Brief.{listing_short}
-use Rattle.print.proofs.Listings.{first_from, no_first, first_behind, data_own, instr_own, views_length, all_shown}
+use Rattle.print.proofs.Listings.{first_from, first_end, first_behind, data_own, instr_own, views_length, all_shown}
 use Rattle.listing.specs.Listing.{unless_foreign, listed, text_of, program_listing, deck_listing}
 use Rattle.listing.specs.Never.{NeverRefused, EveryWord}
 use Rattle.listing.specs.Views.{hidden_in, program_view, deck_view, MaintainerSees}
@@ -64,15 +64,15 @@ module _ (constants : ℕ) (s : List ℕ) (own : (k : ℕ) → 4 * k < constants
       by false e = data_own constants (4 * k) (word_in s (4 * k)) (ltb-false (4 * k) constants e)
 
   none_from : (n k : ℕ) → length s ≤ 4 * k + 4 * n → first_from constants s (4 * k) ≡ none
-  none_from zero k h = no_first constants s (4 * k) (omega arith)
+  none_from zero k h = first_end constants s k (omega arith)
   none_from (suc n) k h = by (leb (4 * k + 4) (length s)) refl (none_from n (suc k) (omega arith))
     where
       by : (t : Bool) → leb (4 * k + 4) (length s) ≡ t → first_from constants s (4 * suc k) ≡ none → first_from constants s (4 * k) ≡ none
       by true e r =
           let l = leb-true (4 * k + 4) (length s) e in
-          let q : 4 * k + 4 ≡ 4 * suc k = omega arith in
-          first_behind constants s (4 * k) _ l refl (not_foreign k l) ∙ ap (first_from constants s) q ∙ r
-      by false e r = no_first constants s (4 * k) (leb-false (4 * k + 4) (length s) e)
+          let q : 4 * (k + 1) ≡ 4 * suc k = omega arith in
+          first_behind constants s k _ (omega arith) refl (not_foreign k l) ∙ ap (first_from constants s) q ∙ r
+      by false e r = let l = leb-false (4 * k + 4) (length s) e in first_end constants s k (omega arith)
 
 pub never_refused : NeverRefused
 never_refused file buf t after h =
@@ -139,24 +139,24 @@ module _ (v : View) (file buf after : List ℕ) (full : length buf ≡ 65536) wh
   unfolding deck_view
   deck_viewed t h = program_viewed t h ∙ ap (λ (n : ℕ). program_view v (program_of n file)) full
 
-  pub deck_told : (t : Answer Summary) (r : Text) (out left : List ℕ) → length after ≡ length buf → Promise file buf t after → Says (summary_view (hidden_by v file) t after) after out r left
+  pub deck_told : (t : Answer Summary) (r : Result ℕ TooLong) (out left : List ℕ) → length after ≡ length buf → Promise file buf t after → Says (summary_view (hidden_by v file) t after) after out r left
       → Puts (deck_view v file) 0 out r left × (t ≡ summary_answer (program_of 65536 file)) × (length (deck_view v file) ≤ 475136)
   deck_told t r out left n h q =
       let e = deck_viewed t h in
       (rw (← e) q.0, h.0 ∙ ap (λ (k : ℕ). summary_answer (program_of k file)) full, rw (← e) (q.1 (omega arith)))
 
 -- `marks` says of each constant what `hidden` does
-module _ (hidden : ℕ → Bool) (a : RoutineAnswer) (code out after : List ℕ) (r : Text) where
-  pub part_said : (marks : ℕ → Bool) (l o k j : ℕ) (f : Frame) → a ≡ Accepted l o k j f → ((i : ℕ) → marks i ≡ hidden i) → Puts (view_lines marks o 0 (words_of (take l code))) 0 out r after → Says (summary_view hidden (routine_answer a) code) code out r after
-  part_said marks l o k j f e s p =
-      let n = length-take l code in
-      let m = views_length hidden o 0 (words_of (take l code)) in
-      rw e (rw (← (fun_ext s)) p, λ h. omega (arith, m, listing_short o (take l code) (omega arith)))
+module _ (hidden : ℕ → Bool) (a : Result Outline Refused) (code out after : List ℕ) (r : Result ℕ TooLong) where
+  pub part_said : (marks : ℕ → Bool) (t : Outline) → a ≡ Ok t → ((i : ℕ) → marks i ≡ hidden i) → Puts (view_lines marks t.offset 0 (words_of (take t.length code))) 0 out r after → Says (summary_view hidden (routine_answer a) code) code out r after
+  part_said marks t e s p =
+      let n = length-take t.length code in
+      let m = views_length hidden t.offset 0 (words_of (take t.length code)) in
+      rw e (rw (← (fun_ext s)) p, λ h. omega (arith, m, listing_short t.offset (take t.length code) (omega arith)))
 
-  pub all_said : (marks : ℕ → Bool) (l o k j : ℕ) (f : Frame) → a ≡ Accepted l o k j f → ((i : ℕ) → marks i ≡ hidden i) → length code ≤ l → Puts (view_lines marks o 0 (words_of code)) 0 out r after → Says (summary_view hidden (routine_answer a) code) code out r after
-  all_said marks l o k j f e s h p = part_said marks l o k j f e s (rw (take_all l code h) p)
+  pub all_said : (marks : ℕ → Bool) (t : Outline) → a ≡ Ok t → ((i : ℕ) → marks i ≡ hidden i) → length code ≤ t.length → Puts (view_lines marks t.offset 0 (words_of code)) 0 out r after → Says (summary_view hidden (routine_answer a) code) code out r after
+  all_said marks t e s h p = part_said marks t e s (rw (take_all t.length code h) p)
 
-  pub refusal_said : (why : Refusal) (line n : ℕ) → a ≡ Refused why line → n ≡ number_of why → n < 256 → line < 2 ^ 32 → Puts (refusal_line n line) 0 out r after → Says (summary_view hidden (routine_answer a) code) code out r after
-  refusal_said why line n e h x y p =
-      let s = refusal_short n line x y in
+  pub refusal_said : (x : Refused) (n : ℕ) → a ≡ Err x → n ≡ number_of x.why → n < 256 → x.place < 2 ^ 32 → Puts (refusal_line n x.place) 0 out r after → Says (summary_view hidden (routine_answer a) code) code out r after
+  refusal_said x n e h u v p =
+      let s = refusal_short n x.place u v in
       rw (e, ← h) (p, λ z. omega arith)

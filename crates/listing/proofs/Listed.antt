@@ -3,6 +3,8 @@ use mathlib.Core.Path.{◌≡◌, refl, sym, ap, ◌∙◌}
 use mathlib.Core.Bool.{Bool, true, false, ◌&&◌, cond}
 use mathlib.Core.List.{List, [], ◌∷◌}
 use mathlib.Core.Option.{Option, some, none, get_or}
+use Rattle.std.specs.declared.result.Result.{Result}
+use Rattle.std.specs.declared.result.Result.TheVariants.{Ok}
 use Prim.Native.Nat.{ℕ, suc, ◌+◌, ◌*◌, ◌/◌, ◌%◌, ◌≤◌}
 use native.Mathlib.Omega.{arith}
 use borrow.Author.Tests.{eq-eqb, ne_eqb}
@@ -11,11 +13,10 @@ use lib.ListN.{length}
 use Rattle.refusal.specs.Answer.{Answer, accepted, refused}
 use Rattle.print.specs.Text.{words_of, Puts}
 use Rattle.print.specs.Listing.{foreign, foreign_from, listing_lines}
-use Rattle.print.specs.declared.Text.{Text}
+use Rattle.print.specs.declared.TooLong.{TooLong}
 use Rattle.print.proofs.Short.{words_few, refusal_short}
 use Rattle.print.proofs.Brief.{listing_short}
 use Rattle.listing.specs.Listing.{unless_foreign, listed, text_of, Lists}
-use Rattle.listing.specs.declared.CodeAnswer.TheVariants as CodeAnswer
 use Rattle.listing.specs.declared.CodeListing.{CodeListing}
 
 -- ---- which case
@@ -88,7 +89,7 @@ Tells code constants buf r after =
     Lists (listed code constants) buf r after × (length code ≤ 65536 → length (text_of (listed code constants)) ≤ 475136)
 
 module _ (code : List ℕ) (constants : ℕ) (buf after : List ℕ) where
-  pub told_lines : (t : Text) → listed code constants ≡ accepted (lines code constants) → Puts (lines code constants) 0 buf t after → Tells code constants buf (record { answer = CodeAnswer.Listed; text = t }) after
+  pub told_lines : (t : Result ℕ TooLong) → listed code constants ≡ accepted (lines code constants) → Puts (lines code constants) 0 buf t after → Tells code constants buf (record { answer = Ok tt; text = t }) after
   told_lines t e p = (rw e (refl, p), λ h. brief code constants h)
 
   pub told_as : (r : CodeListing) (a : Answer (List ℕ)) → listed code constants ≡ a → Lists a buf r after → Tells code constants buf r after

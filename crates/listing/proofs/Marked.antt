@@ -2,6 +2,8 @@
 use mathlib.Core.Path.{◌≡◌, refl, sym, ap, ◌∙◌, fun_ext}
 use mathlib.Core.Bool.{Bool, true, false, ◌&&◌}
 use mathlib.Core.List.{List, [], ◌∷◌, map}
+use Rattle.std.specs.declared.option.Option.{Option}
+use Rattle.std.specs.declared.option.Option.TheVariants.{Some, None}
 use Prim.Native.Nat.{ℕ, zero, suc, ◌≤◌}
 use native.Mathlib.Omega.{arith}
 use borrow.Author.Tests.{ltb-false}
@@ -33,7 +35,7 @@ use Rattle.listing.proofs.Noted.{not_marked, one_mark}
 
 -- ---- a line's text
 
-order_mark : (o : Order) → mark_of (text (Text.order o)) ≡ 2
+order_mark : (o : Order) → mark_of (text (Text.order o)) ≡ None
 unfolding text commas same
 order_mark (Unary Fmov d s) = refl
 order_mark (Unary Recip d s) = refl
@@ -62,11 +64,11 @@ order_mark (Save s p i) = refl
 order_mark (BranchIf c l e) = refl
 order_mark (SetLabel l) = refl
 
--- 2 for an order, 0 for `float`, 1 for `bits`
-abbrev kind : Line → ℕ
-kind (order o) = 2
-kind (constant (Float x)) = 0
-kind (constant (Bits n)) = 1
+-- none for an order, 0 for `float`, 1 for `bits`
+abbrev kind : Line → Option ℕ
+kind (order o) = None
+kind (constant (Float x)) = Some 0
+kind (constant (Bits n)) = Some 1
 
 text_mark : (d : DeckLine) (l : Line) → ReadAs d l → mark_of (text d) ≡ kind l
 unfolding text commas same
@@ -92,10 +94,10 @@ lines_marked (t ∷ ts) (l ∷ ls) e k =
   where
     by : (l : Line) → mark_of t ≡ kind l → (k : ℕ) → ((j : ℕ) → marked (marks_of ts) j ≡ hidden_in Attendant ls j) → marked (marks_of (t ∷ ts)) k ≡ hidden_in Attendant (l ∷ ls) k
     by (order o) m k r = rw (not_marked t ts m) (r k)
-    by (constant (Float x)) m zero r = rw (one_mark t ts (λ z. omega (arith, m, z)), m)
-    by (constant (Float x)) m (suc k) r = rw (one_mark t ts (λ z. omega (arith, m, z))) (r k)
-    by (constant (Bits n)) m zero r = rw (one_mark t ts (λ z. omega (arith, m, z)), m)
-    by (constant (Bits n)) m (suc k) r = rw (one_mark t ts (λ z. omega (arith, m, z))) (r k)
+    by (constant (Float x)) m zero r = rw (one_mark t ts _ m)
+    by (constant (Float x)) m (suc k) r = rw (one_mark t ts _ m) (r k)
+    by (constant (Bits n)) m zero r = rw (one_mark t ts _ m)
+    by (constant (Bits n)) m (suc k) r = rw (one_mark t ts _ m) (r k)
 
 -- behind the last constant nothing is hidden
 pub no_constant : (v : View) (ls : List Line) (k : ℕ) → length (constants ls) ≤ k → hidden_in v ls k ≡ false

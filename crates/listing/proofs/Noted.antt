@@ -1,14 +1,14 @@
 -- The marks of constants, as the loop over the file's lines makes them. Assumes nothing.
 use mathlib.Core.Path.{◌≡◌, refl, sym, ap, ◌∙◌}
-use mathlib.Core.Bool.{Bool, true, false, not, ◌&&◌, cond}
+use mathlib.Core.Bool.{Bool, true, false, not, ◌&&◌}
 use mathlib.Core.List.{List, [], ◌∷◌, ◌++◌, append_assoc, append-nil}
+use Rattle.std.specs.declared.option.Option.TheVariants.{Some, None}
 use Prim.Native.Nat.{ℕ, ◌+◌, ◌≤◌, ◌<◌}
 use native.Mathlib.Omega.{arith}
-use borrow.Author.Tests.{lt-ltb, ltb-true, ltb-false}
+use borrow.Author.Tests.{ltb-true, ltb-false}
 use lib.Dec.{eqb, ltb}
 use lib.ListN.{length, take, drop, get_or, set, replicate, length-append, length-set, length-take, length-replicate, drop_of_length-le, get_or-replicate, get_or-append, get_or-eq_default}
 use lib.Seq.{get_or-set_same, get_or-set_other, get_or_at}
-use Rattle.text.specs.Ascii.{bytes}
 use Rattle.text.specs.Lines.{lines_of, Ends}
 use Rattle.text.proofs.Steps.{same_length}
 use Rattle.print.specs.Listing.{marked}
@@ -20,21 +20,13 @@ use Rattle.listing.specs.declared.View.TheVariants.{Maintainer, Attendant}
 pub too_short : (w t : List ℕ) → length t < length w → starts w t ≡ false
 too_short w t h = same_length (take (length w) t) w (λ e. omega (arith, e, length-take (length w) t))
 
-pub mark_small : (t : List ℕ) → mark_of t ≤ 2
-mark_small t = by (starts (bytes "bits,") t) (starts (bytes "float,") t)
-  where
-    by : (a b : Bool) → cond a 1 (cond b 0 2) ≤ 2
-    by true b = omega arith
-    by false true = omega arith
-    by false false = omega arith
-
-pub not_marked : (t : List ℕ) (ts : List (List ℕ)) → mark_of t ≡ 2 → marks_of (t ∷ ts) ≡ marks_of ts
+pub not_marked : (t : List ℕ) (ts : List (List ℕ)) → mark_of t ≡ None → marks_of (t ∷ ts) ≡ marks_of ts
 unfolding marks_of
 not_marked t ts e = rw e
 
-pub one_mark : (t : List ℕ) (ts : List (List ℕ)) → (mark_of t ≡ 2 → ⊥) → marks_of (t ∷ ts) ≡ mark_of t ∷ marks_of ts
+pub one_mark : (t : List ℕ) (ts : List (List ℕ)) (m : ℕ) → mark_of t ≡ Some m → marks_of (t ∷ ts) ≡ m ∷ marks_of ts
 unfolding marks_of
-one_mark t ts n = let h : mark_of t < 2 = omega (arith, mark_small t, n) in rw (lt-ltb (mark_of t) 2 h)
+one_mark t ts m e = rw e
 
 pub no_marks : (file : List ℕ) (at : ℕ) → length file ≤ at → marks_of (lines_of (drop at file)) ≡ []
 unfolding marks_of lines_of
@@ -66,19 +58,19 @@ none_noted all =
       noted = λ j h. get_or-replicate 1008 j 0 0 h;
     }
 
-module _ (all marks : List ℕ) (k : ℕ) (t : List ℕ) (ts : List (List ℕ)) (n : Noted all (marks_of (t ∷ ts)) marks k) where
-  pub passed_by : mark_of t ≡ 2 → Noted all (marks_of ts) marks k
-  passed_by e =
-      record { few = n.few; size = n.size; done = n.done; count = n.count; parts = n.parts ∙ ap (λ (r : List ℕ). n.done ++ r) (not_marked t ts e); noted = n.noted }
+module _ {all marks : List ℕ} {k : ℕ} {ls ts : List (List ℕ)} {t : List ℕ} (e : ls ≡ t ∷ ts) (n : Noted all (marks_of ls) marks k) where
+  pub passed_by : mark_of t ≡ None → Noted all (marks_of ts) marks k
+  passed_by o =
+      record { few = n.few; size = n.size; done = n.done; count = n.count; parts = n.parts ∙ ap (λ (r : List ℕ). n.done ++ r) (ap marks_of e ∙ not_marked t ts o); noted = n.noted }
 
-  pub noted_one : (m : ℕ) → m ≡ mark_of t → (m ≡ 2 → ⊥) → k < 1008 → Noted all (marks_of ts) (set marks k m) (k + 1)
-  noted_one m e o h =
+  pub noted_one : (m : ℕ) → mark_of t ≡ Some m → k < 1008 → Noted all (marks_of ts) (set marks k m) (k + 1)
+  noted_one m o h =
       record {
         few = omega arith;
         size = simp length-set n.size;
         done = n.done ++ (m ∷ []);
         count = omega (arith, n.count, length-append n.done (m ∷ []));
-        parts = n.parts ∙ ap (λ (r : List ℕ). n.done ++ r) (one_mark t ts (λ z. o (e ∙ z)) ∙ ap (λ (x : ℕ). x ∷ marks_of ts) (sym e)) ∙ sym (append_assoc n.done (m ∷ []) (marks_of ts));
+        parts = n.parts ∙ ap (λ (r : List ℕ). n.done ++ r) (ap marks_of e ∙ one_mark t ts m o) ∙ sym (append_assoc n.done (m ∷ []) (marks_of ts));
         noted = λ j g. by j g (ltb j k) refl (ltb k j) refl;
       }
     where

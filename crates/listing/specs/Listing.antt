@@ -1,5 +1,5 @@
 -- The listing of code and of a deck file (document 02, point 5): what is printed, and what is refused.
-use Rattle.std.specs.Prelude.{◌≡◌, ◌&&◌, cond, List, ℕ, ◌*◌, ◌/◌, ◌%◌, eqb, leb, length}
+use Rattle.std.specs.Prelude.{◌≡◌, ◌&&◌, cond, List, ℕ, ◌*◌, ◌/◌, ◌%◌, eqb, leb, length, Result, Ok, Err}
 use Rattle.std.proofs.Math.Option.{Option, some, none}
 use Rattle.refusal.specs.Answer.{Answer, accepted, refused}
 use Rattle.print.specs.Text.{words_of, refusal_line, Puts}
@@ -8,7 +8,8 @@ use Rattle.assembler.specs.Bytes.{bytes}
 use Rattle.reading.specs.Program.{Program}
 use Rattle.call.specs.Layout.{constants_offset, routine_words}
 use Rattle.routine.specs.Routine.{program_of}
-use Rattle.listing.specs.declared.CodeAnswer.{CodeAnswer}
+use Rattle.listing.specs.declared.CodeError.{CodeError}
+use Rattle.listing.specs.declared.CodeError.TheVariants.{Offset, Foreign}
 use Rattle.listing.specs.declared.CodeListing.{CodeListing}
 
 -- ---- code
@@ -38,10 +39,10 @@ text_of (refused n place) = refusal_line n place
 -- ---- what a function answers of it, and leaves
 
 -- number and place of each answer
-abbrev pub code_answer : CodeAnswer → (text : List ℕ) → Answer (List ℕ)
-code_answer CodeAnswer.Listed text = accepted text
-code_answer CodeAnswer.Offset text = refused 2 0
-code_answer (CodeAnswer.Foreign place) text = refused 14 place
+abbrev pub code_answer : Result (Unit {0}) CodeError → (text : List ℕ) → Answer (List ℕ)
+code_answer (Ok u) text = accepted text
+code_answer (Err Offset) text = refused 2 0
+code_answer (Err (Foreign place)) text = refused 14 place
 
 -- the answer is a's, and its text stands in the buffer, whole or not at all
 abbrev pub Lists : (a : Answer (List ℕ)) → (buf : List ℕ) → CodeListing → (after : List ℕ) → Type 0

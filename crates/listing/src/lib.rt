@@ -15,8 +15,9 @@ ghost use Rattle.listing.specs.Inner.Marks.{hidden_by};
 
 mod marks;
 
-use print::{First, Text};
-use routine::RoutineAnswer;
+use print::TooLong;
+use refusal::Refused;
+use routine::Outline;
 
 // Document 02's numbers for what isn't listed.
 const VALUE: u8 = 2;
@@ -26,10 +27,9 @@ const FOREIGN: u8 = 14;
 // The bytes of a buffer that count.
 const ROOM: usize = 65536;
 
-// Listed; or refused, by 2 for the constants' offset, or by 14 for the word at this place.
-#[derive(Clone, Copy)]
-pub enum CodeAnswer {
-    Listed,
+// Why code is not listed: 2 for the constants' offset, or 14 for the word at this place.
+#[derive(Clone, Copy, Debug, PartialEq, Eq)]
+pub enum CodeError {
     Offset,
     Foreign(usize),
 }
@@ -37,8 +37,8 @@ pub enum CodeAnswer {
 // The answer, and how long the text is that was put into the buffer.
 #[derive(Clone, Copy)]
 pub struct CodeListing {
-    pub answer: CodeAnswer,
-    pub text: Text,
+    pub answer: Result<(), CodeError>,
+    pub text: Result<usize, TooLong>,
 }
 
 // Who looks at a deck file's listing.
@@ -51,8 +51,8 @@ pub enum View {
 // The routine's answer to a file, and how long its listing is.
 #[derive(Clone, Copy)]
 pub struct DeckListing {
-    pub answer: RoutineAnswer,
-    pub text: Text,
+    pub answer: Result<Outline, Refused>,
+    pub text: Result<usize, TooLong>,
 }
 
 // Constants may start at `constants` in n bytes of code.
@@ -70,7 +70,7 @@ fn bad_offset(out: &mut [u8]) -> CodeListing
 {
     let text = print::refusal_line(VALUE, 0, out);
     CodeListing {
-        answer: CodeAnswer::Offset,
+        answer: Err(CodeError::Offset),
         text,
     }
 }
@@ -80,7 +80,7 @@ fn foreign(place: usize, out: &mut [u8]) -> CodeListing
 {
     let text = print::refusal_line(FOREIGN, place as u64, out);
     CodeListing {
-        answer: CodeAnswer::Foreign(place),
+        answer: Err(CodeError::Foreign(place)),
         text,
     }
 }
@@ -91,8 +91,8 @@ fn cut_place(code: &[u8], constants: usize) -> usize
 {
     let first = print::first_foreign(code, constants);
     match first {
-        First::At(place) => place,
-        First::Nowhere => code.len() / 4 * 4,
+        Some(place) => place,
+        None => code.len() / 4 * 4,
     }
 }
 
@@ -110,11 +110,11 @@ pub fn code_listing(code: &[u8], constants: usize, out: &mut [u8]) -> CodeListin
     }
     let first = print::first_foreign(code, constants);
     match first {
-        First::At(place) => foreign(place, out),
-        First::Nowhere => {
+        Some(place) => foreign(place, out),
+        None => {
             let text = print::lines_text(code, constants, out);
             CodeListing {
-                answer: CodeAnswer::Listed,
+                answer: Ok(()),
                 text,
             }
         }
@@ -122,22 +122,28 @@ pub fn code_listing(code: &[u8], constants: usize, out: &mut [u8]) -> CodeListin
 }
 
 // The lines of the routine's code, which stands in the buffer, or the refusal. None of its words is foreign (`NeverRefused`).
-fn answer_text(view: View, file: &[u8], answer: RoutineAnswer, code: &[u8], out: &mut [u8]) -> Text
+fn answer_text(
+    view: View,
+    file: &[u8],
+    answer: Result<Outline, Refused>,
+    code: &[u8],
+    out: &mut [u8],
+) -> Result<usize, TooLong>
     ensures { Says (summary_view (hidden_by view file.now) (routine_answer answer) code.now)
         code.now out.old result out.new }
 {
     match answer {
-        RoutineAnswer::Accepted(length, constants, _, _, _) => {
+        Ok(told) => {
             let hidden = marks::hidden(view, file);
-            let n = length as usize;
+            let n = told.length as usize;
             if n > code.len() {
-                return print::view_text(code, constants as usize, &hidden, out);
+                return print::view_text(code, told.offset as usize, &hidden, out);
             }
-            print::view_text(&code[..n], constants as usize, &hidden, out)
+            print::view_text(&code[..n], told.offset as usize, &hidden, out)
         }
-        RoutineAnswer::Refused(why, line) => print::refusal_line(
-            refusal::number(why),
-            line as u64,
+        Err(refused) => print::refusal_line(
+            refusal::number(refused.why),
+            refused.place as u64,
             out,
         ),
     }

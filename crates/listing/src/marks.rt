@@ -13,9 +13,6 @@ const CONSTANTS: usize = 1008;
 // A byte for each: 1 where it is hidden.
 pub(crate) type Marks = [u8; CONSTANTS];
 
-// Of a line that is no constant.
-const NONE: u8 = 2;
-
 fn starts(line: &[u8], word: &[u8]) -> bool
     ensures { result ≡ starts word.now line.now }
 {
@@ -26,17 +23,17 @@ fn starts(line: &[u8], word: &[u8]) -> bool
     text::same(&line[..n], word)
 }
 
-// 1 for a `bits` line, 0 for a `float` line.
-fn mark_of(line: &[u8]) -> u8
+// Of a line that is a constant: 1 for a `bits` line, 0 for a `float` line.
+fn mark_of(line: &[u8]) -> Option<u8>
     ensures { result ≡ mark_of line.now }
 {
     if starts(line, b"bits,") {
-        return 1;
+        return Some(1);
     }
     if starts(line, b"float,") {
-        return 0;
+        return Some(0);
     }
-    NONE
+    None
 }
 
 // The marks of the lines from byte `at` on.
@@ -52,10 +49,9 @@ fn marks_from(file: &[u8], mut at: usize) -> Marks
         }
         let place = at;
         at = lines::line_end(file, place);
-        let m = mark_of(&file[place..at]);
-        if m == NONE {
+        let Some(m) = mark_of(&file[place..at]) else {
             continue;
-        }
+        };
         marks[k] = m;
         k += 1;
     }

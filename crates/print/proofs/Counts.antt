@@ -1,14 +1,12 @@
 -- How many digits a number has, and the tests for room.
 use mathlib.Core.Path.{◌≡◌, refl, sym, ap, ◌∙◌}
 use mathlib.Core.Bool.{Bool, true, false, cond}
-use mathlib.Core.List.{List}
-use Prim.Native.Nat.{ℕ, zero, suc, ◌+◌, ◌-◌, ◌/◌, ◌^◌, ◌<◌, ◌≤◌}
+use Prim.Native.Nat.{ℕ, zero, suc, ◌+◌, ◌*◌, ◌/◌, ◌^◌, ◌<◌, ◌≤◌}
 use native.Mathlib.Nat.{mul_comm, div-one, div-div-eq-div-mul, pow-zero, pow-succ', pow-suc}
 use native.Mathlib.Omega.{arith}
-use borrow.Author.Tests.{ltb-true, lt-ltb, le-ltb, ltb-false, le-leb, lt-leb, leb-true, leb-false}
-use lib.Dec.{ltb, leb}
+use borrow.Author.Tests.{ltb-true, lt-ltb, le-ltb, ltb-false}
+use lib.Dec.{ltb}
 use lib.ListN.{length}
-use lib.Seq.{sets}
 use Rattle.text.specs.Digits.{digits, above, decimal}
 use Rattle.text.proofs.Numerals.{length_digits}
 
@@ -16,9 +14,9 @@ pub length_decimal : (n : ℕ) → length (decimal n) ≡ above n n + 1
 unfolding decimal
 length_decimal n = length_digits 10 (suc (above n n)) n ∙ omega arith
 
-pub as_decimal : (l : List ℕ) (at k n : ℕ) → k ≡ length (decimal n) → sets l at (digits 10 k n) ≡ sets l at (decimal n)
+pub as_digits : (k n : ℕ) → k ≡ length (decimal n) → digits 10 k n ≡ decimal n
 unfolding decimal
-as_decimal l at k n e = ap (λ (j : ℕ). sets l at (digits 10 j n)) (e ∙ length_digits 10 (suc (above n n)) n)
+as_digits k n e = ap (λ (j : ℕ). digits 10 j n) (e ∙ length_digits 10 (suc (above n n)) n)
 
 -- more steps than enough alter nothing
 above_same : (j k n : ℕ) → n ≤ j → n ≤ k → above j n ≡ above k n
@@ -43,21 +41,24 @@ above_more zero h = absurd (omega arith)
 above_more (suc n) h =
     rw (le-ltb (suc n) 10 h) (ap suc (above_same n (suc n / 10) (suc n / 10) (omega arith) (omega arith)) ∙ omega arith)
 
+pow_positive : (k : ℕ) → 1 ≤ 10 ^ k
+pow_positive zero = omega arith
+pow_positive (suc k) = omega (arith, pow-suc 10 k, pow_positive k)
+
+-- so many digits above the lowest by the power of 10 below n
+pub above_power : (k n : ℕ) → 10 ^ k ≤ n → n < 10 * 10 ^ k → above n n ≡ k
+above_power zero n h g = above_small n (omega arith)
+above_power (suc k) n h g =
+    let p : 10 ^ suc k ≡ 10 ^ k * 10 = pow-suc 10 k in
+    let q : 1 ≤ 10 ^ k = pow_positive k in
+    omega (arith, above_more n (omega (arith, h, p, q)), above_power k (n / 10) (omega (arith, h, p)) (omega (arith, g, p)))
+
 -- a step of the digits' loop
 pub shifted : (b n k : ℕ) → n / b ^ suc k ≡ n / b ^ k / b
 shifted b n k = rw (pow-succ' b k, mul_comm b (b ^ k)) (sym (div-div-eq-div-mul n (b ^ k) b))
 
 pub whole : (b n : ℕ) → n ≡ n / b ^ 0
 whole b n = sym (rw (pow-zero b) (div-one n))
-
--- ---- room
-
-pub room_behind : (at n l : ℕ) → at ≤ l → leb n (l - at) ≡ leb (at + n) l
-room_behind at n l h = go (leb n (l - at)) refl
-  where
-    go : (t : Bool) → leb n (l - at) ≡ t → t ≡ leb (at + n) l
-    go true e = let g = leb-true n (l - at) e in sym (le-leb (at + n) l (omega arith))
-    go false e = let g = leb-false n (l - at) e in sym (lt-leb (at + n) l (omega arith))
 
 -- n below a power of 10 has no more digits than that
 above_below : (k n : ℕ) → n < 10 ^ suc k → above n n ≤ k

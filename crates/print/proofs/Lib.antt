@@ -1,5 +1,6 @@
 pub mod Counts
 pub mod Stores
+pub mod Written
 pub mod Lines
 pub mod Fitting
 pub mod Short

@@ -3,18 +3,16 @@ use mathlib.Core.Path.{◌≡◌, refl, sym, ap, ◌∙◌}
 use mathlib.Core.Bool.{Bool, true, false, not, cond}
 use mathlib.Core.List.{List, [], ◌∷◌, ◌++◌}
 use mathlib.Core.Option.{Option, some, none}
-use Prim.Native.Nat.{ℕ, ◌+◌, ◌-◌, ◌/◌, ◌<◌, ◌≤◌}
-use native.Mathlib.Numerals.{add-one}
+use Prim.Native.Nat.{ℕ, ◌+◌, ◌-◌, ◌*◌, ◌/◌, ◌<◌, ◌≤◌}
 use native.Mathlib.Omega.{arith}
 use borrow.Author.Tests.{lt-ltb, le-ltb, lt-leb, le-leb, leb-true}
 use lib.Dec.{leb}
-use lib.ListN.{length, drop, set, length-append, get_or-eq_default}
-use lib.Seq.{sets}
+use lib.ListN.{length, drop, length-append, get_or-eq_default}
 use Rattle.base.proofs.Bools.{both, and_false}
 use Rattle.isa.specs.Instr.{Instr}
 use Rattle.isa.specs.Decode.{decode}
 use Rattle.text.specs.Ascii.{bytes}
-use Rattle.text.specs.Digits.{decimal, digits}
+use Rattle.text.specs.Digits.{decimal}
 use Rattle.text.proofs.Numerals.{length_digits}
 use Rattle.std.specs.Prelude.{Some, None}
 use Rattle.std.specs.Prelude as Std
@@ -25,31 +23,12 @@ use Rattle.print.specs.Text.{words_of, hex}
 use Rattle.print.specs.Listing.{name, shown, operands_text, instr_line, data_line, listing_line, listing_lines, hidden_line, hidden_half, view_line, view_lines, marked, foreign, foreign_from}
 use Rattle.print.specs.Inner.Text.{word_in}
 use Rattle.print.proofs.Lines.{no_words, more_words}
-use Rattle.print.proofs.Stores.{sets_append}
 
 -- ---- an instruction's line
 
 pub length_instr_line : (o : ℕ) (i : Instr) → length (instr_line o i) ≡ length (decimal o) + length (bytes (name i)) + length (operands_text (shown i)) + 2
 unfolding instr_line
 length_instr_line o i = simp length-append (omega arith)
-
--- one byte, and a text behind it
-pub one_then : (l m : List ℕ) (at b : ℕ) (xs : List ℕ) → m ≡ sets (set l at b) (at + 1) xs → m ≡ sets l at (b ∷ xs)
-one_then l m at b xs e = e ∙ rw (add-one at)
-
--- two texts, one behind the other
-pub two_then : (l m n : List ℕ) (at e : ℕ) (xs ys : List ℕ) → m ≡ sets l at xs → e ≡ at + length xs → n ≡ sets m e ys → n ≡ sets l at (xs ++ ys)
-two_then l m n at e xs ys p q r = r ∙ rw (p, q) (sym (sets_append l at xs ys))
-
-pub instr_line_put : (l l1 l2 l3 : List ℕ) (at e f g o : ℕ) (i : Instr) → l1 ≡ sets l at (decimal o) → e ≡ at + length (decimal o)
-    → l2 ≡ sets (set l1 e 44) (e + 1) (bytes (name i)) → f ≡ e + 1 + length (bytes (name i))
-    → l3 ≡ sets l2 f (operands_text (shown i)) → g ≡ f + length (operands_text (shown i)) → set l3 g 10 ≡ sets l at (instr_line o i)
-unfolding instr_line
-instr_line_put l l1 l2 l3 at e f g o i p q r s t u =
-    let end : List ℕ = operands_text (shown i) ++ (10 ∷ []) in
-    let w = two_then l2 l3 (set l3 g 10) f g (operands_text (shown i)) (10 ∷ []) t u refl in
-    let x = two_then (set l1 e 44) l2 (set l3 g 10) (e + 1) f (bytes (name i)) end r s w in
-    two_then l l1 (set l3 g 10) at e (decimal o) (44 ∷ (bytes (name i) ++ end)) p q (one_then l1 (set l3 g 10) e 44 (bytes (name i) ++ end) x)
 
 -- ---- a constant's line
 
@@ -58,16 +37,6 @@ unfolding data_line
 length_data_line o w =
     let h : length (hex w) ≡ 8 = length_digits 16 8 w in
     simp length-append (omega arith)
-
-pub data_line_put : (l l1 l2 l3 : List ℕ) (at e o w : ℕ) → l1 ≡ sets l at (decimal o) → e ≡ at + length (decimal o) → l2 ≡ sets l1 e (bytes ",data,")
-    → l3 ≡ sets l2 (e + 6) (digits 16 8 w) → set l3 (e + 14) 10 ≡ sets l at (data_line o w)
-unfolding data_line
-data_line_put l l1 l2 l3 at e o w p q r s =
-    let k : e + 14 ≡ e + 6 + length (hex w) = omega (arith, length_digits 16 8 w) in
-    let end : List ℕ = hex w ++ (10 ∷ []) in
-    let x = two_then l2 l3 (set l3 (e + 14) 10) (e + 6) (e + 14) (hex w) (10 ∷ []) s k refl in
-    let y = two_then l1 l2 (set l3 (e + 14) 10) e (e + 6) (bytes ",data,") end r refl x in
-    two_then l l1 (set l3 (e + 14) 10) at e (decimal o) (bytes ",data," ++ end) p q y
 
 -- ---- a word's line, by what the word is
 
@@ -104,11 +73,6 @@ module _ (constants o w : ℕ) where
 pub length_hidden_line : (o : ℕ) → length (hidden_line o) ≡ length (decimal o) + 15
 unfolding hidden_line
 length_hidden_line o = simp length-append (omega arith)
-
-pub hidden_line_put : (l l1 l2 : List ℕ) (at e o : ℕ) → l1 ≡ sets l at (decimal o) → e ≡ at + length (decimal o) → l2 ≡ sets l1 e (bytes ",data,--------" ++ (10 ∷ []))
-    → l2 ≡ sets l at (hidden_line o)
-unfolding hidden_line
-hidden_line_put l l1 l2 at e o p q r = two_then l l1 l2 at e (decimal o) (bytes ",data,--------" ++ (10 ∷ [])) p q r
 
 module _ (hidden : ℕ → Bool) (constants o w : ℕ) where
   pub view_hidden : hidden_half hidden constants o ≡ true → view_line hidden constants o w ≡ hidden_line o
@@ -186,16 +150,6 @@ module _ (constants : ℕ) (s : List ℕ) (i : ℕ) where
   unfolding foreign_from
   first_at h = ap (foreign_from constants i) (more_words s i h)
 
-  module _ (w : ℕ) (h : i + 4 ≤ length s) (e : w ≡ word_in s i) where
-    pub length_lines : length (lines_from constants s i) ≡ length (listing_line constants i w) + length (lines_from constants s (i + 4))
-    length_lines = rw e (ap length (more_lines h) ∙ length-append (listing_line constants i (word_in s i)) (lines_from constants s (i + 4)))
-
-    pub first_here : foreign constants i w ≡ true → first_from constants s i ≡ some i
-    first_here f = first_at h ∙ rw (← e, f)
-
-    pub first_behind : foreign constants i w ≡ false → first_from constants s i ≡ first_from constants s (i + 4)
-    first_behind f = first_at h ∙ rw (← e, f)
-
 module _ (hidden : ℕ → Bool) (constants : ℕ) (s : List ℕ) (i : ℕ) where
   pub no_views : length s < i + 4 → views_from hidden constants s i ≡ []
   unfolding view_lines
@@ -205,9 +159,31 @@ module _ (hidden : ℕ → Bool) (constants : ℕ) (s : List ℕ) (i : ℕ) wher
   unfolding view_lines
   more_views h = ap (view_lines hidden constants i) (more_words s i h)
 
-  module _ (w : ℕ) (h : i + 4 ≤ length s) (e : w ≡ word_in s i) where
-    pub views_put : (out after : List ℕ) (at next : ℕ) → after ≡ sets out at (view_line hidden constants i w) → next ≡ at + length (listing_line constants i w)
-        → sets out at (views_from hidden constants s i) ≡ sets after next (views_from hidden constants s (i + 4))
-    views_put out after at next o n =
-        let p : sets out at (views_from hidden constants s i) ≡ sets out at (view_line hidden constants i w ++ views_from hidden constants s (i + 4)) = rw e (ap (sets out at) (more_views h)) in
-        p ∙ sets_append out at (view_line hidden constants i w) (views_from hidden constants s (i + 4)) ∙ rw (o, n, view_length hidden constants i w)
+-- ---- a turn of the loops over the words
+
+module _ (constants : ℕ) (s : List ℕ) (j : ℕ) where
+  module _ (w : ℕ) (h : j < length s / 4) (e : w ≡ word_in s (4 * j)) where
+    next_word : 4 * j + 4 ≡ 4 * (j + 1)
+    next_word = omega arith
+
+    pub lines_turn : length (lines_from constants s (4 * j)) ≡ length (listing_line constants (4 * j) w) + length (lines_from constants s (4 * (j + 1)))
+    lines_turn =
+        rw (e, ← next_word) (ap length (more_lines constants s (4 * j) (omega arith)) ∙ length-append (listing_line constants (4 * j) (word_in s (4 * j))) (lines_from constants s (4 * j + 4)))
+
+    pub first_here : foreign constants (4 * j) w ≡ true → first_from constants s (4 * j) ≡ some (4 * j)
+    first_here f = first_at constants s (4 * j) (omega arith) ∙ rw (← e, f)
+
+    pub first_behind : foreign constants (4 * j) w ≡ false → first_from constants s (4 * j) ≡ first_from constants s (4 * (j + 1))
+    first_behind f = first_at constants s (4 * j) (omega arith) ∙ rw (← e, f, next_word)
+
+    pub views_turn : (hidden : ℕ → Bool) → views_from hidden constants s (4 * j) ≡ view_line hidden constants (4 * j) w ++ views_from hidden constants s (4 * (j + 1))
+    views_turn hidden = more_views hidden constants s (4 * j) (omega arith) ∙ rw (← e, next_word)
+
+  pub lines_end : length s / 4 ≤ j → lines_from constants s (4 * j) ≡ []
+  lines_end h = no_lines constants s (4 * j) (omega arith)
+
+  pub first_end : length s / 4 ≤ j → first_from constants s (4 * j) ≡ none
+  first_end h = no_first constants s (4 * j) (omega arith)
+
+  pub views_end : (hidden : ℕ → Bool) → length s / 4 ≤ j → views_from hidden constants s (4 * j) ≡ []
+  views_end hidden h = no_views hidden constants s (4 * j) (omega arith)

@@ -9,14 +9,13 @@ use borrow.Author.Tests.{lt-ltb, le-ltb}
 use lib.IntN.{ℤ, pos, negsuc}
 use lib.Dec.{ltb}
 use lib.ListN.{drop_of_length-le, length, get_or, take, drop, length-append}
-use lib.Seq.{sets, get_or-take, drop-cons, length-take-le}
+use lib.Seq.{drop-cons}
 use Rattle.encoder.specs.Sign.{sign_of}
 use Rattle.encoder.specs.declared.Sign.TheVariants.{NonNeg, Neg}
 use Rattle.text.specs.Digits.{decimal, integer_bytes}
 use Rattle.print.specs.Listing.{operands_text}
 use Rattle.print.specs.Inner.Listing.{value_text, values_text}
 use Rattle.print.proofs.Counts.{decimal_short}
-use Rattle.print.proofs.Stores.{sets_append}
 
 -- ---- one operand
 
@@ -66,26 +65,19 @@ pub three_text : (a b v : ℕ) (z : ℤ) → a < 2 ^ 32 → b < 2 ^ 32 → value
 unfolding values_text operands_text
 three_text a b v z h g e = rw (positive a h, positive b g, e)
 
--- ---- from operand j on
+-- ---- a turn of the loops over them
 
-abbrev pub rest : (n : ℕ) → List ℕ → (j : ℕ) → List ℕ
-rest n vs j = values_text (drop j (take n vs))
-
-module _ (n : ℕ) (vs : List ℕ) (j : ℕ) (inside : n ≤ length vs) where
-  pub next : j < n → rest n vs j ≡ 44 ∷ (value_text (get_or vs j 0) ++ rest n vs (j + 1))
+module _ (vs : List ℕ) (j : ℕ) where
+  pub value_turn : j < length vs → values_text (drop j vs) ≡ (44 ∷ value_text (get_or vs j 0)) ++ values_text (drop (j + 1) vs)
   unfolding values_text
-  next h =
-      let l : length (take n vs) ≡ n = length-take-le n vs inside in
-      ap values_text (drop-cons (take n vs) j 0 (omega arith)) ∙ rw (get_or-take n vs j 0 h, add-one j)
+  value_turn h = ap values_text (drop-cons vs j 0 h) ∙ rw (add-one j)
 
-  pub next_length : j < n → length (rest n vs j) ≡ length (value_text (get_or vs j 0)) + 1 + length (rest n vs (j + 1))
-  next_length h = ap length (next h) ∙ simp length-append (omega arith)
+  pub value_turn_length : j < length vs → length (values_text (drop j vs)) ≡ length (value_text (get_or vs j 0)) + 1 + length (values_text (drop (j + 1) vs))
+  value_turn_length h = ap length (value_turn h) ∙ simp length-append (omega arith)
 
-  pub last : n ≤ j → rest n vs j ≡ []
+  pub values_end : length vs ≤ j → values_text (drop j vs) ≡ []
   unfolding values_text
-  last h =
-      let l : length (take n vs) ≡ n = length-take-le n vs inside in
-      ap values_text (drop_of_length-le (take n vs) {i = j} (omega arith))
+  values_end h = ap values_text (drop_of_length-le vs {i = j} h)
 
 -- ---- a signed one, by its sign
 
@@ -96,11 +88,3 @@ nonneg (negsuc m) n e h = let z : ◌≡◌ {A = ℕ} 0 1 = cc in absurd (omega 
 pub neg : (z : ℤ) (n : ℕ) → sign_of z ≡ Neg n → value_text (4294967297 + n) ≡ integer_bytes z
 neg (pos m) n e = let z : ◌≡◌ {A = ℕ} 0 1 = cc in absurd (omega arith)
 neg (negsuc m) n e = let p : m ≡ n = cc in rw (← p) (negative m)
-
--- a turn of the loop that stores them
-pub next_put : (n : ℕ) (vs : List ℕ) (j : ℕ) → n ≤ length vs → j < n → (out after : List ℕ) (at e : ℕ) → after ≡ sets out at (44 ∷ value_text (get_or vs j 0)) → e ≡ at + 1 + length (value_text (get_or vs j 0))
-    → sets out at (rest n vs j) ≡ sets after e (rest n vs (j + 1))
-next_put n vs j h g out after at e p q =
-    let v : List ℕ = 44 ∷ value_text (get_or vs j 0) in
-    let k : e ≡ at + length v = omega arith in
-    ap (sets out at) (next n vs j h g) ∙ sets_append out at v (rest n vs (j + 1)) ∙ rw (p, k)

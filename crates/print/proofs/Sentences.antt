@@ -2,6 +2,8 @@
 use mathlib.Core.Path.{◌≡◌, refl, sym, ap, ◌∙◌}
 use mathlib.Core.Bool.{Bool, true, false, ◌&&◌}
 use mathlib.Core.List.{List, [], ◌∷◌, ◌++◌}
+use Rattle.std.specs.declared.result.Result.{Result}
+use Rattle.std.specs.declared.result.Result.TheVariants.{Ok, Err}
 use Prim.Native.Nat.{ℕ, zero, suc, ◌+◌, ◌^◌, ◌<◌, ◌≤◌}
 use Prim.Native.String.{String}
 use native.Mathlib.Omega.{arith}
@@ -13,7 +15,7 @@ use Rattle.text.specs.Ascii.{bytes}
 use Rattle.text.specs.Digits.{decimal}
 use Rattle.print.specs.Text.{Puts}
 use Rattle.print.specs.Reason.{sentences, refusal_text, reason_front, reason_line}
-use Rattle.print.specs.declared.Text.{Text}
+use Rattle.print.specs.declared.TooLong.{TooLong}
 use Rattle.print.proofs.Counts.{decimal_short}
 use Rattle.print.proofs.Fitting.{fits}
 use Rattle.print.proofs.Stores.{sets_append}
@@ -42,10 +44,10 @@ unfolding refusal_text
 sentence_short n = each_short sentences n refl
 
 -- the promise of `refusal_text`
-abbrev pub Tells : (number : ℕ) → (out : List ℕ) → (r : Text) → (after : List ℕ) → Type 0
+abbrev pub Tells : (number : ℕ) → (out : List ℕ) → (r : Result ℕ TooLong) → (after : List ℕ) → Type 0
 Tells number out r after = Puts (refusal_text number) 0 out r after × (length (refusal_text number) ≤ 80)
 
-pub told : (number n : ℕ) (s out after : List ℕ) (r : Text) → number ≡ n → s ≡ bytes (get_or sentences n "") → Puts s 0 out r after → Tells number out r after
+pub told : (number n : ℕ) (s out after : List ℕ) (r : Result ℕ TooLong) → number ≡ n → s ≡ bytes (get_or sentences n "") → Puts s 0 out r after → Tells number out r after
 unfolding refusal_text
 told number n s out after r e f p = (rw (e, ← f) p, sentence_short number)
 
@@ -61,7 +63,7 @@ beyond : (number : ℕ) → length sentences ≤ number → refusal_text number 
 unfolding refusal_text
 beyond number h = ap bytes (get_or-eq_default sentences "" h)
 
-none_told : (number : ℕ) (out : List ℕ) → refusal_text number ≡ [] → Tells number out (Text.Length 0) out
+none_told : (number : ℕ) (out : List ℕ) → refusal_text number ≡ [] → Tells number out (Ok 0) out
 none_told number out e =
     rw e (fits [] 0 out out 0 (le-leb 0 (length out) (omega arith)) refl refl, omega arith)
 
@@ -74,7 +76,7 @@ other_zero : (number k : ℕ) → Other number k → number < suc k → number �
 other_zero number zero o h = omega arith
 other_zero number (suc k) o h = other_zero number k o.0 (let d = o.1 in omega (arith, d, h))
 
-pub no_sentence : (number : ℕ) (out : List ℕ) → Other number 12 → (number ≡ 14 → ⊥) → Tells number out (Text.Length 0) out
+pub no_sentence : (number : ℕ) (out : List ℕ) → Other number 12 → (number ≡ 14 → ⊥) → Tells number out (Ok 0) out
 no_sentence number out o n = none_told number out (go (ltb number 13) refl (ltb number 15) refl)
   where
     go : (t : Bool) → ltb number 13 ≡ t → (u : Bool) → ltb number 15 ≡ u → refusal_text number ≡ []
@@ -87,15 +89,15 @@ no_sentence number out o n = none_told number out (go (ltb number 13) refl (ltb 
 abbrev zeros : List ℕ
 zeros = replicate 80 0
 
-module _ (t after : List ℕ) (r : Text) (short : length t ≤ 80) (p : Puts t 0 zeros r after) where
+module _ (t after : List ℕ) (r : Result ℕ TooLong) (short : length t ≤ 80) (p : Puts t 0 zeros r after) where
   fit : leb (0 + length t) (length zeros) ≡ true
   fit = let l = length-replicate {A = ℕ} 80 0 in le-leb (0 + length t) (length zeros) (omega arith)
 
-  whole : r ≡ Text.Length (length t)
+  whole : r ≡ Ok (length t)
   whole = p.0 ∙ rw fit
 
   -- it is there
-  pub filled : (n : ℕ) → r ≡ Text.Length n → take n after ≡ t
+  pub filled : (n : ℕ) → r ≡ Ok n → take n after ≡ t
   filled n e =
       let l = length-replicate {A = ℕ} 80 0 in
       let w = whole in
@@ -103,8 +105,8 @@ module _ (t after : List ℕ) (r : Text) (short : length t ≤ 80) (p : Puts t 0
       let a : after ≡ sets zeros 0 t = p.1 ∙ rw fit in
       rw (a, sets-eq t zeros 0 (omega arith)) (take_at t _ n f)
 
-  pub never_long : r ≡ Text.TooLong → ⊥
-  never_long e =
+  pub never_long : (x : TooLong) → r ≡ Err x → ⊥
+  never_long x e =
       let w = whole in
       let z : ◌≡◌ {A = ℕ} 0 1 = cc in
       omega arith
@@ -151,7 +153,7 @@ reason_short number line h g =
     let c = decimal_short 9 line (omega arith) in
     omega (arith, a, b, c, sentence_short number)
 
-pub reason_told : (number line : ℕ) (text out after : List ℕ) (r : Text) → text ≡ refusal_text number
+pub reason_told : (number line : ℕ) (text out after : List ℕ) (r : Result ℕ TooLong) → text ≡ refusal_text number
     → Puts (reason_front number line ++ (text ++ (10 ∷ []))) 0 out r after → Puts (reason_line number line) 0 out r after
 unfolding reason_line
 reason_told number line text out after r e p = rw (← e) p

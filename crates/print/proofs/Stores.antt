@@ -3,10 +3,11 @@ use mathlib.Core.Path.{◌≡◌, refl, sym, ap, ◌∙◌}
 use mathlib.Core.List.{List, [], ◌∷◌, ◌++◌}
 use Prim.Native.Nat.{ℕ, zero, suc, ◌+◌, ◌-◌, ◌/◌, ◌%◌, ◌^◌, ◌<◌, ◌≤◌}
 use native.Mathlib.Nat.{add-zero}
-use native.Mathlib.Numerals.{add-one}
 use native.Mathlib.Omega.{arith}
-use lib.ListN.{length, set, take, get_or}
-use lib.Seq.{sets, set_comm, take-suc, take_all, length-take-le}
+use borrow.Rule.Slice.PartMut.{put_mid}
+use lib.ListN.{length, set, take, drop}
+use Rattle.std.proofs.Common.{append_assoc}
+use lib.Seq.{sets, set_comm, sets-eq, drop-drop}
 use Rattle.text.specs.Digits.{digit_byte, digits}
 use Rattle.print.proofs.Counts.{shifted, whole}
 
@@ -54,14 +55,8 @@ digit_all l out b n at k e g h o =
     let y : at + k - at ≡ k = omega arith in
     o ∙ rw (x, y)
 
--- ---- one byte more of a text
+-- ---- a text at once
 
-pub put_next : (l out s : List ℕ) (at i : ℕ) → i < length s → out ≡ sets l at (take i s) → set out (at + i) (get_or s i 0) ≡ sets l at (take (i + 1) s)
-put_next l out s at i h o =
-    let n : length (take i s) ≡ i = length-take-le i s (omega arith) in
-    let p : sets l at (take (i + 1) s) ≡ sets l at (take i s ++ (get_or s i 0 ∷ [])) = rw (add-one, take-suc s i 0) in
-    let q : set (sets l at (take i s)) (at + length (take i s)) (get_or s i 0) ≡ set out (at + i) (get_or s i 0) = rw (n, o) in
-    sym (p ∙ sets_append l at (take i s) (get_or s i 0 ∷ []) ∙ q)
-
-pub put_all : (l out s : List ℕ) (at i : ℕ) → length s ≤ i → out ≡ sets l at (take i s) → out ≡ sets l at s
-put_all l out s at i h o = o ∙ rw (take_all i s h)
+pub copied : (xs ys s : List ℕ) (a k : ℕ) → ys ≡ s → k ≡ length s → a + length s ≤ length xs → put_mid a k xs ys ≡ sets xs a s
+copied xs ys s a k e f h =
+    rw (e, f, drop-drop (length s) a xs) (sym (append_assoc (take a xs) s (drop (a + length s) xs)) ∙ sym (sets-eq s xs a h))

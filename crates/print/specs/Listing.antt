@@ -1,5 +1,7 @@
 -- The text of a listing (document 02, points 5 and 10).
 use Rattle.std.specs.Prelude.{Bool, true, false, not, ◌&&◌, cond, List, [], ◌∷◌, ◌++◌, ℕ, ◌+◌, ◌-◌, ◌/◌, eqb, ltb, leb, ℤ, pos, get_or}
+use Rattle.std.specs.Prelude
+use Rattle.std.specs.Prelude.{Some, None}
 use Rattle.std.proofs.Math.Option.{Option, some, none}
 use Prim.Native.String.{String}
 use Rattle.isa.specs.Instr.{Instr, R, F, C, M, R4, I, Shift, S, B, U, J, ROp, ADD, SUB, SLL, XOR, SRL, SRA, OR, AND, FSGNJ_D, FSGNJN_D, FSGNJX_D, FMIN_D, FMAX_D, FLE_D, FLT_D, FEQ_D, FOp, FADD_D, FSUB_D, FMUL_D, FDIV_D, COp, FSQRT_D, FCVT_W_D, FCVT_L_D, FCVT_D_W, FCVT_D_L, MOp, FMV_X_D, FMV_D_X, R4Op, FMADD_D, FMSUB_D, FNMSUB_D, FNMADD_D, IOp, ADDI, XORI, ORI, ANDI, JALR, LD, FLD, ADDIW, ShiftOp, SLLI, SRLI, SRAI, SOp, SD, FSD, BOp, BEQ, BNE, BLT, BGE, BLTU, BGEU, UOp, LUI, AUIPC, JOp, JAL}
@@ -7,8 +9,6 @@ use Rattle.isa.specs.Decode.{decode}
 use Rattle.text.specs.Ascii.{bytes}
 use Rattle.text.specs.Digits.{decimal, integer_bytes}
 use Rattle.print.specs.Text.{hex}
-use Rattle.print.specs.declared.First.{First}
-use Rattle.print.specs.declared.First.TheVariants.{At, Nowhere}
 
 -- ---- names, as `rvv!` spells them
 
@@ -185,6 +185,6 @@ foreign_from constants offset [] = none
 foreign_from constants offset (w ∷ ws) =
     let rest = foreign_from constants (offset + 4) ws in cond (foreign constants offset w) (some offset) rest
 
-abbrev pub first_answer : First → Option ℕ
-first_answer (At place) = some place
-first_answer Nowhere = none
+abbrev pub first_answer : Prelude.Option ℕ → Option ℕ
+first_answer (Some place) = some place
+first_answer None = none

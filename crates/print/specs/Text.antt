@@ -1,9 +1,9 @@
 -- What `deckwords` prints (document 01, "The deck file"), and a text in a lent buffer.
-use Rattle.std.specs.Prelude.{◌≡◌, cond, List, [], ◌∷◌, ◌++◌, ℕ, ◌+◌, ◌*◌, leb, length}
+use Rattle.std.specs.Prelude.{◌≡◌, cond, List, [], ◌∷◌, ◌++◌, ℕ, ◌+◌, ◌*◌, leb, length, Result, Ok, Err}
 use Rattle.std.proofs.lemmas.List.Edits.{sets}
 use Rattle.text.specs.Ascii.{bytes}
 use Rattle.text.specs.Digits.{decimal, digits}
-use Rattle.print.specs.declared.Text.{Text}
+use Rattle.print.specs.declared.TooLong.{TooLong}
 
 -- the word of four bytes, little-endian
 abbrev pub le_word : (a b c d : ℕ) → ℕ
@@ -41,13 +41,13 @@ refusal_line number line = bytes "refused," ++ (decimal number ++ (44 ∷ (decim
 -- ---- a text in a buffer from byte `at` on: whole, or not at all
 
 -- its length, where there is room
-abbrev pub length_in : (text : List ℕ) → (at : ℕ) → (buf : List ℕ) → Text
-length_in text at buf = cond (leb (at + length text) (length buf)) (Text.Length (length text)) Text.TooLong
+abbrev pub length_in : (text : List ℕ) → (at : ℕ) → (buf : List ℕ) → Result ℕ TooLong
+length_in text at buf = cond (leb (at + length text) (length buf)) (Ok (length text)) (Err (record {}))
 
 -- the buffer afterwards
 abbrev pub put_in : (text : List ℕ) → (at : ℕ) → (buf : List ℕ) → List ℕ
 put_in text at buf = cond (leb (at + length text) (length buf)) (sets buf at text) buf
 
 -- the promise of a function that answers r and leaves `after`
-abbrev pub Puts : (text : List ℕ) → (at : ℕ) → (buf : List ℕ) → (r : Text) → (after : List ℕ) → Type 0
+abbrev pub Puts : (text : List ℕ) → (at : ℕ) → (buf : List ℕ) → (r : Result ℕ TooLong) → (after : List ℕ) → Type 0
 Puts text at buf r after = (r ≡ length_in text at buf) × (after ≡ put_in text at buf)

@@ -1,31 +1,23 @@
 // Numbers, words and refusals as text in a lent buffer.
 #![tactic(auto)]
 
-ghost use Rattle.std.specs.Prelude.{◌≡◌, ◌+◌, ◌≤◌, ◌<◌, leb, length};
-ghost use Rattle.std.proofs.lemmas.List.Edits.{sets};
-ghost use Rattle.text.specs.Digits.{digit_byte, digits, decimal};
-ghost use Rattle.print.specs.Text.{Puts, hex, word_line, code_lines, refusal_line};
+ghost use Rattle.std.specs.Prelude.{◌≡◌, List, ℕ, ◌+◌, ◌≤◌, ◌<◌, leb, length};
+ghost use Rattle.text.specs.Digits.{digit_byte, decimal};
+ghost use Rattle.print.specs.Text.{Puts, length_in, hex, word_line, code_lines, refusal_line};
+ghost use Rattle.print.specs.Writer.{HasRoom, Wrote};
 ghost use Rattle.print.specs.Inner.Text.{word_in};
 
 mod listing;
 mod reason;
+mod writer;
 
 pub use listing::{first_foreign, lines_text, view_text};
 pub use reason::{put_text, reason_line, refusal_text};
+pub use writer::Writer;
 
-// How long a text is that was put into a buffer; nothing is put where it does not fit.
-#[derive(Clone, Copy)]
-pub enum Text {
-    Length(usize),
-    TooLong,
-}
-
-// Where the first foreign word stands.
-#[derive(Clone, Copy)]
-pub enum First {
-    At(usize),
-    Nowhere,
-}
+// A text has no room, and nothing of it is put.
+#[derive(Clone, Copy, Debug, PartialEq, Eq)]
+pub struct TooLong;
 
 fn glyph(d: u64) -> u8
     requires { d < 16 }
@@ -36,103 +28,60 @@ fn glyph(d: u64) -> u8
 
 // How many decimal digits n has.
 fn decimal_length(n: u64) -> usize
-    ensures { (result ≡ length (decimal n)) × (result ≤ n + 1) }
+    ensures { (result ≡ length (decimal n)) × (result ≤ 20) }
 {
-    let mut k = 1;
-    let mut rest = n;
-    while rest >= 10 {
-        rest /= 10;
-        k += 1;
-    }
-    k
-}
-
-// The lowest k digits of n, from byte at on.
-fn put_digits(n: u64, base: u64, k: usize, out: &mut [u8], at: usize)
-    requires { (0 < base) × (base ≤ 16) × (at + k ≤ length out.old) }
-    ensures { out.new ≡ sets out.old at (digits base k n) }
-{
-    let mut e = at + k;
-    let mut rest = n;
-    while e > at {
-        e -= 1;
-        out[e] = glyph(rest % base);
-        rest /= base;
+    match n.checked_ilog10() {
+        Some(k) => k as usize + 1,
+        None => 1,
     }
 }
 
-// Behind at, with room for n bytes.
-fn has_room(out: &[u8], at: usize, n: usize) -> bool
-    ensures { result ≡ leb (at + n) (length out.now) }
+// The length of a text of n bytes, if there is room for it behind at.
+fn room(out: &[u8], at: usize, n: usize) -> Result<usize, TooLong>
+    ensures { (text : List ℕ) → n ≡ length text → result ≡ length_in text at out.now }
 {
-    if at > out.len() {
-        return false;
+    if at > out.len() || n > out.len() - at {
+        return Err(TooLong);
     }
-    n <= out.len() - at
+    Ok(n)
 }
 
 // n in decimal, from byte at on.
-pub fn decimal(n: u64, out: &mut [u8], at: usize) -> Text
+pub fn decimal(n: u64, out: &mut [u8], at: usize) -> Result<usize, TooLong>
     ensures { Puts (decimal n) at out.old result out.new }
 {
-    let k = decimal_length(n);
-    if !has_room(out, at, k) {
-        return Text::TooLong;
-    }
-    put_digits(n, 10, k, out, at);
-    Text::Length(k)
+    let k = room(out, at, decimal_length(n))?;
+    Writer { out, at }.decimal(n);
+    Ok(k)
 }
 
 // A word in 8 hexadecimal digits, from byte at on.
-pub fn hex(word: u32, out: &mut [u8], at: usize) -> Text
+pub fn hex(word: u32, out: &mut [u8], at: usize) -> Result<usize, TooLong>
     ensures { Puts (hex word) at out.old result out.new }
 {
-    if !has_room(out, at, 8) {
-        return Text::TooLong;
-    }
-    put_digits(word as u64, 16, 8, out, at);
-    Text::Length(8)
-}
-
-// ---- lines, where there is room
-
-// n in decimal; answers the byte behind it.
-fn put_decimal(n: u64, out: &mut [u8], at: usize) -> usize
-    requires { at + length (decimal n) ≤ length out.old }
-    ensures { (out.new ≡ sets out.old at (decimal n)) × (result ≡ at + length (decimal n)) }
-{
-    let k = decimal_length(n);
-    put_digits(n, 10, k, out, at);
-    at + k
-}
-
-fn put_word_line(offset: u64, word: u64, out: &mut [u8], at: usize) -> usize
-    requires { at + length (word_line offset word) ≤ length out.old }
-    ensures { (out.new ≡ sets out.old at (word_line offset word)) × (result ≡ at + length (word_line offset word)) }
-{
-    let e = put_decimal(offset, out, at);
-    out[e] = 44;
-    put_digits(word, 16, 8, out, e + 1);
-    out[e + 9] = 10;
-    e + 10
+    let k = room(out, at, 8)?;
+    Writer { out, at }.hex(word);
+    Ok(k)
 }
 
 // ---- all words of the code
 
-fn wide(b: u8) -> u32
-    ensures { (result ≡ b) × (result < 256) }
+#[tactic(auto, using(crate::proofs::Lines::length_word_line, crate::proofs::Lines::length_hex))]
+fn put_word_line(offset: u64, word: u32, w: &mut Writer)
+    requires { HasRoom (word_line offset word) w.old }
+    ensures { Wrote (word_line offset word) w.old w.new }
 {
-    b as u32
+    w.decimal(offset);
+    w.byte(b',');
+    w.hex(word);
+    w.byte(b'\n');
 }
 
 fn word_at(code: &[u8], i: usize) -> u32
     requires { i + 4 ≤ length code.now }
     ensures { result ≡ word_in code.now i }
 {
-    wide(code[i])
-        + wide(code[i + 1]) * 256
-        + wide(code[i + 2]) * 65536
-        + wide(code[i + 3]) * 16777216
+    u32::from_le_bytes([code[i], code[i + 1], code[i + 2], code[i + 3]])
 }
 
 // Whether the words' lines fit into room bytes.
@@ -140,76 +89,57 @@ fn words_fit(code: &[u8], room: usize) -> bool
     ensures { result ≡ leb (length (code_lines code.now)) room }
 {
     let mut left = room;
-    let mut i = 0;
-    while code.len() - i >= 4 {
-        let k = decimal_length(i as u64) + 10;
+    for j in 0..code.len() / 4 {
+        let k = decimal_length(4 * j as u64) + 10;
         if left < k {
             return false;
         }
         left -= k;
-        i += 4;
     }
     true
 }
 
-fn put_words(code: &[u8], out: &mut [u8]) -> usize
-    requires { length (code_lines code.now) ≤ length out.old }
-    ensures { (out.new ≡ sets out.old 0 (code_lines code.now))
-        × (result ≡ length (code_lines code.now)) }
+fn put_words(code: &[u8], w: &mut Writer)
+    requires { HasRoom (code_lines code.now) w.old }
+    ensures { Wrote (code_lines code.now) w.old w.new }
 {
-    let mut at = 0;
-    let mut i = 0;
-    while code.len() - i >= 4 {
-        let w = word_at(code, i);
-        at = put_word_line(i as u64, w as u64, out, at);
-        i += 4;
+    for j in 0..code.len() / 4 {
+        put_word_line(4 * j as u64, word_at(code, 4 * j), w);
     }
-    at
 }
 
 // A line for each word of the code: its byte offset and the word.
-pub fn words_text(code: &[u8], out: &mut [u8]) -> Text
+pub fn words_text(code: &[u8], out: &mut [u8]) -> Result<usize, TooLong>
     ensures { Puts (code_lines code.now) 0 out.old result out.new }
 {
     if !words_fit(code, out.len()) {
-        return Text::TooLong;
+        return Err(TooLong);
     }
-    let n = put_words(code, out);
-    Text::Length(n)
+    let mut w = Writer { out, at: 0 };
+    put_words(code, &mut w);
+    Ok(w.at)
 }
 
 // ---- a refusal
 
-fn put_bytes(s: &[u8], out: &mut [u8], at: usize)
-    requires { at + length s.now ≤ length out.old }
-    ensures { out.new ≡ sets out.old at s.now }
+#[tactic(auto, using(crate::proofs::Lines::length_refusal_line))]
+fn put_refusal_line(number: u64, line: u64, w: &mut Writer)
+    requires { HasRoom (refusal_line number line) w.old }
+    ensures { Wrote (refusal_line number line) w.old w.new }
 {
-    let mut i = 0;
-    while i < s.len() {
-        out[at + i] = s[i];
-        i += 1;
-    }
-}
-
-fn put_refusal_line(number: u64, line: u64, out: &mut [u8])
-    requires { length (refusal_line number line) ≤ length out.old }
-    ensures { out.new ≡ sets out.old 0 (refusal_line number line) }
-{
-    put_bytes(b"refused,", out, 0);
-    let e = put_decimal(number, out, 8);
-    out[e] = 44;
-    let f = put_decimal(line, out, e + 1);
-    out[f] = 10;
+    w.bytes(b"refused,");
+    w.decimal(number);
+    w.byte(b',');
+    w.decimal(line);
+    w.byte(b'\n');
 }
 
 // A refusal's number and line, or place.
-pub fn refusal_line(number: u8, line: u64, out: &mut [u8]) -> Text
+pub fn refusal_line(number: u8, line: u64, out: &mut [u8]) -> Result<usize, TooLong>
     ensures { Puts (refusal_line number line) 0 out.old result out.new }
 {
-    let k = decimal_length(number as u64) + decimal_length(line) + 10;
-    if out.len() < k {
-        return Text::TooLong;
-    }
-    put_refusal_line(number as u64, line, out);
-    Text::Length(k)
+    let number = number as u64;
+    let k = room(out, 0, decimal_length(number) + decimal_length(line) + 10)?;
+    put_refusal_line(number, line, &mut Writer { out, at: 0 });
+    Ok(k)
 }

@@ -1,14 +1,14 @@
 // The listing (document 02, points 5 and 10): the text of a word's line, and of all words of the code.
 ghost use Rattle.std.specs.Prelude.{◌≡◌, [], ◌∷◌, map, pos, ◌+◌, ◌*◌, ◌-◌, ◌≤◌, ◌<◌, leb, length, take, get_or};
-ghost use Rattle.std.proofs.lemmas.List.Edits.{sets};
 ghost use Rattle.text.specs.Digits.{integer_bytes};
 ghost use Rattle.encoder.specs.Instr.{instr_of};
 ghost use Rattle.print.specs.Text.{words_of, Puts};
+ghost use Rattle.print.specs.Writer.{HasRoom, Wrote};
 ghost use Rattle.print.specs.Listing.{operands_text, shown, instr_line, data_line, listing_line, listing_lines, foreign};
 ghost use Rattle.print.specs.Listing.{foreign_from, first_answer, hidden_line, hidden_half, view_line, view_lines, marked};
 ghost use Rattle.print.specs.Inner.Listing.{names, name_at, lengths, Sound, value_text, values_text};
 
-use crate::{First, Text};
+use crate::{TooLong, Writer};
 use encoder::{Instr, Sign};
 
 // The instructions' names in the order of the table of base words, eight bytes each.
@@ -92,15 +92,13 @@ fn name_length(row: usize) -> usize
 }
 
 // The table is lent, since an indexed constant is built anew at each use.
-fn put_name(table: &[u8], row: usize, out: &mut [u8], at: usize) -> usize
-    requires { (table.now ≡ names) × (row < 53) × (at + length (name_at row) ≤ length out.old) }
-    ensures { (out.new ≡ sets out.old at (name_at row)) × (result ≡ at + length (name_at row)) }
+fn put_name(table: &[u8], row: usize, w: &mut Writer)
+    requires { (table.now ≡ names) × (row < 53) × HasRoom (name_at row) w.old }
+    ensures { Wrote (name_at row) w.old w.new }
 {
     let a = 8 * row;
-    let k = name_length(row);
-    let e = a + k;
-    crate::put_bytes(&table[a..e], out, at);
-    at + k
+    let e = a + name_length(row);
+    w.bytes(&table[a..e]);
 }
 
 fn value(z: i32) -> u64
@@ -179,12 +177,9 @@ fn values_length(s: Operands) -> usize
     ensures { (result ≡ length (values_text (take s.n s.values))) × (result ≤ 110) }
 {
     let values = s.values;
-    let n = s.n;
     let mut k = 0;
-    let mut j = 0;
-    while j < n {
-        k += value_length(values[j]) + 1;
-        j += 1;
+    for v in &values[..s.n] {
+        k += value_length(*v) + 1;
     }
     k
 }
@@ -209,84 +204,70 @@ fn line_length(constants: usize, offset: usize, word: u32) -> usize
 
 // ---- a line where there is room
 
-fn put_value(v: u64, out: &mut [u8], at: usize) -> usize
-    requires { at + length (value_text v) ≤ length out.old }
-    ensures { (out.new ≡ sets out.old at (value_text v)) × (result ≡ at + length (value_text v)) }
+fn put_value(v: u64, w: &mut Writer)
+    requires { HasRoom (value_text v) w.old }
+    ensures { Wrote (value_text v) w.old w.new }
 {
     if v < 4294967296 {
-        return crate::put_decimal(v, out, at);
+        w.decimal(v);
+        return;
     }
-    out[at] = 45;
-    crate::put_decimal(v - 4294967296, out, at + 1)
+    w.byte(b'-');
+    w.decimal(v - 4294967296);
 }
 
 // A number, and the comma before it.
-fn put_next(v: u64, out: &mut [u8], at: usize) -> usize
-    requires { at + 1 + length (value_text v) ≤ length out.old }
-    ensures { (out.new ≡ sets out.old at (44 ∷ value_text v)) × (result ≡ at + 1 + length (value_text v)) }
+fn put_next(v: u64, w: &mut Writer)
+    requires { HasRoom (44 ∷ value_text v) w.old }
+    ensures { Wrote (44 ∷ value_text v) w.old w.new }
 {
-    out[at] = 44;
-    put_value(v, out, at + 1)
+    w.byte(b',');
+    put_value(v, w);
 }
 
-fn put_values(s: Operands, out: &mut [u8], at: usize) -> usize
-    requires { Sound s × (at + length (values_text (take s.n s.values)) ≤ length out.old) }
-    ensures { (out.new ≡ sets out.old at (values_text (take s.n s.values)))
-        × (result ≡ at + length (values_text (take s.n s.values))) }
+fn put_values(s: Operands, w: &mut Writer)
+    requires { Sound s × HasRoom (values_text (take s.n s.values)) w.old }
+    ensures { Wrote (values_text (take s.n s.values)) w.old w.new }
 {
     let values = s.values;
-    let n = s.n;
-    let mut e = at;
-    let mut j = 0;
-    while j < n {
-        e = put_next(values[j], out, e);
-        j += 1;
+    for v in &values[..s.n] {
+        put_next(*v, w);
     }
-    e
 }
 
-fn put_instr(table: &[u8], offset: u64, i: Instr, out: &mut [u8], at: usize) -> usize
-    requires { (table.now ≡ names) × (at + length (instr_line offset (instr_of i)) ≤ length out.old) }
-    ensures { (out.new ≡ sets out.old at (instr_line offset (instr_of i)))
-        × (result ≡ at + length (instr_line offset (instr_of i))) }
+fn put_instr(table: &[u8], offset: u64, i: Instr, w: &mut Writer)
+    requires { (table.now ≡ names) × HasRoom (instr_line offset (instr_of i)) w.old }
+    ensures { Wrote (instr_line offset (instr_of i)) w.old w.new }
 {
-    let e = crate::put_decimal(offset, out, at);
-    out[e] = 44;
-    let f = put_name(table, encoder::row(i), out, e + 1);
-    let g = put_values(operands_of(i), out, f);
-    out[g] = 10;
-    g + 1
+    w.decimal(offset);
+    w.byte(b',');
+    put_name(table, encoder::row(i), w);
+    put_values(operands_of(i), w);
+    w.byte(b'\n');
 }
 
-fn put_data(offset: u64, word: u32, out: &mut [u8], at: usize) -> usize
-    requires { at + length (data_line offset word) ≤ length out.old }
-    ensures { (out.new ≡ sets out.old at (data_line offset word)) × (result ≡ at + length (data_line offset word)) }
+#[tactic(auto, using(crate::proofs::Listings::length_data_line, crate::proofs::Lines::length_hex))]
+fn put_data(offset: u64, word: u32, w: &mut Writer)
+    requires { HasRoom (data_line offset word) w.old }
+    ensures { Wrote (data_line offset word) w.old w.new }
 {
-    let e = crate::put_decimal(offset, out, at);
-    crate::put_bytes(b",data,", out, e);
-    crate::put_digits(word as u64, 16, 8, out, e + 6);
-    out[e + 14] = 10;
-    e + 15
+    w.decimal(offset);
+    w.bytes(b",data,");
+    w.hex(word);
+    w.byte(b'\n');
 }
 
-fn put_line(
-    table: &[u8],
-    constants: usize,
-    offset: usize,
-    word: u32,
-    out: &mut [u8],
-    at: usize,
-) -> usize
-    requires { (table.now ≡ names) × (at + length (listing_line constants offset word) ≤ length out.old) }
-    ensures { (out.new ≡ sets out.old at (listing_line constants offset word))
-        × (result ≡ at + length (listing_line constants offset word)) }
+fn put_line(table: &[u8], constants: usize, offset: usize, word: u32, w: &mut Writer)
+    requires { (table.now ≡ names) × HasRoom (listing_line constants offset word) w.old }
+    ensures { Wrote (listing_line constants offset word) w.old w.new }
 {
     if offset >= constants {
-        return put_data(offset as u64, word, out, at);
+        put_data(offset as u64, word, w);
+        return;
     }
     match decoder::decode(word) {
-        Some(i) => put_instr(table, offset as u64, i, out, at),
-        None => at,
+        Some(i) => put_instr(table, offset as u64, i, w),
+        None => {}
     }
 }
 
@@ -306,32 +287,32 @@ fn is_hidden(marks: &[u8], constants: usize, offset: usize) -> bool
     marks[k] != 0
 }
 
-fn put_hidden(offset: u64, out: &mut [u8], at: usize) -> usize
-    requires { at + length (hidden_line offset) ≤ length out.old }
-    ensures { (out.new ≡ sets out.old at (hidden_line offset)) × (result ≡ at + length (hidden_line offset)) }
+#[tactic(auto, using(crate::proofs::Listings::length_hidden_line))]
+fn put_hidden(offset: u64, w: &mut Writer)
+    requires { HasRoom (hidden_line offset) w.old }
+    ensures { Wrote (hidden_line offset) w.old w.new }
 {
-    let e = crate::put_decimal(offset, out, at);
-    crate::put_bytes(b",data,--------\n", out, e);
-    e + 15
+    w.decimal(offset);
+    w.bytes(b",data,--------\n");
 }
 
+// A hidden line is as long as one that shows.
 fn put_view_line(
     table: &[u8],
     marks: &[u8],
     constants: usize,
     offset: usize,
     word: u32,
-    out: &mut [u8],
-    at: usize,
-) -> usize
-    requires { (table.now ≡ names) × (at + length (listing_line constants offset word) ≤ length out.old) }
-    ensures { (out.new ≡ sets out.old at (view_line (marked marks.now) constants offset word))
-        × (result ≡ at + length (listing_line constants offset word)) }
+    w: &mut Writer,
+)
+    requires { (table.now ≡ names) × HasRoom (listing_line constants offset word) w.old }
+    ensures { Wrote (view_line (marked marks.now) constants offset word) w.old w.new }
 {
     if is_hidden(marks, constants, offset) {
-        return put_hidden(offset as u64, out, at);
+        put_hidden(offset as u64, w);
+        return;
     }
-    put_line(table, constants, offset, word, out, at)
+    put_line(table, constants, offset, word, w);
 }
 
 // ---- all lines
@@ -341,14 +322,12 @@ fn lines_fit(code: &[u8], constants: usize, room: usize) -> bool
     ensures { result ≡ leb (length (listing_lines constants 0 (words_of code.now))) room }
 {
     let mut left = room;
-    let mut i = 0;
-    while code.len() - i >= 4 {
-        let k = line_length(constants, i, crate::word_at(code, i));
+    for j in 0..code.len() / 4 {
+        let k = line_length(constants, 4 * j, crate::word_at(code, 4 * j));
         if left < k {
             return false;
         }
         left -= k;
-        i += 4;
     }
     true
 }
@@ -366,38 +345,44 @@ fn have_room(code: &[u8], constants: usize, room: usize) -> bool
     true
 }
 
-fn put_lines(code: &[u8], constants: usize, marks: &[u8], out: &mut [u8]) -> usize
-    requires { length (listing_lines constants 0 (words_of code.now)) ≤ length out.old }
-    ensures { (out.new
-        ≡ sets out.old 0 (view_lines (marked marks.now) constants 0 (words_of code.now)))
-        × (result ≡ length (listing_lines constants 0 (words_of code.now))) }
+fn put_lines(code: &[u8], constants: usize, marks: &[u8], w: &mut Writer)
+    requires { HasRoom (listing_lines constants 0 (words_of code.now)) w.old }
+    ensures { Wrote (view_lines (marked marks.now) constants 0 (words_of code.now)) w.old w.new }
 {
     let table = NAMES;
-    let mut at = 0;
-    let mut i = 0;
-    while code.len() - i >= 4 {
-        let w = crate::word_at(code, i);
-        at = put_view_line(&table, marks, constants, i, w, out, at);
-        i += 4;
+    for j in 0..code.len() / 4 {
+        put_view_line(
+            &table,
+            marks,
+            constants,
+            4 * j,
+            crate::word_at(code, 4 * j),
+            w,
+        );
     }
-    at
 }
 
 // The lines of code whose constants start at `constants`, but for the digits of the constants that have a mark; a foreign word before
 // them has no line.
-pub fn view_text(code: &[u8], constants: usize, marks: &[u8], out: &mut [u8]) -> Text
+pub fn view_text(
+    code: &[u8],
+    constants: usize,
+    marks: &[u8],
+    out: &mut [u8],
+) -> Result<usize, TooLong>
     ensures { Puts (view_lines (marked marks.now) constants 0 (words_of code.now)) 0
         out.old result out.new }
 {
     if !have_room(code, constants, out.len()) {
-        return Text::TooLong;
+        return Err(TooLong);
     }
-    let n = put_lines(code, constants, marks, out);
-    Text::Length(n)
+    let mut w = Writer { out, at: 0 };
+    put_lines(code, constants, marks, &mut w);
+    Ok(w.at)
 }
 
 // The same with nothing hidden.
-pub fn lines_text(code: &[u8], constants: usize, out: &mut [u8]) -> Text
+pub fn lines_text(code: &[u8], constants: usize, out: &mut [u8]) -> Result<usize, TooLong>
     ensures { Puts (listing_lines constants 0 (words_of code.now)) 0 out.old result out.new }
 {
     view_text(code, constants, &code[..0], out)
@@ -412,15 +397,13 @@ fn is_foreign(constants: usize, offset: usize, word: u32) -> bool
 }
 
 // Where the first word before the constants stands that no accepted instruction has.
-pub fn first_foreign(code: &[u8], constants: usize) -> First
+pub fn first_foreign(code: &[u8], constants: usize) -> Option<usize>
     ensures { first_answer result ≡ foreign_from constants 0 (words_of code.now) }
 {
-    let mut i = 0;
-    while code.len() - i >= 4 {
-        if is_foreign(constants, i, crate::word_at(code, i)) {
-            return First::At(i);
+    for j in 0..code.len() / 4 {
+        if is_foreign(constants, 4 * j, crate::word_at(code, 4 * j)) {
+            return Some(4 * j);
         }
-        i += 4;
     }
-    First::Nowhere
+    None
 }

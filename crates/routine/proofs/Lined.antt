@@ -26,7 +26,9 @@ use Rattle.orders.specs.Emitted.{emitted_in}
 use Rattle.routine.specs.Inner.Places.{is_constant, first_said}
 use Rattle.routine.specs.Run.{says, fresh, cleared, waiting, line_run, lines_run, leave_run, head_run, file_run, run}
 use Rattle.routine.specs.Answer.{run_outcome}
-use Rattle.routine.specs.declared.RoutineAnswer.TheVariants as Ruled
+use Rattle.std.specs.Prelude.{Result, Ok, Err, is_err}
+use Rattle.refusal.specs.declared.Refused as Refused
+use Rattle.routine.specs.declared.Outline as Outline
 use Rattle.routine.specs.declared.RoutineResult.{RoutineResult}
 use Rattle.routine.proofs.Onward.{no}
 
@@ -114,10 +116,18 @@ pub file_fresh : (file js b ls c : List ℕ) → ls ≡ replicate 2039 0 → c �
 file_fresh file js b ls c e f = rw (e, f)
 
 module _ (file js b : List ℕ) (x : RoutineResult) (ls₂ js₂ b₂ : List ℕ) (e : run_outcome x ls₂ js₂ b₂ ≡ file_run file (fresh js b)) where
-  pub run_refused : (r : Refusal) (line : ℕ) → x.answer ≡ Ruled.Refused r line → (b₃ : List ℕ) → b₃ ≡ cleared b₂ → run_outcome x ls₂ js₂ b₃ ≡ run file js b
+  pub run_refused : is_err x.answer ≡ true → (b₃ : List ℕ) → b₃ ≡ cleared b₂ → run_outcome x ls₂ js₂ b₃ ≡ run file js b
   unfolding run
-  run_refused r line h b₃ g = rw (← e, g, h)
+  run_refused h b₃ g = by x.answer refl
+    where
+      by : (a : Result Outline.Outline Refused.Refused) → x.answer ≡ a → run_outcome x ls₂ js₂ b₃ ≡ run file js b
+      by (Ok t) i = absurd (let z : ◌≡◌ {A = ℕ} 0 1 = cc in omega arith)
+      by (Err r) i = rw (← e, g, i)
 
-  pub run_accepted : (l o k j : ℕ) (f : Frame) → x.answer ≡ Ruled.Accepted l o k j f → run_outcome x ls₂ js₂ b₂ ≡ run file js b
+  pub run_accepted : is_err x.answer ≡ false → run_outcome x ls₂ js₂ b₂ ≡ run file js b
   unfolding run
-  run_accepted l o k j f h = rw (← e, h)
+  run_accepted h = by x.answer refl
+    where
+      by : (a : Result Outline.Outline Refused.Refused) → x.answer ≡ a → run_outcome x ls₂ js₂ b₂ ≡ run file js b
+      by (Ok t) i = rw (← e, i)
+      by (Err r) i = absurd (let z : ◌≡◌ {A = ℕ} 0 1 = cc in omega arith)

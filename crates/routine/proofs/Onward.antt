@@ -21,7 +21,7 @@ use Rattle.frame_code.specs.Fault.{prologue_fault, epilogue_fault}
 use Rattle.call.specs.Layout.{padding}
 use Rattle.routine.specs.Run.{RunOutcome, refused_at, next, enter_run, constants_run, constants_then, padding_then, finish_run, leave_run}
 use Rattle.routine.specs.Answer.{run_outcome}
-use Rattle.routine.specs.declared.RoutineAnswer.TheVariants as Ruled
+use Rattle.std.specs.declared.result.Result.TheVariants.{Ok}
 
 -- the routine's refusal
 abbrev pub no : Refusal → ℕ → State → RunOutcome
@@ -66,7 +66,7 @@ module _ (H : Head) (at n : ℕ) (s : State) (x : FinishResult) (ls js b : List 
   close_stops r place h = rw (← e, h)
 
   pub close_goes : x.answer ≡ Accepted
-      → run_outcome (record { asm = x.asm; answer = Ruled.Accepted x.asm.len at n x.asm.jumps H.frame }) ls js b ≡ finish_run H at n s
+      → run_outcome (record { asm = x.asm; answer = Ok (record { length = x.asm.len; offset = at; constants = n; jumps = x.asm.jumps; frame = H.frame }) }) ls js b ≡ finish_run H at n s
   close_goes h = rw (← e, h)
 
 -- ---- behind the body

@@ -1,17 +1,17 @@
 -- Document 01's number and values for each case of the routine's answer.
-use Rattle.std.specs.Prelude.{List, ℕ}
+use Rattle.std.specs.Prelude.{List, ℕ, Result, Ok, Err}
 use Rattle.refusal.specs.Answer.{Answer, accepted, refused}
 use Rattle.refusal.specs.Number.{number_of}
 use Rattle.assembler.specs.State.{state, Lent}
 use Rattle.routine.specs.Routine.{Summary}
 use Rattle.routine.specs.Run.{RunOutcome}
-use Rattle.routine.specs.declared.RoutineAnswer.{RoutineAnswer}
-use Rattle.routine.specs.declared.RoutineAnswer.TheVariants.{Accepted, Refused}
+use Rattle.refusal.specs.declared.Refused.{Refused}
+use Rattle.routine.specs.declared.Outline.{Outline}
 use Rattle.routine.specs.declared.RoutineResult.{RoutineResult}
 
-abbrev pub routine_answer : RoutineAnswer → Answer Summary
-routine_answer (Accepted l o k j f) = accepted (record { length = l; offset = o; constants = k; jumps = j; frame = f })
-routine_answer (Refused r line) = refused (number_of r) line
+abbrev pub routine_answer : Result Outline Refused → Answer Summary
+routine_answer (Ok t) = accepted (record { length = t.length; offset = t.offset; constants = t.constants; jumps = t.jumps; frame = t.frame })
+routine_answer (Err e) = refused (number_of e.why) e.place
 
 abbrev pub run_outcome : RoutineResult → (labels jumps buf : List ℕ) → RunOutcome
 run_outcome r ls js b = record { answer = routine_answer r.answer; state = state r.asm ls js b }

@@ -1,7 +1,7 @@
 // Document 01, "Added: the routine".
 #![tactic(auto)]
 
-ghost use Rattle.std.specs.Prelude.{◌≡◌, false, List, [], ◌++◌, ℕ, ◌≤◌, ◌<◌, length, take, drop, replicate};
+ghost use Rattle.std.specs.Prelude.{◌≡◌, false, List, [], ◌++◌, ℕ, Err, ◌≤◌, ◌<◌, length, take, drop, replicate};
 ghost use Rattle.text.specs.Lines.{lines_of};
 ghost use Rattle.assembler.specs.Bytes.{room};
 ghost use Rattle.assembler.specs.State.{state, outcome, before, after};
@@ -19,7 +19,7 @@ ghost use Rattle.routine.specs.Answer.{routine_answer, run_after};
 use assembler::{Asm, EmitResult, JUMPS, Jumps, LABELS, Labels};
 use ast::{Constant, Frame, Head};
 use deck::Judged;
-use refusal::Refusal;
+use refusal::{Refusal, Refused};
 
 // At most so many constants.
 const CONSTANTS: usize = 1008;
@@ -27,18 +27,21 @@ const CONSTANTS: usize = 1008;
 // The bytes of the file where their lines start.
 type Places = [u16; CONSTANTS];
 
-// Accepted: the code's length, the constants' offset and count, the jump count, the frame. Refused: with its line.
+// What is told of an accepted file: the code's length, the constants' offset and count, the jump count, the frame.
 #[derive(Clone, Copy)]
-pub enum RoutineAnswer {
-    Accepted(u32, u32, u32, u32, Frame),
-    Refused(Refusal, u32),
+pub struct Outline {
+    pub length: u32,
+    pub offset: u32,
+    pub constants: u32,
+    pub jumps: u32,
+    pub frame: Frame,
 }
 
-// The answer, and the record that is left.
+// The answer, a refusal with its line, and the record that is left.
 #[derive(Clone, Copy)]
 pub struct RoutineResult {
     pub asm: Asm,
-    pub answer: RoutineAnswer,
+    pub answer: Result<Outline, Refused>,
 }
 
 // What a line did; `waits` where it is a constant, which is placed at the end.
@@ -49,11 +52,14 @@ struct Step {
 }
 
 fn refused(r: Refusal, line: u32, asm: Asm) -> RoutineResult
-    ensures { result ≡ record { asm = asm; answer = RoutineAnswer.Refused r line } }
+    ensures { result ≡ record { asm = asm; answer = Err (record { why = r; place = line }) } }
 {
     RoutineResult {
         asm,
-        answer: RoutineAnswer::Refused(r, line),
+        answer: Err(Refused {
+            why: r,
+            place: line,
+        }),
     }
 }
 
@@ -149,7 +155,13 @@ fn close(
     let g = head.frame;
     RoutineResult {
         asm: a,
-        answer: RoutineAnswer::Accepted(a.len as u32, at as u32, n as u32, a.jumps as u32, g),
+        answer: Ok(Outline {
+            length: a.len as u32,
+            offset: at as u32,
+            constants: n as u32,
+            jumps: a.jumps as u32,
+            frame: g,
+        }),
     }
 }
 
@@ -439,7 +451,7 @@ pub fn routine_in(
     };
     let r = read_file(file, buf, labels, jumps, asm);
     let w = r.answer;
-    if let RoutineAnswer::Refused(_, _) = w {
+    if w.is_err() {
         clear(buf);
         return r;
     }
@@ -447,7 +459,7 @@ pub fn routine_in(
 }
 
 // The routine: the code in the buffer with zeros behind it, or the refusal and zeros.
-pub fn routine(file: &[u8], buf: &mut [u8]) -> RoutineAnswer
+pub fn routine(file: &[u8], buf: &mut [u8]) -> Result<Outline, Refused>
     ensures { Promise file.now buf.old (routine_answer result) buf.new }
 {
     let mut labels = [0u64; LABELS];

@@ -7,17 +7,17 @@ use lib.Dec.{leb}
 use lib.ListN.{length}
 use Rattle.refusal.specs.Answer.{Answer, accepted, refused}
 use Rattle.refusal.specs.Number.{number_of}
-use Rattle.refusal.specs.declared.Refusal.{Refusal}
-use Rattle.ast.specs.declared.Frame.{Frame}
 use Rattle.assembler.specs.declared.Asm.{Asm}
 use Rattle.print.specs.Text.{refusal_line, Puts}
-use Rattle.print.specs.declared.Text.{Text}
+use Rattle.print.specs.declared.TooLong.{TooLong}
 use Rattle.reading.specs.Program.{Program}
 use Rattle.routine.specs.Routine.{program_of, summary_answer}
 use Rattle.routine.specs.Answer.{routine_answer, run_outcome}
 use Rattle.routine.specs.Run.{RunOutcome, run}
-use Rattle.routine.specs.declared.RoutineAnswer.{RoutineAnswer}
-use Rattle.routine.specs.declared.RoutineAnswer.TheVariants.{Accepted, Refused}
+use Rattle.refusal.specs.declared.Refused.{Refused}
+use Rattle.routine.specs.declared.Outline.{Outline}
+use Rattle.std.specs.declared.result.Result.{Result}
+use Rattle.std.specs.declared.result.Result.TheVariants.{Ok, Err}
 use Rattle.routine.specs.declared.RoutineResult.{RoutineResult}
 use Rattle.routine.proofs.Law.{run_promise}
 use Rattle.correctness.proofs.Accepts.{cond_accepts}
@@ -30,16 +30,16 @@ use Rattle.stale.proofs.Texts.{same_text, refusal_short}
 
 -- ---- by the answer
 
-module _ (file m : List ℕ) (asm : Asm) (a : RoutineAnswer) where
-  module _ (l o k j : ℕ) (f : Frame) (e : a ≡ Accepted l o k j f) where
+module _ (file m : List ℕ) (asm : Asm) (a : Result Outline Refused) where
+  module _ (t : Outline) (e : a ≡ Ok t) where
     pub accepted_within : Within (routine_answer a) file → length file ≤ 65536
     accepted_within w = rw e at w
 
-    pub accepted_said : (out after : List ℕ) (r : Text) → Says (memory_text file m asm) out r after → Says (summary_text (routine_answer a) file m asm) out r after
+    pub accepted_said : (out after : List ℕ) (r : Result ℕ TooLong) → Says (memory_text file m asm) out r after → Says (summary_text (routine_answer a) file m asm) out r after
     accepted_said out after r s = rw e s
 
-  pub refusal_said : (why : Refusal) (line n : ℕ) → a ≡ Refused why line → n ≡ number_of why → n < 256 → line < 2 ^ 32 → (out after : List ℕ) (r : Text) → Puts (refusal_line n line) 0 out r after → Says (summary_text (routine_answer a) file m asm) out r after
-  refusal_said why line n e h x y out after r p = rw (e, ← h) (p, refusal_short n line x y)
+  pub refusal_said : (x : Refused) (n : ℕ) → a ≡ Err x → n ≡ number_of x.why → n < 256 → x.place < 2 ^ 32 → (out after : List ℕ) (r : Result ℕ TooLong) → Puts (refusal_line n x.place) 0 out r after → Says (summary_text (routine_answer a) file m asm) out r after
+  refusal_said x n e h u v out after r p = rw (e, ← h) (p, refusal_short n x.place u v)
 
 -- ---- of a file
 
@@ -69,7 +69,7 @@ module _ (file js b : List ℕ) (wide : length js ≡ 20480) (full : length b �
     pub is_within : Within (routine_answer r.answer) file
     is_within = rw answer_is (within (program_of 65536 file) refl)
 
-    pub deck_told : (out after : List ℕ) (t : Text) → Says (summary_text (routine_answer r.answer) file labels r.asm) out t after
+    pub deck_told : (out after : List ℕ) (t : Result ℕ TooLong) → Says (summary_text (routine_answer r.answer) file labels r.asm) out t after
         → Puts (deck_labels file) 0 out t after × (routine_answer r.answer ≡ summary_answer (program_of 65536 file)) × (length (deck_labels file) ≤ 11264)
     unfolding deck_labels
     deck_told out after t s =

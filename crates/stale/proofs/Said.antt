@@ -2,6 +2,7 @@
 use mathlib.Core.Path.{◌≡◌, refl, sym, ap, subst, ◌∙◌}
 use mathlib.Core.Bool.{Bool, true, false, ◌&&◌, cond}
 use mathlib.Core.List.{List}
+use Rattle.std.specs.declared.result.Result.{Result}
 use Prim.Native.Nat.{ℕ, ◌+◌, ◌≤◌, ◌<◌}
 use native.Mathlib.Omega.{arith}
 use lib.ListN.{length, get_or, take, drop, replicate, length-replicate}
@@ -10,7 +11,7 @@ use Rattle.refusal.specs.Answer.{Answer, accepted, refused}
 use Rattle.assembler.specs.State.{sound}
 use Rattle.assembler.specs.declared.Asm.{Asm}
 use Rattle.print.specs.Text.{Puts}
-use Rattle.print.specs.declared.Text.{Text}
+use Rattle.print.specs.declared.TooLong.{TooLong}
 use Rattle.unused.specs.Unused.{is_unused, unused_in, numbers_good, listed, unused_answer, counted, put_list}
 use Rattle.stale.specs.Deck.{labels_text}
 use Rattle.stale.specs.Inner.Scan.{file_line}
@@ -75,7 +76,7 @@ module _ (m : List ℕ) (a : Asm) where
             let l : length (replicate {A = ℕ} 11264 0) ≡ 11264 = length-replicate {A = ℕ} 11264 0 in
             omega (arith, text_short, ap length p, length-sets (replicate 11264 0) 0 (labels_text (line_in found) (take n list)))
 
-        pub said : (out after : List ℕ) (r : Text) → Puts (take k text) 0 out r after → Says (memory_text file m a) out r after
+        pub said : (out after : List ℕ) (r : Result ℕ TooLong) → Puts (take k text) 0 out r after → Says (memory_text file m a) out r after
         said out after r u =
             let l : length (replicate {A = ℕ} 11264 0) ≡ 11264 = length-replicate {A = ℕ} 11264 0 in
             let t : take k text ≡ memory_text file m a = ap (λ (j : ℕ). take j text) q ∙ ap (take (length (labels_text (line_in found) (take n list)))) p ∙ front (replicate 11264 0) (labels_text (line_in found) (take n list)) (omega (arith, text_short)) ∙ list_text in

@@ -4,6 +4,9 @@ use mathlib.Core.Bool.{Bool, true, false, cond}
 use mathlib.Core.List.{List, [], ◌∷◌, map}
 use mathlib.Core.Option
 use mathlib.Core.Option.{Option, some, none}
+use Rattle.std.specs.Prelude
+use Rattle.std.specs.Prelude.{Some, None}
+use Rattle.print.specs.Listing.{first_answer}
 use Prim.Native.Nat.{ℕ, suc, ◌+◌, ◌≤◌, ◌<◌}
 use native.Mathlib.Numerals.{add-one}
 use native.Mathlib.Omega.{arith}
@@ -53,7 +56,19 @@ none_found all =
       noted = λ l h. rw (get_or-replicate {A = ℕ} 1024 l 0 0 h);
     }
 
-module _ (all : List (List ℕ)) (t : List ℕ) (ts : List (List ℕ)) (next : ℕ) (found : List ℕ) (f : Found all (t ∷ ts) next found) (k : ℕ) (e : k ≡ Option.get_or (label_of t) 1024) where
+-- the label of a line, as the code has it
+pub label_some : (o : Option ℕ) (r : Prelude.Option ℕ) (k : ℕ) → first_answer r ≡ o → r ≡ Some k → k ≡ Option.get_or o 1024
+label_some o (Some j) k e h = let q : j ≡ k = cc in rw (← e) (sym q)
+label_some o None k e h = let z : ◌≡◌ {A = ℕ} 0 1 = cc in absurd (omega arith)
+
+pub label_none : (o : Option ℕ) (r : Prelude.Option ℕ) → first_answer r ≡ o → r ≡ None → 1024 ≡ Option.get_or o 1024
+label_none o (Some j) e h = let z : ◌≡◌ {A = ℕ} 0 1 = cc in absurd (omega arith)
+label_none o None e h = rw (← e)
+
+module _ {all ls ts : List (List ℕ)} {t : List ℕ} {next : ℕ} {found : List ℕ} (i : ls ≡ t ∷ ts) (here : Found all ls next found) (k : ℕ) (e : k ≡ Option.get_or (label_of t) 1024) where
+  f : Found all (t ∷ ts) next found
+  f = rw i at here
+
   -- of another label
   other : (l : ℕ) → (k ≡ l → ⊥) → text_line l next (t ∷ ts) ≡ text_line l (next + 1) ts
   unfolding text_line

@@ -5,40 +5,22 @@ use mathlib.Core.List.{List, [], ◌∷◌, ◌++◌}
 use Prim.Native.Nat.{ℕ, zero, suc, ◌+◌, ◌-◌, ◌*◌, ◌^◌, ◌≤◌, ◌<◌}
 use native.Mathlib.Numerals.{add-one}
 use native.Mathlib.Omega.{arith}
-use borrow.Author.Tests.{lt-ltb, le-ltb, le-leb, ltb-true, ltb-false}
+use borrow.Author.Tests.{lt-ltb, le-ltb, ltb-true, ltb-false}
 use lib.Dec.{ltb}
-use lib.ListN.{length, drop, get_or, set, length-append, drop_of_length-le}
-use lib.Seq.{sets, drop-cons}
+use lib.ListN.{length, drop, get_or, length-append, drop_of_length-le}
+use lib.Seq.{drop-cons}
 use Rattle.text.specs.Digits.{decimal}
-use Rattle.print.specs.Text.{refusal_line, Puts}
-use Rattle.print.specs.declared.Text.{Text}
+use Rattle.print.specs.Text.{refusal_line}
 use Rattle.print.proofs.Counts.{decimal_short}
-use Rattle.print.proofs.Lines.{framed, length_refusal_line}
-use Rattle.print.proofs.Stores.{sets_append}
+use Rattle.print.proofs.Lines.{length_refusal_line}
 use Rattle.unused.specs.Unused.{passing}
 use Rattle.stale.specs.Deck.{label_text, own_text, labels_text}
 
 -- ---- one label
 
--- a text that has room is put
-module _ (text : List ℕ) (at : ℕ) (buf : List ℕ) (r : Text) (after : List ℕ) (p : Puts text at buf r after) (h : at + length text ≤ length buf) where
-  room : (r ≡ Text.Length (length text)) × (after ≡ sets buf at text)
-  room = let e = le-leb (at + length text) (length buf) h in rw e at p
-
-  pub was_put : (k : ℕ) → r ≡ Text.Length k → (k ≡ length text) × (after ≡ sets buf at text)
-  was_put k f = let e = room.0 in let q : k ≡ length text = cc in (q, room.1)
-
-  pub not_put : r ≡ Text.TooLong → ⊥
-  not_put f = let e = room.0 in let z : ◌≡◌ {A = ℕ} 0 1 = cc in omega arith
-
 pub length_label_text : (l n : ℕ) → length (label_text l n) ≡ length (decimal l) + length (decimal n) + 2
 unfolding label_text
 length_label_text l n = simp length-append (omega arith)
-
-pub label_text_put : (o o1 o2 : List ℕ) (at e f l n : ℕ) → o1 ≡ sets o at (decimal l) → e ≡ at + length (decimal l) → o2 ≡ sets (set o1 e 44) (e + 1) (decimal n) → f ≡ e + 1 + length (decimal n)
-    → set o2 f 10 ≡ sets o at (label_text l n)
-unfolding label_text
-label_text_put o o1 o2 at e f l n h g i j = ap (λ (k : ℕ). set o2 k 10) j ∙ framed o o1 o2 (decimal l) (decimal n) at e 44 10 h g i
 
 module _ (f : ℕ → ℕ) (l : ℕ) where
   pub own_is : l < 1024 → own_text f l ≡ label_text l (f l)
@@ -58,16 +40,9 @@ module _ (f : ℕ → ℕ) (ls : List ℕ) (i : ℕ) where
   unfolding labels_text
   no_more h = ap (labels_text f) (drop_of_length-le ls h)
 
-  one_more : i < length ls → rest f ls i ≡ own_text f (get_or ls i 0) ++ rest f ls (i + 1)
+  pub one_more : i < length ls → rest f ls i ≡ own_text f (get_or ls i 0) ++ rest f ls (i + 1)
   unfolding labels_text
   one_more h = ap (labels_text f) (drop-cons ls i 0 h) ∙ ap (λ (k : ℕ). own_text f (get_or ls i 0) ++ labels_text f (drop k ls)) (sym (add-one i))
-
-  pub length_one_more : i < length ls → length (rest f ls i) ≡ length (own_text f (get_or ls i 0)) + length (rest f ls (i + 1))
-  length_one_more h = ap length (one_more h) ∙ length-append (own_text f (get_or ls i 0)) (rest f ls (i + 1))
-
-  pub one_more_put : (out after : List ℕ) (at next : ℕ) → i < length ls → after ≡ sets out at (own_text f (get_or ls i 0)) → next ≡ at + length (own_text f (get_or ls i 0)) → sets out at (rest f ls i) ≡ sets after next (rest f ls (i + 1))
-  one_more_put out after at next h e g =
-      ap (sets out at) (one_more h) ∙ sets_append out at (own_text f (get_or ls i 0)) (rest f ls (i + 1)) ∙ rw (e, g)
 
 -- lines that agree for a file's own labels
 own_same : (f g : ℕ → ℕ) (l : ℕ) → (l < 1024 → f l ≡ g l) → own_text f l ≡ own_text g l

@@ -2,12 +2,11 @@
 #![tactic(auto)]
 
 ghost use Rattle.std.specs.Prelude.{◌≡◌, ℕ, ◌+◌, ◌≤◌, ◌<◌, length, drop, get_or};
-ghost use Rattle.std.proofs.Math.Option;
-ghost use Rattle.std.proofs.lemmas.List.Edits.{sets};
 ghost use Rattle.ast.specs.Uses.{label_set};
-ghost use Rattle.text.specs.Digits.{decimal};
 ghost use Rattle.text.specs.Lines.{lines_of};
 ghost use Rattle.print.specs.Text.{Puts};
+ghost use Rattle.print.specs.Listing.{first_answer};
+ghost use Rattle.print.specs.Writer.{HasRoom, Wrote};
 ghost use Rattle.routine.specs.Routine.{program_of, summary_answer};
 ghost use Rattle.routine.specs.Answer.{routine_answer};
 ghost use Rattle.unused.specs.Unused.{unused_answer};
@@ -18,15 +17,16 @@ ghost use Rattle.stale.specs.Inner.Text.{count_of, line_in, memory_text, Within,
 use assembler::{Asm, JUMPS, LABELS, Labels, ROOM};
 use ast::Operand;
 use deck::Judged;
-use print::Text;
-use routine::RoutineAnswer;
+use print::{TooLong, Writer};
+use refusal::Refused;
+use routine::Outline;
 use unused::Unused;
 
 // The routine's answer to a file, and how long the text of its labels is.
 #[derive(Clone, Copy)]
 pub struct DeckLabels {
-    pub answer: RoutineAnswer,
-    pub text: Text,
+    pub answer: Result<Outline, Refused>,
+    pub text: Result<usize, TooLong>,
 }
 
 // A deck file's own labels are below this.
@@ -38,28 +38,25 @@ type SetLines = [u32; OWN];
 // A line for each of them, of at most 11 bytes.
 const TEXT: usize = 11264;
 
-// Of what sets no label.
-const NONE: u32 = 1024;
-
 // ---- the lines that set labels
 
 // The label that an operand sets.
-fn operand_label(p: Operand) -> u32
-    ensures { result ≡ Option.get_or (label_set p) 1024 }
+fn operand_label(p: Operand) -> Option<u32>
+    ensures { first_answer result ≡ label_set p }
 {
     match p {
-        Operand::Nothing => NONE,
-        Operand::Loaded(_, _) => NONE,
-        Operand::Stored(_, _) => NONE,
-        Operand::Constant(_) => NONE,
-        Operand::GoneTo(_) => NONE,
-        Operand::Set(l) => l,
+        Operand::Nothing => None,
+        Operand::Loaded(_, _) => None,
+        Operand::Stored(_, _) => None,
+        Operand::Constant(_) => None,
+        Operand::GoneTo(_) => None,
+        Operand::Set(l) => Some(l),
     }
 }
 
 // The label that a line sets.
-fn label_of(line: &[u8]) -> u32
-    ensures { result ≡ Option.get_or (label_of line.now) 1024 }
+fn label_of(line: &[u8]) -> Option<u32>
+    ensures { first_answer result ≡ label_of line.now }
 {
     let j = deck::read_line(false, line);
     match j {
@@ -68,9 +65,9 @@ fn label_of(line: &[u8]) -> u32
             let p = u.operand;
             operand_label(p)
         }
-        Judged::Head(_) => NONE,
-        Judged::Constant(_) => NONE,
-        Judged::Refused(_) => NONE,
+        Judged::Head(_) => None,
+        Judged::Constant(_) => None,
+        Judged::Refused(_) => None,
     }
 }
 
@@ -85,9 +82,12 @@ fn lines_from(file: &[u8], mut at: usize) -> SetLines
     while at < file.len() {
         let place = at;
         at = lines::line_end(file, place);
-        let l = label_of(&file[place..at]) as usize;
         let line = next;
         next += 1;
+        let Some(label) = label_of(&file[place..at]) else {
+            continue;
+        };
+        let l = label as usize;
         if l >= OWN {
             continue;
         }
@@ -108,60 +108,35 @@ fn set_lines(file: &[u8]) -> SetLines
 
 // ---- as text
 
-fn wide(n: u32) -> u64
-    ensures { result ≡ n }
+#[tactic(auto, using(crate::proofs::Texts::length_label_text))]
+fn put_label(label: u64, line: u64, w: &mut Writer)
+    requires { HasRoom (label_text label line) w.old }
+    ensures { Wrote (label_text label line) w.old w.new }
 {
-    n as u64
-}
-
-// n in decimal; answers the byte behind it.
-fn put_number(n: u64, out: &mut [u8], at: usize) -> usize
-    requires { at + length (decimal n) ≤ length out.old }
-    ensures { (out.new ≡ sets out.old at (decimal n)) × (result ≡ at + length (decimal n)) }
-{
-    match print::decimal(n, out, at) {
-        Text::Length(k) => at + k,
-        // It can't be: there is room.
-        Text::TooLong => at,
-    }
-}
-
-fn put_label(label: u64, line: u64, out: &mut [u8], at: usize) -> usize
-    requires { at + length (label_text label line) ≤ length out.old }
-    ensures { (out.new ≡ sets out.old at (label_text label line)) × (result ≡ at + length (label_text label line)) }
-{
-    let e = put_number(label, out, at);
-    out[e] = 44;
-    let f = put_number(line, out, e + 1);
-    out[f] = 10;
-    f + 1
+    w.decimal(label);
+    w.byte(b',');
+    w.decimal(line);
+    w.byte(b'\n');
 }
 
 // The same with the line that was found; nothing of a label that isn't the file's own.
-fn put_own(label: u32, found: &SetLines, out: &mut [u8], at: usize) -> usize
-    requires { at + length (own_text (line_in found.now) label) ≤ length out.old }
-    ensures { (out.new ≡ sets out.old at (own_text (line_in found.now) label))
-        × (result ≡ at + length (own_text (line_in found.now) label)) }
+fn put_own(label: u32, found: &SetLines, w: &mut Writer)
+    requires { HasRoom (own_text (line_in found.now) label) w.old }
+    ensures { Wrote (own_text (line_in found.now) label) w.old w.new }
 {
     let i = label as usize;
-    if i >= OWN {
-        return at;
+    if i < OWN {
+        put_label(label as u64, found[i] as u64, w);
     }
-    put_label(wide(label), wide(found[i]), out, at)
 }
 
-fn put_labels(list: &[u32], found: &SetLines, out: &mut [u8]) -> usize
-    requires { length (labels_text (line_in found.now) list.now) ≤ length out.old }
-    ensures { (out.new ≡ sets out.old 0 (labels_text (line_in found.now) list.now))
-        × (result ≡ length (labels_text (line_in found.now) list.now)) }
+fn put_labels(list: &[u32], found: &SetLines, w: &mut Writer)
+    requires { HasRoom (labels_text (line_in found.now) list.now) w.old }
+    ensures { Wrote (labels_text (line_in found.now) list.now) w.old w.new }
 {
-    let mut at = 0;
-    let mut i = 0;
-    while i < list.len() {
-        at = put_own(list[i], found, out, at);
-        i += 1;
+    for label in list {
+        put_own(*label, found, w);
     }
-    at
 }
 
 fn count(a: Unused) -> usize
@@ -174,7 +149,7 @@ fn count(a: Unused) -> usize
 }
 
 // The lines of the listed labels, of a file that isn't too long.
-fn labels_text(file: &[u8], labels: &Labels, asm: Asm, out: &mut [u8]) -> Text
+fn labels_text(file: &[u8], labels: &Labels, asm: Asm, out: &mut [u8]) -> Result<usize, TooLong>
     requires { length file.now ≤ 65536 }
     ensures { Says (memory_text file.now labels.now asm) out.old result out.new }
 {
@@ -182,7 +157,12 @@ fn labels_text(file: &[u8], labels: &Labels, asm: Asm, out: &mut [u8]) -> Text
     let n = count(unused::unused_labels(labels, asm, &mut list));
     let found = set_lines(file);
     let mut text = [0u8; TEXT];
-    let k = put_labels(&list[..n], &found, &mut text);
+    let mut w = Writer {
+        out: &mut text,
+        at: 0,
+    };
+    put_labels(&list[..n], &found, &mut w);
+    let k = w.at;
     print::put_text(&text[..k], out)
 }
 
@@ -191,20 +171,20 @@ fn labels_text(file: &[u8], labels: &Labels, asm: Asm, out: &mut [u8]) -> Text
 // The text of the routine's answer, which left these labels and this record.
 fn answer_text(
     file: &[u8],
-    answer: RoutineAnswer,
+    answer: Result<Outline, Refused>,
     labels: &Labels,
     asm: Asm,
     out: &mut [u8],
-) -> Text
+) -> Result<usize, TooLong>
     requires { Within (routine_answer answer) file.now }
     ensures { Says (summary_text (routine_answer answer) file.now labels.now asm)
         out.old result out.new }
 {
     match answer {
-        RoutineAnswer::Accepted(_, _, _, _, _) => labels_text(file, labels, asm, out),
-        RoutineAnswer::Refused(why, line) => print::refusal_line(
-            refusal::number(why),
-            line as u64,
+        Ok(_) => labels_text(file, labels, asm, out),
+        Err(refused) => print::refusal_line(
+            refusal::number(refused.why),
+            refused.place as u64,
             out,
         ),
     }

@@ -5,7 +5,8 @@ ghost use Rattle.test_decks.specs.Inner.Bytes.{hash_of};
 use crate::piece::ROOM;
 use assembler::{Asm, Jumps, Labels};
 use ast::Frame;
-use routine::{RoutineAnswer, RoutineResult};
+use refusal::{Refusal, Refused};
+use routine::{Outline, RoutineResult};
 use test_rows::Outcome;
 
 // What stands in a buffer before the routine has it.
@@ -42,19 +43,19 @@ fn frame(f: Frame) -> u32 {
     }
 }
 
-fn told(answer: RoutineAnswer) -> Numbers {
+fn told(answer: Result<Outline, Refused>) -> Numbers {
     match answer {
-        RoutineAnswer::Accepted(length, offset, constants, jumps, f) => Numbers {
-            kind: frame(f),
-            a: length,
-            b: offset,
-            c: constants,
-            d: jumps,
+        Ok(told) => Numbers {
+            kind: frame(told.frame),
+            a: told.length,
+            b: told.offset,
+            c: told.constants,
+            d: told.jumps,
         },
-        RoutineAnswer::Refused(why, line) => Numbers {
+        Err(refused) => Numbers {
             kind: 0,
-            a: refusal::number(why) as u32,
-            b: line,
+            a: refusal::number(refused.why) as u32,
+            b: refused.place,
             c: 0,
             d: 0,
         },
@@ -125,7 +126,10 @@ fn unknown() -> RoutineResult {
     };
     RoutineResult {
         asm,
-        answer: RoutineAnswer::Refused(refusal::Refusal::Closed, 0),
+        answer: Err(Refused {
+            why: Refusal::Closed,
+            place: 0,
+        }),
     }
 }
 

@@ -25,10 +25,7 @@ fn put_word(word: u32, n: usize, code: &mut [u8; CODE]) -> usize {
     if n > CODE - 4 {
         return n;
     }
-    code[n] = (word % 256) as u8;
-    code[n + 1] = (word / 256 % 256) as u8;
-    code[n + 2] = (word / 65536 % 256) as u8;
-    code[n + 3] = (word / 16777216) as u8;
+    code[n..n + 4].copy_from_slice(&word.to_le_bytes());
     n + 4
 }
 
@@ -78,14 +75,12 @@ pub(crate) fn plain(b: u8) -> u8 {
 // A text behind n bytes, as far as there is room; how many bytes there are then.
 fn put_text(s: &[u8], n: usize, code: &mut [u8; CODE]) -> usize {
     let mut at = n;
-    let mut i = 0;
-    while i < s.len() {
+    for b in s {
         if at >= CODE {
             return at;
         }
-        code[at] = plain(s[i]);
+        code[at] = plain(*b);
         at += 1;
-        i += 1;
     }
     at
 }

@@ -1,8 +1,9 @@
 // Rows, one by one: a code or a deck file is put together, listed, and its answer and text compared.
 use crate::code::CODE;
-use listing::{CodeAnswer, CodeListing, DeckListing, View};
-use print::Text;
-use routine::RoutineAnswer;
+use listing::{CodeError, CodeListing, DeckListing, View};
+use print::TooLong;
+use refusal::Refused;
+use routine::Outline;
 use test_rows::Outcome;
 
 // Bytes of the text's memory.
@@ -29,63 +30,45 @@ pub struct Came {
 // ---- answers as numbers
 
 // The number of refusal or 0, its place, and the text's length unless it is too long.
-#[derive(Clone, Copy)]
-struct Numbers {
+#[derive(Clone, Copy, PartialEq, Eq)]
+struct Found {
     number: u32,
     place: usize,
-    fits: bool,
-    length: usize,
+    length: Result<usize, TooLong>,
 }
 
-fn number(a: CodeAnswer) -> u32 {
+fn number(a: Result<(), CodeError>) -> u32 {
     match a {
-        CodeAnswer::Listed => 0,
-        CodeAnswer::Offset => 2,
-        CodeAnswer::Foreign(_) => 14,
+        Ok(()) => 0,
+        Err(CodeError::Offset) => 2,
+        Err(CodeError::Foreign(_)) => 14,
     }
 }
 
-fn place(a: CodeAnswer) -> usize {
+fn place(a: Result<(), CodeError>) -> usize {
     match a {
-        CodeAnswer::Listed => 0,
-        CodeAnswer::Offset => 0,
-        CodeAnswer::Foreign(at) => at,
+        Err(CodeError::Foreign(at)) => at,
+        _ => 0,
     }
 }
 
-fn with_text(number: u32, place: usize, t: Text) -> Numbers {
-    match t {
-        Text::Length(n) => Numbers {
-            number,
-            place,
-            fits: true,
-            length: n,
-        },
-        Text::TooLong => Numbers {
-            number,
-            place,
-            fits: false,
-            length: 0,
-        },
+fn told(l: CodeListing) -> Found {
+    Found {
+        number: number(l.answer),
+        place: place(l.answer),
+        length: l.text,
     }
 }
 
-fn told(l: CodeListing) -> Numbers {
-    let a = l.answer;
-    let t = l.text;
-    with_text(number(a), place(a), t)
-}
-
-fn deck_told(l: DeckListing) -> Numbers {
-    let a = l.answer;
-    let t = l.text;
-    match a {
-        RoutineAnswer::Accepted(_, _, _, _, _) => with_text(0, 0, t),
-        RoutineAnswer::Refused(why, line) => with_text(
-            refusal::number(why) as u32,
-            line as usize,
-            t,
-        ),
+fn deck_told(l: DeckListing) -> Found {
+    let (number, place) = match l.answer {
+        Ok(_) => (0, 0),
+        Err(refused) => (refusal::number(refused.why) as u32, refused.place as usize),
+    };
+    Found {
+        number,
+        place,
+        length: l.text,
     }
 }
 
@@ -105,19 +88,13 @@ fn word_stands(s: &[u8], count: usize, buf: &[u8; ALONE]) -> bool {
 
 fn word_answered(s: &[u8]) -> bool {
     let w = crate::row::column(s, 0);
-    let code = [
-        (w % 256) as u8,
-        (w / 256 % 256) as u8,
-        (w / 65536 % 256) as u8,
-        (w / 16777216) as u8,
-    ];
+    let code = w.to_le_bytes();
     let mut buf = [MARK; ALONE];
     let t = told(listing::code_listing(&code, 4, &mut buf));
     let count = crate::row::column(s, 2) as usize;
     t.number == crate::row::column(s, 1)
         && t.place == 0
-        && t.fits
-        && t.length == count + 1
+        && t.length == Ok(count + 1)
         && word_stands(s, count, &buf)
 }
 
@@ -130,16 +107,6 @@ enum Asked {
     Deck,
 }
 
-// No answer: a row asks for more than there is.
-fn nothing() -> Numbers {
-    Numbers {
-        number: 0xffffffff,
-        place: 0,
-        fits: false,
-        length: 0,
-    }
-}
-
 fn view(n: usize) -> View {
     if n == 0 {
         View::Maintainer
@@ -148,18 +115,22 @@ fn view(n: usize) -> View {
     }
 }
 
-// `at` is the constants' offset, or the view.
-fn handed(asked: Asked, code: &[u8], n: usize, at: usize, text: &mut [u8], room: usize) -> Numbers {
-    if n > code.len() {
-        return nothing();
+// `at` is the constants' offset, or the view. No answer where a row asks for more than there is.
+fn handed(
+    asked: Asked,
+    code: &[u8],
+    n: usize,
+    at: usize,
+    text: &mut [u8],
+    room: usize,
+) -> Option<Found> {
+    if n > code.len() || room > text.len() {
+        return None;
     }
-    if room > text.len() {
-        return nothing();
-    }
-    match asked {
+    Some(match asked {
         Asked::Code => told(listing::code_listing(&code[0..n], at, &mut text[0..room])),
         Asked::Deck => deck_told(listing::deck_view(&code[0..n], view(at), &mut text[0..room])),
-    }
+    })
 }
 
 // The bytes from one on are as they were.
@@ -190,27 +161,26 @@ fn answered(
     let room = crate::row::column(s, 1) as usize;
     let t = handed(asked, code, n, at, text, room);
     let length = if fits {
-        crate::row::column(s, 4) as usize
+        Ok(crate::row::column(s, 4) as usize)
     } else {
-        0
+        Err(TooLong)
     };
-    t.number == crate::row::column(s, 2)
-        && t.place == crate::row::column(s, 3) as usize
-        && t.fits == fits
-        && t.length == length
-        && marked(text, length)
+    let wanted = Found {
+        number: crate::row::column(s, 2),
+        place: crate::row::column(s, 3) as usize,
+        length,
+    };
+    t == Some(wanted) && marked(text, length.unwrap_or(0))
 }
 
 fn same_text(written: &[u8], text: &[u8]) -> bool {
     if written.len() != text.len() {
         return false;
     }
-    let mut i = 0;
-    while i < written.len() {
-        if crate::code::plain(written[i]) != text[i] {
+    for (w, t) in written.iter().zip(text) {
+        if crate::code::plain(*w) != *t {
             return false;
         }
-        i += 1;
     }
     true
 }

@@ -19,16 +19,16 @@ returns-then-code-ne0 c =
     let f = c.foreign in
     told_as a.code.now a.constants a.out.now _ f.result _ (cut a.code.now a.constants in_order c.if-code-ne0.true ∙ ap (λ (n : ℕ). refused 14 n) (sym c.cut_place.ensures)) f.ensures
 
-pub returns-in-At : goal.returns-in-At
-returns-in-At c =
+pub returns-in-Some : goal.returns-in-Some
+returns-in-Some c =
     let in_order : fine c.args.code.now c.args.constants ≡ true = sym c.is_offset.ensures ∙ c.if-not-is_offset.false in
-    let f = c.foreign-in-At in
+    let f = c.foreign-in-Some in
     let a = c.args in
-    told_as a.code.now a.constants a.out.now _ f.result _ (is_foreign a.code.now a.constants in_order c.if-code-ne0.false _ (sym (ap first_answer c.in-At.is) ∙ c.first_foreign-first.ensures)) f.ensures
+    told_as a.code.now a.constants a.out.now _ f.result _ (is_foreign a.code.now a.constants in_order c.if-code-ne0.false _ (sym (ap first_answer c.in-Some.is) ∙ c.first_foreign-first.ensures)) f.ensures
 
-pub returns-in-Nowhere : goal.returns-in-Nowhere
-returns-in-Nowhere c =
+pub returns-in-None : goal.returns-in-None
+returns-in-None c =
     let in_order : fine c.args.code.now c.args.constants ≡ true = sym c.is_offset.ensures ∙ c.if-not-is_offset.false in
     let p = c.lines_text-text in
     let a = c.args in
-    told_lines a.code.now a.constants a.out.now _ p.result (is_listed a.code.now a.constants in_order c.if-code-ne0.false (sym (ap first_answer c.in-Nowhere.is) ∙ c.first_foreign-first.ensures)) p.ensures
+    told_lines a.code.now a.constants a.out.now _ p.result (is_listed a.code.now a.constants in_order c.if-code-ne0.false (sym (ap first_answer c.in-None.is) ∙ c.first_foreign-first.ensures)) p.ensures

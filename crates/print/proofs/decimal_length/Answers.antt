@@ -1,12 +1,14 @@
 use native.Mathlib.Omega.{arith}
-use Rattle.print.proofs.Counts.{length_decimal, above_small, above_more}
+use Rattle.print.proofs.Counts.{length_decimal, above_small, above_power}
 use Rattle.print.proofs.decimal_length.Goals as goal
 
-pub loop-rest-preserved : goal.loop-rest-preserved
-loop-rest-preserved c =
-    let h = above_more c.loop-rest.rest c.loop-rest-test.true in (omega arith, omega arith)
+pub returns-in-Some : goal.returns-in-Some
+returns-in-Some c =
+    let n = c.args.n in
+    let e = c.in-Some.ensures in
+    (omega (arith, length_decimal n, above_power _ n e.power_le e.next_power_gt), omega (arith, e.bound))
 
-pub returns : goal.returns
-returns c =
-    let h = above_small c.loop-rest.rest (omega arith) in
-    let e = length_decimal c.args.n in (omega arith, omega arith)
+pub returns-in-None : goal.returns-in-None
+returns-in-None c =
+    let n = c.args.n in
+    (omega (arith, length_decimal n, above_small n (omega (arith, c.in-None.ensures.none))), omega arith)

@@ -1,18 +1,19 @@
-use mathlib.Core.Path.{sym}
-use mathlib.Core.Bool.{true, false}
+use mathlib.Core.Path.{sym, ◌∙◌}
+use borrow.Author.Rules.{rules}
+use Rattle.print.proofs.Fitting.{room_for, put_whole}
+use Rattle.print.proofs.Lines.{length_hex}
 use Rattle.print.specs.Text.{hex}
-use Rattle.text.proofs.Numerals.{length_digits}
-use Rattle.print.proofs.Fitting.{too_long, fits, tested}
 use Rattle.print.proofs.hex.Goals as goal
 
-pub returns-then-not-has_room : goal.returns-then-not-has_room
-returns-then-not-has_room c =
+pub hex-requires : goal.hex-requires
+hex-requires c =
     let a = c.args in
-    let k = sym (length_digits 16 8 a.word) in
-    too_long (hex a.word) a.at a.out.now (tested (hex a.word) a.at a.out.now 8 _ false k c.has_room.ensures c.if-not-has_room.true)
+    room_for (hex a.word) a.at a.out.now (sym (c.room.ensures (hex c.args.word) (sym (length_hex c.args.word))) ∙ c.in_ok-k.was)
 
 pub returns : goal.returns
 returns c =
-    let a = c.args in
-    let k = sym (length_digits 16 8 a.word) in
-    fits (hex a.word) a.at a.out.now _ 8 (tested (hex a.word) a.at a.out.now 8 _ true k c.has_room.ensures c.if-not-has_room.false) k c.put_digits.ensures
+    let p = put_whole (sym (c.room.ensures (hex c.args.word) (sym (length_hex c.args.word))) ∙ c.in_ok-k.was) c.hex.ensures in
+    (p.0, let q = p.1 in search rules)
+
+pub returns-in_err-k : goal.returns-in_err-k
+returns-in_err-k c = let e = c.room.ensures (hex c.args.word) (sym (length_hex c.args.word)) in search rules

@@ -1,30 +1,26 @@
-use mathlib.Core.Path.{sym, ap, ◌∙◌}
 use native.Mathlib.Omega.{arith}
-use lib.ListN.{length}
-use lib.Seq.{sets}
+use Rattle.print.proofs.Written.{all_left, none_left, room_left, less_left}
 use Rattle.stale.specs.Inner.Text.{line_in}
-use Rattle.stale.proofs.Texts.{no_more, length_one_more, one_more_put}
+use Rattle.stale.proofs.Texts.{one_more, no_more}
 use Rattle.stale.proofs.put_labels.Goals as goal
 
-pub put_own-at-requires : goal.put_own-at-requires
-put_own-at-requires c =
-    omega (arith, length_one_more (line_in c.args.found.now) c.args.list.now c.loop-i.i (omega arith), c.loop-i.invariant.1, c.loop-i.invariant.2, c.requires)
+pub loop-label-init : goal.loop-label-init
+loop-label-init c = all_left _ _
 
-pub loop-i-preserved : goal.loop-i-preserved
-loop-i-preserved c =
+pub put_own-requires : goal.put_own-requires
+put_own-requires c =
+    let l = c.loop-label in
     let a = c.args in
-    let f = line_in a.found.now in
-    let q = c.put_own-at in
-    let n = length_one_more f a.list.now c.loop-i.i (omega arith) in (
-      omega arith,
-      omega (arith, q.auto.out),
-      omega (arith, q.ensures.1, n),
-      c.loop-i.invariant.3 ∙ one_more_put f a.list.now c.loop-i.i c.loop-i.out _ c.loop-i.at _ (omega arith) q.ensures.0 q.ensures.1,
-    )
+    room_left _ _ (one_more (line_in a.found.now) a.list.now l.label-index (omega arith)) l.invariant c.requires
+
+pub loop-label-preserved : goal.loop-label-preserved
+loop-label-preserved c =
+    let l = c.loop-label in
+    let a = c.args in
+    less_left _ _ (one_more (line_in a.found.now) a.list.now l.label-index (omega arith)) l.invariant c.put_own.ensures
 
 pub returns : goal.returns
 returns c =
+    let l = c.loop-label in
     let a = c.args in
-    let f = line_in a.found.now in
-    let e = no_more f a.list.now c.loop-i.i (omega arith) in
-    (sym (c.loop-i.invariant.3 ∙ ap (sets c.loop-i.out c.loop-i.at) e), omega (arith, ap length e, c.loop-i.invariant.2))
+    none_left (no_more (line_in a.found.now) a.list.now l.label-index (omega arith)) l.invariant

@@ -1,9 +1,9 @@
 -- The text of the routine's answer, by the memory and the record that it left.
-use Rattle.std.specs.Prelude.{List, [], ℕ, ◌≤◌, length, get_or}
+use Rattle.std.specs.Prelude.{List, [], ℕ, ◌≤◌, length, get_or, Result}
 use Rattle.refusal.specs.Answer.{Answer, accepted, refused}
 use Rattle.assembler.specs.declared.Asm.{Asm}
 use Rattle.print.specs.Text.{refusal_line, Puts}
-use Rattle.print.specs.declared.Text.{Text}
+use Rattle.print.specs.declared.TooLong.{TooLong}
 use Rattle.routine.specs.Routine.{Summary}
 use Rattle.unused.specs.Unused.{listed}
 use Rattle.stale.specs.Deck.{labels_text}
@@ -36,5 +36,5 @@ Within (accepted t) file = length file ≤ 65536
 Within (refused n line) file = Unit {0}
 
 -- a text stands in the buffer, and is no longer than this
-abbrev pub Says : (text out : List ℕ) → Text → (after : List ℕ) → Type 0
+abbrev pub Says : (text out : List ℕ) → Result ℕ TooLong → (after : List ℕ) → Type 0
 Says text out r after = Puts text 0 out r after × (length text ≤ 11264)

@@ -1,26 +1,22 @@
 use mathlib.Core.Path.{sym, ◌∙◌}
 use native.Mathlib.Omega.{arith}
-use Rattle.print.proofs.Listings.{no_first, first_here, first_behind}
+use Rattle.print.proofs.Listings.{first_here, first_behind, first_end}
 use Rattle.print.proofs.listing.first_foreign.Goals as goal
 
 pub returns-then-is_foreign : goal.returns-then-is_foreign
 returns-then-is_foreign c =
-    let f = c.is_foreign in
-    let w = c.word_at in
-    let l = c.loop-i in
+    let l = c.loop-j in
     let a = c.args in
-    sym (l.invariant.1 ∙ first_here a.constants a.code.now l.i _ (omega arith) w.ensures (sym f.ensures ∙ c.if-is_foreign.true))
+    sym (l.invariant ∙ first_here a.constants a.code.now l.j _ (omega arith) c.word_at.ensures (sym c.is_foreign.ensures ∙ c.if-is_foreign.true))
 
-pub loop-i-preserved : goal.loop-i-preserved
-loop-i-preserved c =
-    let f = c.is_foreign in
-    let w = c.word_at in
-    let l = c.loop-i in
+pub loop-j-preserved : goal.loop-j-preserved
+loop-j-preserved c =
+    let l = c.loop-j in
     let a = c.args in
-    (omega arith, l.invariant.1 ∙ first_behind a.constants a.code.now l.i _ (omega arith) w.ensures (sym f.ensures ∙ c.if-is_foreign.false))
+    l.invariant ∙ first_behind a.constants a.code.now l.j _ (omega arith) c.word_at.ensures (sym c.is_foreign.ensures ∙ c.if-is_foreign.false)
 
 pub returns : goal.returns
 returns c =
-    let l = c.loop-i in
+    let l = c.loop-j in
     let a = c.args in
-    sym (l.invariant.1 ∙ no_first a.constants a.code.now l.i (omega arith))
+    sym (l.invariant ∙ first_end a.constants a.code.now l.j (omega arith))

@@ -1,8 +1,9 @@
-use mathlib.Core.Path.{refl, sym, ap}
+use mathlib.Core.Path.{sym, ap}
 use native.Mathlib.Omega.{arith}
 use lib.ListN.{length}
 use Rattle.encoder.specs.Instr.{instr_of}
 use Rattle.print.proofs.Listings.{data_at, instr_at, no_line}
+use Rattle.print.proofs.Written.{same, nothing}
 use Rattle.print.proofs.listing.put_line.Goals as goal
 
 pub put_data-requires : goal.put_data-requires
@@ -13,7 +14,7 @@ put_data-requires c =
 pub returns-then-offset-constants : goal.returns-then-offset-constants
 returns-then-offset-constants c =
     let a = c.args in
-    rw (data_at a.constants a.offset a.word (omega arith)) c.put_data.ensures
+    same (sym (data_at a.constants a.offset a.word (omega arith))) c.put_data.ensures
 
 pub put_instr-requires : goal.put_instr-requires
 put_instr-requires c =
@@ -25,10 +26,10 @@ pub returns-in-Some : goal.returns-in-Some
 returns-in-Some c =
     let a = c.args in
     let e = sym c.in-Some.ensures.0 in
-    rw (instr_at a.constants a.offset a.word (instr_of c.in-Some.i) (omega arith) e) c.put_instr.ensures
+    same (sym (instr_at a.constants a.offset a.word (instr_of c.in-Some.i) (omega arith) e)) c.put_instr.ensures
 
 pub returns-in-None : goal.returns-in-None
 returns-in-None c =
     let a = c.args in
     let e = sym c.in-None.ensures.0 in
-    rw (no_line a.constants a.offset a.word (omega arith) e) (refl, omega arith)
+    same (sym (no_line a.constants a.offset a.word (omega arith) e)) (nothing _)

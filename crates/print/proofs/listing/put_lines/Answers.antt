@@ -1,33 +1,32 @@
-use mathlib.Core.Path.{refl, sym, ap, ◌∙◌}
+use mathlib.Core.Path.{refl}
 use native.Mathlib.Omega.{arith}
-use lib.ListN.{length}
-use lib.Seq.{sets}
-use Rattle.print.specs.Listing.{marked}
-use Rattle.print.proofs.Listings.{no_lines, no_views, length_lines, views_put}
+use Prim.Native.Nat.{◌*◌}
+use Rattle.print.specs.Listing.{marked, view_line}
+use Rattle.print.specs.Writer.{HasRoom}
+use Rattle.print.specs.Text.{words_of}
+use Rattle.print.proofs.Listings.{views_turn, views_end, views_length, view_length}
+use Rattle.print.proofs.Written.{all_left, none_left, room_left, less_left}
 use Rattle.print.proofs.listing.put_lines.Goals as goal
 
-pub put_view_line-at-requires : goal.put_view_line-at-requires
-put_view_line-at-requires c =
-    let l = c.loop-i in
-    let a = c.args in
-    (refl, omega (arith, length_lines a.constants a.code.now l.i _ (omega arith) c.word_at-w.ensures, c.requires))
+pub loop-j-init : goal.loop-j-init
+loop-j-init c = all_left _ _
 
-pub loop-i-preserved : goal.loop-i-preserved
-loop-i-preserved c =
-    let p = c.put_view_line-at in
-    let w = c.word_at-w in
-    let l = c.loop-i in
+pub put_view_line-requires : goal.put_view_line-requires
+put_view_line-requires c =
+    let l = c.loop-j in
     let a = c.args in
-    let n = length_lines a.constants a.code.now l.i _ (omega arith) w.ensures in (
-      omega arith,
-      omega (arith, p.auto.out),
-      omega (arith, n, p.ensures.1),
-      l.invariant.3 ∙ views_put (marked a.marks.now) a.constants a.code.now l.i _ (omega arith) w.ensures l.out _ l.at _ p.ensures.0 p.ensures.1,
-    )
+    let h = marked a.marks.now in
+    let r : HasRoom (view_line h a.constants (4 * l.j) c.word_at.result) l.w = room_left _ _ (views_turn a.constants a.code.now l.j _ (omega arith) c.word_at.ensures h) l.invariant (omega (arith, c.requires, views_length h a.constants 0 (words_of a.code.now))) in
+    (refl, omega (arith, r, view_length h a.constants (4 * l.j) c.word_at.result))
+
+pub loop-j-preserved : goal.loop-j-preserved
+loop-j-preserved c =
+    let l = c.loop-j in
+    let a = c.args in
+    less_left _ _ (views_turn a.constants a.code.now l.j _ (omega arith) c.word_at.ensures (marked a.marks.now)) l.invariant c.put_view_line.ensures
 
 pub returns : goal.returns
 returns c =
-    let l = c.loop-i in
+    let l = c.loop-j in
     let a = c.args in
-    let e = no_views (marked a.marks.now) a.constants a.code.now l.i (omega arith) in
-    (sym (l.invariant.3 ∙ ap (sets l.out l.at) e), omega (arith, ap length (no_lines a.constants a.code.now l.i (omega arith))))
+    none_left (views_end a.constants a.code.now l.j (marked a.marks.now) (omega arith)) l.invariant

@@ -1,33 +1,26 @@
-use mathlib.Core.Path.{sym, ap, ◌∙◌}
-use Prim.Native.Nat.{◌≤◌}
 use native.Mathlib.Omega.{arith}
-use lib.ListN.{length}
-use lib.Seq.{sets}
-use Rattle.print.proofs.Operands.{next_length, next_put, last}
+use mathlib.Core.List.{◌∷◌}
+use Prim.Native.Nat.{◌+◌}
+use lib.ListN.{take, drop, get_or}
+use Rattle.print.specs.Inner.Listing.{value_text, values_text}
+use Rattle.print.proofs.Operands.{value_turn, values_end}
+use Rattle.print.proofs.Written.{none_left, room_left, less_left}
 use Rattle.print.proofs.listing.put_values.Goals as goal
 
-pub put_next-e-requires : goal.put_next-e-requires
-put_next-e-requires c =
-    let l = c.loop-j in
-    let v = c.args.s in
-    omega (arith, next_length v.n v.values l.j (omega (arith, c.requires.0)) (omega arith), c.requires.1)
+pub put_next-requires : goal.put_next-requires
+put_next-requires c =
+    let l = c.loop-v in
+    let s = c.args.s in
+    room_left (44 ∷ value_text (get_or (take s.n s.values) l.v-index 0)) (values_text (drop (l.v-index + 1) (take s.n s.values))) (value_turn (take s.n s.values) l.v-index (omega arith)) l.invariant c.requires.1
 
-pub loop-j-preserved : goal.loop-j-preserved
-loop-j-preserved c =
-    let p = c.put_next-e in
-    let l = c.loop-j in
-    let v = c.args.s in
-    let h : v.n ≤ length v.values = omega (arith, c.requires.0) in
-    let n = next_length v.n v.values l.j h (omega arith) in (
-      omega arith,
-      omega (arith, p.auto.out),
-      omega (arith, n, p.ensures.1),
-      l.invariant.3 ∙ next_put v.n v.values l.j h (omega arith) l.out _ l.e _ p.ensures.0 p.ensures.1,
-    )
+pub loop-v-preserved : goal.loop-v-preserved
+loop-v-preserved c =
+    let l = c.loop-v in
+    let s = c.args.s in
+    less_left (44 ∷ value_text (get_or (take s.n s.values) l.v-index 0)) (values_text (drop (l.v-index + 1) (take s.n s.values))) (value_turn (take s.n s.values) l.v-index (omega arith)) l.invariant c.put_next.ensures
 
 pub returns : goal.returns
 returns c =
-    let l = c.loop-j in
-    let v = c.args.s in
-    let e = last v.n v.values l.j (omega (arith, c.requires.0)) (omega arith) in
-    (sym (l.invariant.3 ∙ ap (sets l.out l.e) e), omega (arith, ap length e))
+    let l = c.loop-v in
+    let s = c.args.s in
+    none_left (values_end (take s.n s.values) l.v-index (omega arith)) l.invariant

@@ -1,14 +1,7 @@
-use mathlib.Core.Path.{◌≡◌}
-use Prim.Native.Nat.{◌+◌, ◌-◌, ◌≤◌}
-use lib.ListN.{length}
-use lib.Seq.{sets}
-use Rattle.print.proofs.Operands.{rest}
+use lib.ListN.{drop}
+use Rattle.print.specs.Inner.Listing.{values_text}
+use Rattle.print.proofs.Written.{Left}
 use Rattle.print.proofs.listing.put_values.Given as goal
 
-abbrev pub invariant-loop-j : goal.invariant-loop-j
-invariant-loop-j l =
-    (l.j ≤ l.n) × (length l.out ≡ length l.initial.out) × (l.e + length (rest l.n l.values l.j) ≡ l.at + length (rest l.n l.values 0))
-    × (sets l.initial.out l.at (rest l.n l.values 0) ≡ sets l.out l.e (rest l.n l.values l.j))
-
-abbrev pub decreases-loop-j : goal.decreases-loop-j
-decreases-loop-j l = l.n - l.j
+abbrev pub invariant-loop-v : goal.invariant-loop-v
+invariant-loop-v l = Left (values_text l.v-items) (values_text (drop l.v-index l.v-items)) l.initial.w l.w

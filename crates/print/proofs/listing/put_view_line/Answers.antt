@@ -2,6 +2,7 @@ use mathlib.Core.Path.{sym, ◌∙◌}
 use native.Mathlib.Omega.{arith}
 use Rattle.print.specs.Listing.{marked}
 use Rattle.print.proofs.Listings.{view_hidden, view_shown, hidden_length}
+use Rattle.print.proofs.Written.{same}
 use Rattle.print.proofs.listing.put_view_line.Goals as goal
 
 pub put_hidden-requires : goal.put_hidden-requires
@@ -11,14 +12,10 @@ put_hidden-requires c =
 
 pub returns-then-is_hidden : goal.returns-then-is_hidden
 returns-then-is_hidden c =
-    let p = c.put_hidden in
     let a = c.args in
-    let e = sym c.is_hidden.ensures ∙ c.if-is_hidden.true in
-    (rw (view_hidden (marked a.marks.now) a.constants a.offset a.word e) p.ensures.0, omega (arith, p.ensures.1, hidden_length (marked a.marks.now) a.constants a.offset a.word e))
+    same (sym (view_hidden (marked a.marks.now) a.constants a.offset a.word (sym c.is_hidden.ensures ∙ c.if-is_hidden.true))) c.put_hidden.ensures
 
 pub returns : goal.returns
 returns c =
-    let p = c.put_line in
     let a = c.args in
-    let e = sym c.is_hidden.ensures ∙ c.if-is_hidden.false in
-    (rw (view_shown (marked a.marks.now) a.constants a.offset a.word e) p.ensures.0, p.ensures.1)
+    same (sym (view_shown (marked a.marks.now) a.constants a.offset a.word (sym c.is_hidden.ensures ∙ c.if-is_hidden.false))) c.put_line.ensures

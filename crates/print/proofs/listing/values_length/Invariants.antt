@@ -1,11 +1,8 @@
 use mathlib.Core.Path.{◌≡◌}
-use Prim.Native.Nat.{◌+◌, ◌*◌, ◌-◌, ◌≤◌}
-use lib.ListN.{length}
-use Rattle.print.proofs.Operands.{rest}
+use Prim.Native.Nat.{◌+◌, ◌*◌, ◌≤◌}
+use lib.ListN.{length, drop}
+use Rattle.print.specs.Inner.Listing.{values_text}
 use Rattle.print.proofs.listing.values_length.Given as goal
 
-abbrev pub invariant-loop-j : goal.invariant-loop-j
-invariant-loop-j l = (l.j ≤ l.n) × (l.k + length (rest l.n l.values l.j) ≡ length (rest l.n l.values 0)) × (l.k ≤ 22 * l.j)
-
-abbrev pub decreases-loop-j : goal.decreases-loop-j
-decreases-loop-j l = l.n - l.j
+abbrev pub invariant-loop-v : goal.invariant-loop-v
+invariant-loop-v l = (l.k + length (values_text (drop l.v-index l.v-items)) ≡ length (values_text l.v-items)) × (l.k ≤ 22 * l.v-index)

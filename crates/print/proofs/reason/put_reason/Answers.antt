@@ -1,46 +1,45 @@
+use mathlib.Core.Path.{sym, ◌∙◌}
 use mathlib.Core.List.{List, [], ◌∷◌, ◌++◌}
-use Prim.Native.Nat.{ℕ, ◌+◌}
+use Prim.Native.Nat.{ℕ}
 use native.Mathlib.Omega.{arith}
-use borrow.Author.Tests.{lt-leb, le-leb}
-use lib.ListN.{length}
+use borrow.Author.Rules.{rules}
 use Rattle.print.specs.Reason.{reason_front}
-use Rattle.print.proofs.Sentences.{length_front, length_reason, reason_put}
-use Rattle.print.proofs.Fitting.{too_long, fits}
+use Rattle.print.proofs.Fitting.{room_for, put_whole}
+use Rattle.print.proofs.Sentences.{length_front, length_reason}
+use Rattle.print.proofs.Written.{behind}
 use Rattle.print.proofs.reason.put_reason.Goals as goal
 
 -- the whole text
 abbrev whole : (number line : ℕ) → List ℕ → List ℕ
 whole number line t = reason_front number line ++ (t ++ (10 ∷ []))
 
-pub returns-then-out-k : goal.returns-then-out-k
-returns-then-out-k c =
+pub returns-in_err-k : goal.returns-in_err-k
+returns-in_err-k c =
     let a = c.args in
-    let t = whole a.number a.line a.text.now in
-    too_long t 0 a.out.now (lt-leb (0 + length t) (length a.out.now) (omega (arith, length_reason a.number a.line a.text.now)))
+    let e = c.room.ensures (whole a.number a.line a.text.now) (omega (arith, length_reason a.number a.line a.text.now, c.decimal_length.ensures.0, c.decimal_length-2.ensures.0)) in
+    search rules
 
-pub put_front-e-requires : goal.put_front-e-requires
-put_front-e-requires c =
+pub put_front-requires : goal.put_front-requires
+put_front-requires c =
     let a = c.args in
-    omega (arith, length_front a.number a.line)
+    let e = c.room.ensures (whole a.number a.line a.text.now) (omega (arith, length_reason a.number a.line a.text.now, c.decimal_length.ensures.0, c.decimal_length-2.ensures.0)) in
+    omega (arith, room_for (whole a.number a.line a.text.now) 0 a.out.now (sym e ∙ c.in_ok-k.was), length_reason a.number a.line a.text.now, length_front a.number a.line)
 
-pub put_bytes-requires : goal.put_bytes-requires
-put_bytes-requires c =
+pub bytes-requires : goal.bytes-requires
+bytes-requires c =
     let a = c.args in
-    omega (arith, length_front a.number a.line)
+    let e = c.room.ensures (whole a.number a.line a.text.now) (omega (arith, length_reason a.number a.line a.text.now, c.decimal_length.ensures.0, c.decimal_length-2.ensures.0)) in
+    omega (arith, room_for (whole a.number a.line a.text.now) 0 a.out.now (sym e ∙ c.in_ok-k.was), length_reason a.number a.line a.text.now, length_front a.number a.line, c.put_front.ensures.at, c.put_front.ensures.as_long)
 
-pub overflow_add-out : goal.overflow_add-out
-overflow_add-out c =
+pub byte-requires : goal.byte-requires
+byte-requires c =
     let a = c.args in
-    omega (arith, length_front a.number a.line)
-
-pub bounds-out-e : goal.bounds-out-e
-bounds-out-e c =
-    let a = c.args in
-    omega (arith, length_front a.number a.line)
+    let e = c.room.ensures (whole a.number a.line a.text.now) (omega (arith, length_reason a.number a.line a.text.now, c.decimal_length.ensures.0, c.decimal_length-2.ensures.0)) in
+    omega (arith, room_for (whole a.number a.line a.text.now) 0 a.out.now (sym e ∙ c.in_ok-k.was), length_reason a.number a.line a.text.now, length_front a.number a.line, c.put_front.ensures.at, c.put_front.ensures.as_long, c.bytes.ensures.at, c.bytes.ensures.as_long)
 
 pub returns : goal.returns
 returns c =
     let a = c.args in
-    let t = whole a.number a.line a.text.now in
-    let h = length_reason a.number a.line a.text.now in
-    fits t 0 a.out.now _ _ (le-leb (0 + length t) (length a.out.now) (omega (arith, h))) (omega (arith, h)) (reason_put a.out.now _ _ a.text.now c.put_front-e.result a.number a.line c.put_front-e.ensures.0 c.put_front-e.ensures.1 c.put_bytes.ensures)
+    let e = c.room.ensures (whole a.number a.line a.text.now) (omega (arith, length_reason a.number a.line a.text.now, c.decimal_length.ensures.0, c.decimal_length-2.ensures.0)) in
+    let p = put_whole (sym e ∙ c.in_ok-k.was) (behind c.put_front.ensures (behind c.bytes.ensures c.byte.ensures)) in
+    (p.0, let q = p.1 in search rules)
