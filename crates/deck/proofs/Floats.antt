@@ -1,19 +1,19 @@
 -- A whole number of magnitude at most 2^53 as an i64 and as a float.
 use mathlib.Core.Path.{◌≡◌, sym, ap, subst, ◌∙◌}
 use mathlib.Core.Bool.{Bool, true, false}
-use Prim.Native.Nat.{ℕ, zero, suc, ◌<◌, ◌≤◌}
+use Prim.Native.Nat.{ℕ, zero, suc, ◌≤◌}
 use native.Mathlib.Omega.{arith}
-use borrow.Author.Tests.{lt-ltb, le-leb, le-ltb}
+use borrow.Author.Tests.{lt-ltb, le-leb}
 use lib.Dec.{T}
 use lib.Ieee.{in_float, of_int, binary64}
 use lib.IntN.{ℤ, pos, neg_ℤ, ◌-ℤ◌, +ℤ_idl}
 use mir.Syntax.{w64}
 use mir.Val.{SFits, of_z, to_z}
 use mir.ValLaws.{to_z-of_z}
-use Rattle.refusal.specs.Answer.{accepted, refused}
+use Rattle.refusal.specs.Answer.{accepted}
 use Rattle.ast.specs.declared.Constant.TheVariants as Constant
 use Rattle.text.specs.declared.Number.{Number}
-use Rattle.text.specs.declared.Number.TheVariants.{Value, TooBig}
+use Rattle.text.specs.declared.Number.TheVariants.{Value}
 use Rattle.form.specs.declared.Form.TheVariants as Form
 use Rattle.deck.specs.Judge.{constant}
 use Rattle.deck.specs.Inner.Forms.{form_judged}
@@ -55,11 +55,3 @@ module _ (v : ℕ) (h : v ≤ 9007199254740992) where
     pub negated_is : m ≡ true → accepted (constant (Constant.Float (of_int binary64 (to_z w64 (of_z w64 (pos 0 -ℤ to_z w64 v)))))) ≡ form_judged (Form.Float m n)
     unfolding form_judged
     negated_is g = rw (e, g, lt-ltb v 9007199254740993 (omega arith), back)
-
-pub too_big : (m : Bool) (n : Number) → n ≡ TooBig → refused 2 0 ≡ form_judged (Form.Float m n)
-unfolding form_judged
-too_big m n e = rw e
-
-pub too_great : (m : Bool) (n : Number) (v : ℕ) → n ≡ Value v → 9007199254740992 < v → refused 2 0 ≡ form_judged (Form.Float m n)
-unfolding form_judged
-too_great m n v e h = rw (e, le-ltb v 9007199254740993 h)

@@ -11,6 +11,9 @@ use lib.Dec.{ltb, leb}
 use lib.IntN.{ℤ, pos, negsuc, nat_abs}
 use Rattle.base.proofs.Bools.{both, and_true}
 use Rattle.refusal.specs.Answer.{Answer, accepted, refused}
+use Rattle.std.specs.Prelude as rust
+use Rattle.std.specs.Prelude.{Some, None}
+use Rattle.refusal.specs.Number.{number_of}
 use Rattle.refusal.specs.declared.Refusal.{Refusal}
 use Rattle.ast.specs.Count.{cells}
 use Rattle.ast.specs.Counts.{frame_holds, prologue_holds, result_holds, epilogue_holds, cap_holds, counts_hold}
@@ -20,6 +23,7 @@ use Rattle.ast.specs.declared.Frame.TheVariants.{Fast, Indirect}
 use Rattle.ast.specs.declared.Head.{Head}
 use Rattle.ast.specs.declared.Order.{Order}
 use Rattle.text.specs.Readers.{sized}
+use Rattle.text.specs.declared.Number.{Number}
 use Rattle.text.specs.declared.Number.TheVariants.{Value, TooBig}
 use Rattle.form.specs.Text.{DeckLine}
 use Rattle.form.specs.Text as Text
@@ -28,8 +32,6 @@ use Rattle.form.specs.Form.{is_negative, cut, formed, form_of}
 use Rattle.form.specs.declared.Form.{Form}
 use Rattle.deck.specs.Judge.{Content, head, demand, judged, is_head, line_judged}
 use Rattle.deck.specs.Inner.Forms.{below, value, register, signed, head_of, form_judged, form_is_head}
-use Rattle.deck.specs.Inner.Parts.{are_below}
-use Rattle.deck.proofs.Ranges.{grouped}
 
 -- ---- numbers below a bound
 
@@ -128,6 +130,16 @@ order_law (Order.SetLabel l) = label_demand l (λ w. rw w)
 
 -- ---- line 1
 
+-- four numbers below one bound
+abbrev are_below : ℕ → (a b c d : Number) → Bool
+are_below k a b c d = below k a && (below k b && (below k c && below k d))
+
+grouped : (p q r s t : Bool) → p && (q && (r && (s && t))) ≡ (p && (q && (r && s))) && t
+grouped true true true s t = refl
+grouped true true false s t = refl
+grouped true false r s t = refl
+grouped false q r s t = refl
+
 -- counts that hold are at most 4,096 each
 module _ (H : Head) (e : counts_hold H ≡ true) where
   holds : epilogue_holds H ≡ true
@@ -225,21 +237,24 @@ same_kind (Text.float z) = refl
 same_kind (Text.bits n) = refl
 
 -- a file's line by its form
-unfoldable pub form_line_judged : (first : Bool) → Form → Answer Content
-form_line_judged first f = demand (beq (form_is_head f) first) Refusal.Line (form_judged f)
-
-malformed : (t : Bool) → demand t Refusal.Line (refused 12 0) ≡ refused 12 0
-malformed true = refl
-malformed false = refl
+unfoldable pub form_line_judged : (first : Bool) → rust.Option Form → Answer Content
+form_line_judged first None = refused (number_of Refusal.Line) 0
+form_line_judged first (Some f) = demand (beq (form_is_head f) first) Refusal.Line (form_judged f)
 
 pub formed_law : (first : Bool) (o : Option DeckLine) → form_line_judged first (formed o) ≡ line_judged first o
-unfolding form_line_judged line_judged form_judged
-formed_law first none = malformed (beq false first)
+unfolding form_line_judged line_judged
+formed_law first none = refl
 formed_law first (some l) = rw (same_kind l, form_law l)
 
 pub line_law : (first : Bool) (s : List ℕ) → form_line_judged first (form_of s) ≡ line_judged first (said s)
 unfolding form_of
 line_law first s = formed_law first (said s)
 
-pub by_form : (first : Bool) (s : List ℕ) {a : Answer Content} → a ≡ form_line_judged first (form_of s) → a ≡ line_judged first (said s)
-by_form first s e = e ∙ line_law first s
+module _ (first : Bool) (s : List ℕ) where
+  pub no_form : form_of s ≡ None → line_judged first (said s) ≡ refused (number_of Refusal.Line) 0
+  unfolding form_line_judged
+  no_form e = sym (line_law first s) ∙ rw e
+
+  pub has_form : (f : Form) → form_of s ≡ Some f → line_judged first (said s) ≡ demand (beq (form_is_head f) first) Refusal.Line (form_judged f)
+  unfolding form_line_judged
+  has_form f e = sym (line_law first s) ∙ rw e

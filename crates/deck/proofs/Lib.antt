@@ -1,3 +1,2 @@
-mod Ranges
 mod Floats
 pub mod Forms

@@ -1,5 +1,5 @@
 -- Document 01, "Numbers of refusal": what a line says, if its numbers are in their ranges. Its refusals, in order: 12, 1, 3, 2, 9.
-use Rattle.std.specs.Prelude.{Bool, true, false, ◌^◌, ltb, leb, nat_abs}
+use Rattle.std.specs.Prelude.{Bool, true, false, ◌^◌, ltb, leb, nat_abs, Result, Ok, Err}
 use Rattle.std.specs.Bool.{beq}
 use Rattle.std.proofs.Math.Option.{Option, some, none}
 use Rattle.std.specs.Float.Ieee.{of_int}
@@ -7,7 +7,8 @@ use Rattle.std.specs.Float.{binary64}
 use Rattle.refusal.specs.Answer.{Answer, accepted, refused}
 use Rattle.refusal.specs.Number.{number_of}
 use Rattle.refusal.specs.declared.Refusal.{Refusal}
-use Rattle.refusal.specs.declared.Refusal.TheVariants.{Register, Value, Label, Count, Line}
+use Rattle.refusal.specs.declared.Refusal.TheVariants.{Register, Value, Label, Count}
+use Rattle.refusal.specs.declared.Refusal.TheVariants as Why
 use Rattle.ast.specs.Constant.{constant_limit}
 use Rattle.ast.specs.Counts.{count_limit, counts_hold}
 use Rattle.ast.specs.Uses.{uses, registers_fit}
@@ -17,7 +18,7 @@ use Rattle.ast.specs.declared.Operand.{Operand}
 use Rattle.ast.specs.declared.Constant.{Constant}
 use Rattle.form.specs.Text.{DeckLine}
 use Rattle.form.specs.Text as Text
-use Rattle.deck.specs.declared.Judged.{Judged}
+use Rattle.deck.specs.declared.Line.{Line}
 
 -- what an accepted line says
 pub data Content : Type 0 where
@@ -53,13 +54,16 @@ is_head (Text.bits n) = false
 
 -- What a file's line says: it is the text of a line, line 1 of a head, and no other line of a head.
 unfoldable pub line_judged : (first : Bool) → Option DeckLine → Answer Content
-line_judged first none = refused (number_of Line) 0
-line_judged first (some l) = demand (beq (is_head l) first) Line (judged l)
+line_judged first none = refused (number_of Why.Line) 0
+line_judged first (some l) = demand (beq (is_head l) first) Why.Line (judged l)
 
 -- ---- as the code has it
 
-abbrev pub line_answer : Judged → Answer Content
-line_answer (Judged.Head h) = accepted (head h)
-line_answer (Judged.Order o) = accepted (order o)
-line_answer (Judged.Constant c) = accepted (constant c)
-line_answer (Judged.Refused r) = refused (number_of r) 0
+abbrev pub content : Line → Content
+content (Line.Head h) = head h
+content (Line.Order o) = order o
+content (Line.Constant c) = constant c
+
+abbrev pub line_answer : Result Line Refusal → Answer Content
+line_answer (Ok l) = accepted (content l)
+line_answer (Err r) = refused (number_of r) 0

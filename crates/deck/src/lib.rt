@@ -1,237 +1,166 @@
 // Document 01, "The deck file" and "Numbers of refusal": what a line says, or why it is refused.
 #![tactic(auto)]
 
-ghost use Rattle.std.specs.Prelude.{◌≡◌};
-ghost use Rattle.refusal.specs.Answer.{accepted};
-ghost use Rattle.refusal.specs.declared.Refusal.TheVariants.{Register, Count};
+ghost use Rattle.std.specs.Prelude.{◌≡◌, ◌^◌, ◌≤◌};
+ghost use Rattle.refusal.specs.declared.Refusal.TheVariants.{Register, Label, Count};
 ghost use Rattle.form.specs.Grammar.{said};
-ghost use Rattle.deck.specs.Judge.{order, line_answer, demand, line_judged};
-ghost use Rattle.deck.specs.Inner.Forms.{below, register, form_judged, form_is_head};
-ghost use Rattle.deck.specs.Inner.Parts.{are_below, truncated};
+ghost use Rattle.deck.specs.Judge.{line_answer, line_judged};
+ghost use Rattle.deck.specs.Inner.Forms.{form_judged, form_is_head};
+ghost use Rattle.deck.specs.Inner.Parts.{Bounds};
 
 use ast::{Constant, Frame, Head, Order};
 use form::Form;
 use refusal::Refusal;
 use text::Number;
 
+// What an accepted line says.
 #[derive(Clone, Copy)]
-pub enum Judged {
+pub enum Line {
     Head(Head),
     Order(Order),
     Constant(Constant),
-    Refused(Refusal),
 }
 
-// A number below a bound.
-fn is_below(n: Number, bound: u64) -> bool
-    ensures { result ≡ below bound n }
+// ---- numbers below their bounds
+
+fn below(n: Number, bound: u64, why: Refusal) -> Result<u32, Refusal>
+    requires { bound ≤ 2 ^ 32 }
+    ensures { Bounds bound why n result }
 {
     match n {
-        Number::Value(v) => v < bound,
-        Number::TooBig => false,
+        Number::Value(v) if v < bound => Ok(v as u32),
+        Number::Value(_) => Err(why),
+        Number::TooBig => Err(why),
     }
 }
 
-// Four numbers below one bound.
-fn are_below(a: Number, b: Number, c: Number, d: Number, bound: u64) -> bool
-    ensures { result ≡ are_below bound a b c d }
+fn register(n: Number) -> Result<u32, Refusal>
+    ensures { Bounds 32 Register n result }
 {
-    if is_below(a, bound) {
-        if is_below(b, bound) {
-            if is_below(c, bound) {
-                return is_below(d, bound);
-            }
-        }
-    }
-    false
+    below(n, 32, Refusal::Register)
 }
 
-// A number's lowest 32 bits: the number, where it is below a bound.
-fn truncate(n: Number) -> u32
-    ensures { result ≡ truncated n }
+// The index of a cell.
+fn index(n: Number) -> Result<u32, Refusal>
+    ensures { Bounds 4096 Count n result }
 {
-    match n {
-        Number::Value(v) => (v % 0x100000000) as u32,
-        Number::TooBig => 0,
-    }
+    below(n, 4096, Refusal::Count)
 }
 
-// ---- the head
+fn constant_index(n: Number) -> Result<u32, Refusal>
+    ensures { Bounds 1008 Count n result }
+{
+    below(n, 1008, Refusal::Count)
+}
 
+// A user's label.
+fn label(n: Number) -> Result<u32, Refusal>
+    ensures { Bounds 1024 Label n result }
+{
+    below(n, 1024, Refusal::Label)
+}
+
+fn count(n: Number) -> Result<u32, Refusal>
+    ensures { Bounds 4097 Count n result }
+{
+    below(n, 4097, Refusal::Count)
+}
+
+// ---- lines
+
+#[tactic(auto, unfolding(crate::specs::Inner::Forms::form_judged))]
 fn judge_head(
-    f: Frame,
+    frame: Frame,
     cap: Number,
     states: Number,
     obs: Number,
     last: Number,
     mask: Number,
-) -> Judged
-    ensures { line_answer result ≡ form_judged (Form.Head f cap states obs last mask) }
+) -> Result<Line, Refusal>
+    ensures { line_answer result ≡ form_judged (Form.Head frame cap states obs last mask) }
 {
-    if !is_below(mask, 0x100000000) {
-        return Judged::Refused(Refusal::Value);
-    }
-    if !are_below(cap, states, obs, last, 4097) {
-        return Judged::Refused(Refusal::Count);
-    }
+    let mask = below(mask, 0x100000000, Refusal::Value)?;
     let h = Head {
-        frame: f,
-        cap: truncate(cap),
-        states: truncate(states),
-        obs: truncate(obs),
-        last: truncate(last),
-        mask: truncate(mask),
+        frame,
+        cap: count(cap)?,
+        states: count(states)?,
+        obs: count(obs)?,
+        last: count(last)?,
+        mask,
     };
     if ast::counts_hold(h) {
-        Judged::Head(h)
+        Ok(Line::Head(h))
     } else {
-        Judged::Refused(Refusal::Count)
+        Err(Refusal::Count)
     }
-}
-
-// ---- orders
-
-// An order of up to four registers; 0 stands for one that it does not have.
-fn of_registers(o: Order, a: Number, b: Number, c: Number, d: Number) -> Judged
-    ensures { line_answer result ≡ demand (are_below 32 a b c d) Register (accepted (order o)) }
-{
-    if are_below(a, b, c, d, 32) {
-        Judged::Order(o)
-    } else {
-        Judged::Refused(Refusal::Register)
-    }
-}
-
-// An order whose last field has a bound of its own.
-fn with_last(o: Order, registers: bool, last: Number, bound: u64, why: Refusal) -> Judged
-    ensures { line_answer result ≡ demand registers Register (demand (below bound last) why (accepted (order o))) }
-{
-    if !registers {
-        return Judged::Refused(Refusal::Register);
-    }
-    if is_below(last, bound) {
-        Judged::Order(o)
-    } else {
-        Judged::Refused(why)
-    }
-}
-
-// An order of a register and an index.
-fn indexed(o: Order, d: Number, i: Number, bound: u64) -> Judged
-    ensures { line_answer result ≡ demand (register d) Register (demand (below bound i) Count (accepted (order o))) }
-{
-    with_last(o, is_below(d, 32), i, bound, Refusal::Count)
 }
 
 // A whole number of magnitude at most 2^53, as a float.
-fn judge_float(minus: bool, n: Number) -> Judged
+#[tactic(auto, unfolding(crate::specs::Inner::Forms::form_judged))]
+fn judge_float(minus: bool, n: Number) -> Result<Line, Refusal>
     ensures { line_answer result ≡ form_judged (Form.Float minus n) }
 {
     let Number::Value(v) = n else {
-        return Judged::Refused(Refusal::Value);
+        return Err(Refusal::Value);
     };
     if v > 9007199254740992 {
-        return Judged::Refused(Refusal::Value);
+        return Err(Refusal::Value);
     }
-    if minus {
-        return Judged::Constant(Constant::Float((-(v as i64)) as f64));
-    }
-    Judged::Constant(Constant::Float((v as i64) as f64))
+    let x = if minus {
+        -(v as i64) as f64
+    } else {
+        v as i64 as f64
+    };
+    Ok(Line::Constant(Constant::Float(x)))
 }
 
 // What a form says, or its refusal.
-pub fn judge(form: Form) -> Judged
+#[tactic(auto, unfolding(crate::specs::Inner::Forms::form_judged))]
+pub fn judge(form: Form) -> Result<Line, Refusal>
     ensures { line_answer result ≡ form_judged form }
 {
-    let no = Number::Value(0);
-    match form {
-        Form::Head(f, c, s, o, l, m) => judge_head(f, c, s, o, l, m),
-        Form::Unary(u, d, s) => of_registers(
-            Order::Unary(u, truncate(d), truncate(s)),
-            no,
-            no,
-            d,
-            s,
+    let order = match form {
+        Form::Head(f, c, s, o, l, m) => return judge_head(f, c, s, o, l, m),
+        Form::Unary(u, d, s) => Order::Unary(u, register(d)?, register(s)?),
+        Form::Scratched(u, d, s, t) => Order::Scratched(
+            u,
+            register(d)?,
+            register(s)?,
+            register(t)?,
         ),
-        Form::Scratched(u, d, s, t) => {
-            of_registers(
-                Order::Scratched(u, truncate(d), truncate(s), truncate(t)),
-                no,
-                d,
-                s,
-                t,
-            )
+        Form::Binary(u, d, a, b) => Order::Binary(u, register(d)?, register(a)?, register(b)?),
+        Form::Fused(u, d, a, b, c) => {
+            Order::Fused(u, register(d)?, register(a)?, register(b)?, register(c)?)
         }
-        Form::Binary(u, d, s, t) => {
-            of_registers(
-                Order::Binary(u, truncate(d), truncate(s), truncate(t)),
-                no,
-                d,
-                s,
-                t,
-            )
+        Form::Ifelse(d, a, b, i) => {
+            Order::Ifelse(register(d)?, register(a)?, register(b)?, index(i)?)
         }
-        Form::Fused(u, d, s, t, v) => {
-            of_registers(
-                Order::Fused(u, truncate(d), truncate(s), truncate(t), truncate(v)),
-                d,
-                s,
-                t,
-                v,
-            )
-        }
-        Form::Ifelse(d, s, t, i) => {
-            let o = Order::Ifelse(truncate(d), truncate(s), truncate(t), truncate(i));
-            with_last(o, are_below(no, d, s, t, 32), i, 4096, Refusal::Count)
-        }
-        Form::LoadConst(d, k) => indexed(Order::LoadConst(truncate(d), truncate(k)), d, k, 1008),
-        Form::Load(d, p, i) => indexed(Order::Load(truncate(d), p, truncate(i)), d, i, 4096),
-        Form::Save(s, p, i) => indexed(Order::Save(truncate(s), p, truncate(i)), s, i, 4096),
-        Form::BranchIf(c, l, e) => {
-            let o = Order::BranchIf(truncate(c), truncate(l), e);
-            with_last(o, is_below(c, 32), l, 1024, Refusal::Label)
-        }
-        Form::SetLabel(l) => with_last(Order::SetLabel(truncate(l)), true, l, 1024, Refusal::Label),
-        Form::Float(minus, n) => judge_float(minus, n),
-        Form::Bits(n) => Judged::Constant(Constant::Bits(n)),
-        Form::Malformed => Judged::Refused(Refusal::Line),
-    }
+        Form::LoadConst(d, k) => Order::LoadConst(register(d)?, constant_index(k)?),
+        Form::Load(d, p, i) => Order::Load(register(d)?, p, index(i)?),
+        Form::Save(s, p, i) => Order::Save(register(s)?, p, index(i)?),
+        Form::BranchIf(c, l, e) => Order::BranchIf(register(c)?, label(l)?, e),
+        Form::SetLabel(l) => Order::SetLabel(label(l)?),
+        Form::Float(minus, n) => return judge_float(minus, n),
+        Form::Bits(n) => return Ok(Line::Constant(Constant::Bits(n))),
+    };
+    Ok(Line::Order(order))
 }
 
 fn is_head(form: Form) -> bool
     ensures { result ≡ form_is_head form }
 {
-    match form {
-        Form::Head(_, _, _, _, _, _) => true,
-        Form::Unary(_, _, _) => false,
-        Form::Scratched(_, _, _, _) => false,
-        Form::Binary(_, _, _, _) => false,
-        Form::Fused(_, _, _, _, _) => false,
-        Form::Ifelse(_, _, _, _) => false,
-        Form::LoadConst(_, _) => false,
-        Form::Load(_, _, _) => false,
-        Form::Save(_, _, _) => false,
-        Form::BranchIf(_, _, _) => false,
-        Form::SetLabel(_) => false,
-        Form::Float(_, _) => false,
-        Form::Bits(_) => false,
-        Form::Malformed => false,
-    }
+    matches!(form, Form::Head(..))
 }
 
 // A line of a file, with its byte 10. The first is a head, and no other is.
-pub fn read_line(first: bool, line: &[u8]) -> Judged
+#[tactic(auto, using(crate::proofs::Forms::no_form, crate::proofs::Forms::has_form))]
+pub fn read_line(first: bool, line: &[u8]) -> Result<Line, Refusal>
     ensures { line_answer result ≡ line_judged first (said line.now) }
 {
-    let form = form::read_form(line);
-    if is_head(form) {
-        if first {
-            return judge(form);
-        }
-        return Judged::Refused(Refusal::Line);
+    let form = form::read_form(line).ok_or(Refusal::Line)?;
+    if is_head(form) == first {
+        judge(form)
+    } else {
+        Err(Refusal::Line)
     }
-    if first {
-        return Judged::Refused(Refusal::Line);
-    }
-    judge(form)
 }

@@ -31,7 +31,10 @@ use Rattle.deck.specs.Judge.{Content, head, order, constant, demand, operand_jud
 use Rattle.fast.specs.Inner.Fast.{only_order, order_said}
 use Rattle.form.specs.Inner.Names.{unary_number, scratched_number, binary_number, fused_number, unary_at, scratched_at, binary_at, fused_at}
 use Rattle.form.proofs.Names.{unary_back, scratched_back, binary_back, fused_back}
-use Rattle.fast.specs.Inner.Packed.{place_number, flag_number, place_at, below, pack, no_order, number, order_at, unpacked}
+use Rattle.std.specs.Prelude as rust
+use Rattle.std.specs.Prelude.{Some, None}
+use Rattle.text.specs.Readers.{as_option}
+use Rattle.fast.specs.Inner.Packed.{place_number, flag_number, place_at, below, pack, order_at, unpacked}
 
 -- ---- by shapes
 
@@ -170,19 +173,6 @@ unpack_pack (SetLabel l) h =
     is_label (pack (SetLabel l)) (omega (arith, shape_is 9 0 l (omega arith) (omega arith)))
     ∙ rw (operands_are 9 0 l (omega arith) (omega arith), same_index l h)
 
-pub pack_small : (o : Order) → Fits o → pack o < no_order
-unfolding pack
-pack_small (Unary k d s) h = omega (arith, (unary_back k).0, h)
-pack_small (Scratched k d s t) h = omega (arith, (scratched_back k).0, h)
-pack_small (Binary k d a b) h = omega (arith, (binary_back k).0, h)
-pack_small (Fused k d a b c) h = omega (arith, (fused_back k).0, h)
-pack_small (Ifelse d a b i) h = omega (arith, h)
-pack_small (Load d p i) h = omega (arith, (place_back p).0, h)
-pack_small (Save s p i) h = omega (arith, (place_back p).0, h)
-pack_small (LoadConst d k) h = omega (arith, h)
-pack_small (BranchIf c l e) h = omega (arith, (flag_back e).0, h)
-pack_small (SetLabel l) h = omega (arith, h)
-
 -- ---- what a line says is such an order
 
 -- a demand that was met
@@ -249,21 +239,21 @@ said_fits l o e = by (said l) e
     by none e = absurd (none-ne-some o e)
     by (some m) e = line_fits m o (met (beq (is_head m) false) Refusal.Line (judged m) o e).1
 
--- the number of a line: that of the order that it says, or none's
-module _ (l : List ℕ) (q : ℕ) (e : q ≡ number (map pack (order_said l))) where
-  pub unsaid : no_order ≤ q → order_said l ≡ none
-  unsaid h = go (order_said l) refl e
+-- the number of a line: that of the order that it says, or none
+module _ (l : List ℕ) (q : rust.Option ℕ) (e : q ≡ as_option (map pack (order_said l))) where
+  pub unsaid : q ≡ None → order_said l ≡ none
+  unsaid h = go (order_said l) refl (sym e ∙ h)
     where
-      go : (o : Option Order) → order_said l ≡ o → q ≡ number (map pack o) → o ≡ none
+      go : (o : Option Order) → order_said l ≡ o → as_option (map pack o) ≡ None → o ≡ none
       go none g f = refl
-      go (some o) g f = absurd (omega (arith, f, pack_small o (said_fits l o g), h))
+      go (some o) g f = absurd (let z : ◌≡◌ {A = ℕ} 0 1 = cc in omega arith)
 
-  pub says_order : q < no_order → order_said l ≡ some (unpacked q)
-  says_order h = go (order_said l) refl e
+  pub says_order : (x : ℕ) → q ≡ Some x → order_said l ≡ some (unpacked x)
+  says_order x h = go (order_said l) refl (sym e ∙ h)
     where
-      go : (o : Option Order) → order_said l ≡ o → q ≡ number (map pack o) → o ≡ some (unpacked q)
-      go none g f = absurd (omega (arith, f, h))
-      go (some o) g f = ap some (rw f (sym (unpack_pack o (said_fits l o g))))
+      go : (o : Option Order) → order_said l ≡ o → as_option (map pack o) ≡ Some x → o ≡ some (unpacked x)
+      go none g f = absurd (let z : ◌≡◌ {A = ℕ} 0 1 = cc in omega arith)
+      go (some o) g f = let w : x ≡ pack o = cc in ap some (rw w (sym (unpack_pack o (said_fits l o g))))
 
 -- ---- orders of instructions alone, by their shapes
 

@@ -10,11 +10,13 @@ use borrow.Author.Tests.{eqb-true, lt-ltb, le-ltb, ltb-true, ltb-false, leb-true
 use lib.Dec.{eqb, ltb, leb}
 use lib.ListN.{length, take, drop, length-drop}
 use Rattle.base.proofs.Tested.{tested}
-use Rattle.text.specs.Inner.Short.{short_of, short, near_number, near}
-use Rattle.text.specs.declared.ShortField.{ShortField}
+use Rattle.std.specs.Prelude as rust
+use Rattle.std.specs.Prelude.{Some, None}
+use Rattle.std.proofs.lemmas.Option.{cond_some}
+use Rattle.text.specs.Inner.Short.{below as small, short_of, short, near_number, near}
 use Rattle.text.specs.Fields.{commas, onto as join_first}
-use Rattle.text.specs.Readers.{split, upto, field, fields_from, end_from}
-use Rattle.text.proofs.Answers.{field_is, next_is, no_field, first_field}
+use Rattle.text.specs.Readers.{as_option, split, upto, field, fields_from, end_from}
+use Rattle.text.proofs.Answers.{as_some, as_none, field_is, next_is, no_field, first_field}
 use Rattle.text.proofs.Joined.{join_split}
 use Rattle.text.proofs.Once.{end_is, first as first_at, part, upto_within}
 use Rattle.text.proofs.Short.{one_field, short_read, no_bytes}
@@ -23,10 +25,8 @@ use Rattle.form.specs.Inner.Syntax.{flag}
 use Rattle.form.specs.Text.{place_name}
 use Rattle.form.specs.Inner.Read.{first, all_places, read_values}
 use Rattle.form.specs.Inner.Parts.{only, placed, flagged}
-use Rattle.form.specs.declared.Where.TheVariants as Where
-use Rattle.form.specs.declared.Flag.TheVariants as Flag
-use Rattle.fast.specs.Inner.Packed.{place_number, flag_number, below, no_order, number, numbered}
-use Rattle.fast.specs.Inner.Fields.{bounded, onto, last, operands, numbers_packed, numeric, registers_of, bound_of, behind, with_place, cell, with_flag, branch, fields_packed}
+use Rattle.fast.specs.Inner.Packed.{place_number, flag_number, below}
+use Rattle.fast.specs.Inner.Fields.{bounded, register_read, onto, last, operands, numbers_packed, numeric, registers_of, bound_of, behind, with_place, cell, with_flag, branch, fields_packed}
 
 -- ---- the shapes, as the bits of a constant
 
@@ -107,30 +107,37 @@ module _ (t : List ℕ) (b x : ℕ) (e : x ≡ short_of t) (h : b ≤ 10000) whe
           rw (i, ← e)
       go (f ∷ g ∷ gs) k = two f g gs (ltb x 10000) refl k
 
-module _ (s : List ℕ) (a b : ℕ) where
-  module _ (x : ℕ) (h : a ≤ length s) (e : x ≡ short_of (take (length s - a) (drop a s))) (g : b ≤ 10000) where
-    last_is : operands 0 b (fields_from s a) ≡ bounded b x
-    unfolding operands fields_from
-    last_is = rw (le-ltb (length s) a h) (last_split (drop a s) b x (rw (part s a h) at e) g)
+few : (n x : ℕ) → small 10000 n ≡ Some x → x ≡ n
+few n x e = sym (cond_some (ltb n 10000) n x e).1
 
-    pub last_yes : x < b → x ≡ number (operands 0 b (fields_from s a))
-    last_yes l = rw (last_is, lt-ltb x b l)
+many : (n : ℕ) → small 10000 n ≡ None → 10000 ≤ n
+many n e = go (ltb n 10000) refl e
+  where
+    go : (t : Bool) → ltb n 10000 ≡ t → cond t (Some n) None ≡ None → 10000 ≤ n
+    go true h f = absurd (let z : ◌≡◌ {A = ℕ} 0 1 = cc in omega arith)
+    go false h f = ltb-false n 10000 h
 
-    pub last_no : b ≤ x → no_order ≡ number (operands 0 b (fields_from s a))
-    last_no l = rw (last_is, le-ltb x b l)
+module _ (s : List ℕ) (a b : ℕ) (h : a ≤ length s) (g : b ≤ 10000) where
+  abbrev its : ℕ
+  its = short_of (take (length s - a) (drop a s))
 
-pub last_below : (s : List ℕ) (a b z : ℕ) → operands 0 b (fields_from s a) ≡ some z → z < b
+  last_is : operands 0 b (fields_from s a) ≡ bounded b its
+  unfolding operands fields_from
+  last_is = rw (le-ltb (length s) a h) (last_split (drop a s) b its (rw (part s a h)) g)
+
+  pub last_none : small 10000 its ≡ None → None ≡ as_option (operands 0 b (fields_from s a))
+  last_none e = rw (last_is, bounded_no b its (omega (arith, many its e)))
+
+  module _ (x : ℕ) (e : small 10000 its ≡ Some x) where
+    pub last_yes : x < b → Some x ≡ as_option (operands 0 b (fields_from s a))
+    last_yes l = rw (last_is, ← (few its x e), lt-ltb x b l)
+
+    pub last_no : b ≤ x → None ≡ as_option (operands 0 b (fields_from s a))
+    last_no l = rw (last_is, ← (few its x e), le-ltb x b l)
+
+pub last_below : (s : List ℕ) (a b z : ℕ) → as_option (operands 0 b (fields_from s a)) ≡ Some z → z < b
 unfolding operands
-last_below s a b z e = last_small b (fields_from s a) z e
-
--- a number that is there, or none
-pub is_some : (o : Option ℕ) (y : ℕ) → y ≡ number o → y < no_order → o ≡ some y
-is_some none y e h = absurd (omega (arith, e, h))
-is_some (some z) y e h = ap some (sym e)
-
-pub is_none : (o : Option ℕ) (y : ℕ) → ((z : ℕ) → o ≡ some z → z < no_order) → y ≡ number o → no_order ≤ y → o ≡ none
-is_none none y f e h = refl
-is_none (some z) y f e h = absurd (omega (arith, e, f z refl))
+last_below s a b z e = last_small b (fields_from s a) z (as_some (operands 0 b (fields_from s a)) z e)
 
 -- ---- one field and those behind it
 
@@ -214,35 +221,65 @@ module _ (f : List (List ℕ) → Option ℕ) (p : f [] ≡ none) (q : (g : List
       go true true false eu ev ew g = first (omega (arith, ltb-false (short_of (field (drop a s))) 100 ew)) (leb-true (a + 3) (length s) eu)
       go true true true eu ev ew g = first g (leb-true (a + 3) (length s) eu)
 
+-- as `near_field` has it
+pub near_parts : (s : List ℕ) (a x e : ℕ) → near s a ≡ Some (x, e) → (x ≡ near_number s a) × (e ≡ end_from s a) × (near_number s a < 100)
+near_parts s a x e h =
+    let g = cond_some (ltb (near_number s a) 100) (near_number s a, end_from s a) (x, e) h in
+    (sym (ap (λ (p : ℕ × ℕ). p.0) g.1), sym (ap (λ (p : ℕ × ℕ). p.1) g.1), ltb-true (near_number s a) 100 g.0)
+
+pub near_within : (s : List ℕ) (a : ℕ) → near_number s a < 100 → (a + 3 ≤ length s) × (end_from s a < length s) × (near_number s a ≡ short_of (field (drop a s)))
+unfolding near_number
+near_within s a h = go (leb (a + 3) (length s)) (ltb (end_from s a) (length s)) (ltb (short_of (field (drop a s))) 100) refl refl h
+  where
+    go : (u v w : Bool) → leb (a + 3) (length s) ≡ u → ltb (end_from s a) (length s) ≡ v → cond (u && (v && w)) (short_of (field (drop a s))) 100 < 100
+        → (a + 3 ≤ length s) × (end_from s a < length s) × (cond (u && (v && w)) (short_of (field (drop a s))) 100 ≡ short_of (field (drop a s)))
+    go true true true eu ev g = (leb-true (a + 3) (length s) eu, ltb-true (end_from s a) (length s) ev, refl)
+    go true true false eu ev g = absurd (omega arith)
+    go true false w eu ev g = absurd (omega arith)
+    go false v w eu ev g = absurd (omega arith)
+
+pub far_number : (s : List ℕ) (a : ℕ) → near s a ≡ None → 100 ≤ near_number s a
+far_number s a e = go (ltb (near_number s a) 100) refl e
+  where
+    go : (t : Bool) → ltb (near_number s a) 100 ≡ t → cond {A = rust.Option (ℕ × ℕ)} t (Some (near_number s a, end_from s a)) None ≡ None → 100 ≤ near_number s a
+    go true h f = absurd (let z : ◌≡◌ {A = ℕ} 0 1 = cc in omega arith)
+    go false h f = ltb-false (near_number s a) 100 h
+
+-- no register
+pub not_register : (s : List ℕ) (a : ℕ) → register_read s a ≡ None → 32 ≤ near_number s a
+not_register s a e = go (ltb (near_number s a) 32) refl e
+  where
+    go : (t : Bool) → ltb (near_number s a) 32 ≡ t → cond {A = rust.Option (ℕ × ℕ)} t (Some (near_number s a, end_from s a + 1)) None ≡ None → 32 ≤ near_number s a
+    go true h f = absurd (let z : ◌≡◌ {A = ℕ} 0 1 = cc in omega arith)
+    go false h f = ltb-false (near_number s a) 32 h
+
 -- a register, and the fields behind it
-module _ (s : List ℕ) (a : ℕ) (n : ShortField) (en : n ≡ near s a) (h : n.number < 32) where
-  its_number : n.number ≡ near_number s a
-  its_number = ap (λ (x : ShortField). x.number) en
+module _ (s : List ℕ) (a x b : ℕ) (e : register_read s a ≡ Some (x, b)) where
+  parts : (ltb (near_number s a) 32 ≡ true) × (◌≡◌ {A = ℕ × ℕ} (near_number s a, end_from s a + 1) (x, b))
+  parts = cond_some (ltb (near_number s a) 32) (near_number s a, end_from s a + 1) (x, b) e
+
+  its_number : x ≡ near_number s a
+  its_number = sym (ap (λ (p : ℕ × ℕ). p.0) parts.1)
+
+  behind_it : b ≡ end_from s a + 1
+  behind_it = sym (ap (λ (p : ℕ × ℕ). p.1) parts.1)
+
+  pub register_small : x < 32
+  register_small = omega (arith, its_number, ltb-true (near_number s a) 32 parts.0)
 
   is_near : (a + 3 ≤ length s) × (end_from s a < length s) × (near_number s a ≡ short_of (field (drop a s)))
-  unfolding near_number
-  is_near = go (leb (a + 3) (length s)) (ltb (end_from s a) (length s)) (ltb (short_of (field (drop a s))) 100) refl refl (rw its_number at h)
-    where
-      go : (u v w : Bool) → leb (a + 3) (length s) ≡ u → ltb (end_from s a) (length s) ≡ v → cond (u && (v && w)) (short_of (field (drop a s))) 100 < 32
-          → (a + 3 ≤ length s) × (end_from s a < length s) × (cond (u && (v && w)) (short_of (field (drop a s))) 100 ≡ short_of (field (drop a s)))
-      go true true true eu ev g = (leb-true (a + 3) (length s) eu, ltb-true (end_from s a) (length s) ev, refl)
-      go true true false eu ev g = absurd (omega arith)
-      go true false w eu ev g = absurd (omega arith)
-      go false v w eu ev g = absurd (omega arith)
+  is_near = near_within s a (omega (arith, its_number, register_small))
 
-  register_is : n.number ≡ short_of (field (drop a s))
+  register_is : x ≡ short_of (field (drop a s))
   register_is = its_number ∙ is_near.2
 
-  stop_is : n.stop ≡ end_from s a
-  stop_is = ap (λ (x : ShortField). x.stop) en ∙ rw (← its_number, lt-ltb n.number 100 (omega arith))
+  pub register_within : b ≤ length s
+  register_within = omega (arith, behind_it, is_near.1)
 
-  pub stops_within : n.stop < length s
-  stops_within = omega (arith, stop_is, is_near.1)
-
-  near_first : fields_from s a ≡ field (drop a s) ∷ fields_from s (n.stop + 1)
+  near_first : fields_from s a ≡ field (drop a s) ∷ fields_from s b
   near_first =
       let g : a ≤ length s = omega (arith, is_near.0) in
-      rw (stop_is, end_is s a g) (field_at s a g)
+      rw (behind_it, end_is s a g) (field_at s a g)
 
 -- ---- the loop over registers
 
@@ -288,28 +325,28 @@ module _ (s : List ℕ) (a n b : ℕ) where
   starts r e h g = (ap (λ (k : ℕ). operands k b (fields_from s a)) (sym e) ∙ first_joined (operands r b (fields_from s a)), most_first r h, omega arith, g)
 
   module _ (at left scale sum : ℕ) (c : Through s a n b at left scale sum) where
-    pub goes_on : (m : ShortField) → 0 < left → m ≡ near s at → m.number < 32 → Through s a n b (m.stop + 1) (left - 1) (scale * 32) (sum + scale * m.number)
+    pub goes_on : (x next : ℕ) → 0 < left → register_read s at ≡ Some (x, next) → Through s a n b next (left - 1) (scale * 32) (sum + scale * x)
     unfolding operands
-    goes_on m l em h = go left c l
+    goes_on x next l e = go left c l
       where
-        step : (k : ℕ) → operands (suc k) b (fields_from s at) ≡ map (below m.number) (operands k b (fields_from s (m.stop + 1)))
-        step k = rw (near_first s at m em h, ← (register_is s at m em h), lt-ltb m.number 32 h)
+        step : (k : ℕ) → operands (suc k) b (fields_from s at) ≡ map (below x) (operands k b (fields_from s next))
+        step k = rw (near_first s at x next e, ← (register_is s at x next e), lt-ltb x 32 (register_small s at x next e))
 
-        go : (k : ℕ) → Through s a n b at k scale sum → 0 < k → Through s a n b (m.stop + 1) (k - 1) (scale * 32) (sum + scale * m.number)
+        go : (k : ℕ) → Through s a n b at k scale sum → 0 < k → Through s a n b next (k - 1) (scale * 32) (sum + scale * x)
         go zero c l = absurd (omega arith)
         go (suc k) c l =
             let z : k ≡ suc k - 1 = omega arith in
-            let x : scale * m.number ≤ scale * 31 = mul-le-mul_left scale (omega arith) in
-            subst (λ (j : ℕ). Through s a n b (m.stop + 1) j (scale * 32) (sum + scale * m.number)) z
-            (c.0 ∙ rw (step k) (next_joined sum scale m.number (operands k b (fields_from s (m.stop + 1)))), omega (arith, c.1), omega (arith, c.2), omega (arith, stops_within s at m em h))
+            let y : scale * x ≤ scale * 31 = mul-le-mul_left scale (omega (arith, register_small s at x next e)) in
+            subst (λ (j : ℕ). Through s a n b next j (scale * 32) (sum + scale * x)) z
+            (c.0 ∙ rw (step k) (next_joined sum scale x (operands k b (fields_from s next))), omega (arith, c.1), omega (arith, c.2), register_within s at x next e)
 
     -- no operand, and so no number
     stops : operands left b (fields_from s at) ≡ none → operands n b (fields_from s a) ≡ none
     stops e = rw (c.0, e)
 
-    pub no_register : (m : ShortField) → b ≤ 10000 → 0 < left → m ≡ near s at → 32 ≤ m.number → operands n b (fields_from s a) ≡ none
+    pub no_register : b ≤ 10000 → 0 < left → register_read s at ≡ None → operands n b (fields_from s a) ≡ none
     unfolding operands
-    no_register m g l em h = stops (go left l)
+    no_register g l e = stops (go left l)
       where
         empty_last : (k : ℕ) (f : List ℕ) → operands (suc k) b (f ∷ [] ∷ []) ≡ none
         empty_last zero f = rw (bounded_no b (short_of []) (omega (arith, no_bytes [] refl))) (onto_none (short_of f))
@@ -319,92 +356,47 @@ module _ (s : List ℕ) (a n b : ℕ) where
         go zero l = absurd (omega arith)
         go (suc k) l =
             not_near (operands (suc k) b) refl (λ f. rw (none_left k b) (onto_none (short_of f))) (λ f fs i. rw (le-ltb (short_of f) 32 i)) (empty_last k)
-            s at (rw (ap (λ (x : ShortField). x.number) em) at h)
+            s at (not_register s at e)
 
-    module _ (y : ℕ) (l : left ≤ 0) (ey : y ≡ number (operands 0 b (fields_from s at))) where
+    module _ (l : left ≤ 0) where
       at_last : (o : Option ℕ) → operands 0 b (fields_from s at) ≡ o → operands n b (fields_from s a) ≡ joined sum scale o
       at_last o e = let z : left ≡ 0 = omega arith in c.0 ∙ rw (z, e)
 
-      pub ends : y < no_order → operands n b (fields_from s a) ≡ some (sum + scale * y)
-      ends h = at_last (some y) (is_some (operands 0 b (fields_from s at)) y ey h)
+      pub ends : (y : ℕ) → as_option (operands 0 b (fields_from s at)) ≡ Some y → operands n b (fields_from s a) ≡ some (sum + scale * y)
+      ends y e = at_last (some y) (as_some (operands 0 b (fields_from s at)) y e)
 
-      pub ends_badly : b ≤ 10000 → no_order ≤ y → operands n b (fields_from s a) ≡ none
-      ends_badly g h = at_last none (is_none (operands 0 b (fields_from s at)) y (λ z e. omega (arith, last_below s at b z e)) ey h)
-
--- ---- numbers that may be missing
-
-module _ (o : Option ℕ) (y : ℕ) (e : y ≡ number o) where
-  pub numbered_is : ((z : ℕ) → o ≡ some z → z < no_order) → numbered y ≡ o
-  numbered_is f = go o f e
-    where
-      go : (o : Option ℕ) → ((z : ℕ) → o ≡ some z → z < no_order) → y ≡ number o → numbered y ≡ o
-      go none f e = rw e
-      go (some z) f e = rw (e, lt-ltb z no_order (f z refl))
-
-onto_small : (x b : ℕ) (o : Option ℕ) → ((z : ℕ) → o ≡ some z → z < b) → (z : ℕ) → onto x o ≡ some z → z < 32 * b
-onto_small x b o f z e = go (ltb x 32) o refl f e
-  where
-    go : (t : Bool) (o : Option ℕ) → ltb x 32 ≡ t → ((z : ℕ) → o ≡ some z → z < b) → cond t (map (below x) o) none ≡ some z → z < 32 * b
-    go true none h f e = absurd (none-ne-some z e)
-    go true (some y) h f e =
-        let g : x + 32 * y ≡ z = some-injective (x + 32 * y) z e in
-        omega (arith, ltb-true x 32 h, f y refl, g)
-    go false o h f e = absurd (none-ne-some z e)
-
--- a register and a last operand below 4,096, behind a code
-module _ (c x y t r : ℕ) (o : Option ℕ) (f : (z : ℕ) → o ≡ some z → z < 4096) where
-  one_register : y ≡ number o → t ≡ number (onto x (numbered y)) → r ≡ number (behind c (numbered t)) → r ≡ number (behind c (onto x o))
-  one_register ey et er =
-      let g : numbered y ≡ o = numbered_is o y ey (λ z e. omega (arith, f z e)) in
-      let i : t ≡ number (onto x o) = rw g at et in
-      let h : numbered t ≡ onto x o = numbered_is (onto x o) t i (λ z e. omega (arith, onto_small x 4096 o f z e)) in
-      rw h at er
+      pub ends_badly : as_option (operands 0 b (fields_from s at)) ≡ None → operands n b (fields_from s a) ≡ none
+      ends_badly e = at_last none (as_none (operands 0 b (fields_from s at)) e)
 
 -- ---- numbers alone
 
 -- none, or some behind a code
-pub none_behind : (k : ℕ) (o : Option ℕ) → o ≡ none → no_order ≡ number (behind k o)
+pub none_behind : (k : ℕ) (o : Option ℕ) → o ≡ none → None ≡ as_option (behind k o)
 none_behind k o e = rw e
 
-pub some_behind : (k x : ℕ) (o : Option ℕ) → o ≡ some x → k + 256 * x ≡ number (behind k o)
+pub some_behind : (k x : ℕ) (o : Option ℕ) → o ≡ some x → Some (k + 256 * x) ≡ as_option (behind k o)
 some_behind k x o e = rw e
 
 -- the ways through `order_of`
-module _ (c : ℕ) (fs : List (List ℕ)) (r : ℕ) where
-  pub is_numbers : numeric (c % 16) ≡ true → r ≡ number (behind c (numbers_packed (c % 16) fs)) → r ≡ number (fields_packed c fs)
+module _ (c : ℕ) (fs : List (List ℕ)) (r : rust.Option ℕ) where
+  pub is_numbers : numeric (c % 16) ≡ true → r ≡ as_option (behind c (numbers_packed (c % 16) fs)) → r ≡ as_option (fields_packed c fs)
   unfolding fields_packed
   is_numbers n e = rw n e
 
   module _ (n : numeric (c % 16) ≡ false) where
-    pub is_cell : c % 16 < 7 → r ≡ number (cell c fs) → r ≡ number (fields_packed c fs)
+    pub is_cell : c % 16 < 7 → r ≡ as_option (cell c fs) → r ≡ as_option (fields_packed c fs)
     unfolding fields_packed
     is_cell h e = rw (n, lt-ltb (c % 16) 7 h) e
 
-    pub is_branch : 7 ≤ c % 16 → c % 16 ≡ 8 → r ≡ number (branch c fs) → r ≡ number (fields_packed c fs)
+    pub is_branch : 7 ≤ c % 16 → c % 16 ≡ 8 → r ≡ as_option (branch c fs) → r ≡ as_option (fields_packed c fs)
     unfolding fields_packed
     is_branch g h e = rw (n, le-ltb (c % 16) 7 g, eq-eqb (c % 16) 8 h) e
 
-    pub is_other : 7 ≤ c % 16 → (c % 16 ≡ 8 → ⊥) → no_order ≡ number (fields_packed c fs)
+    pub is_other : 7 ≤ c % 16 → (c % 16 ≡ 8 → ⊥) → None ≡ as_option (fields_packed c fs)
     unfolding fields_packed
     is_other g h = rw (n, le-ltb (c % 16) 7 g, ne_eqb (c % 16) 8 h)
 
 -- ---- a cell, a branch: two fields that end at commas, and the last
-
-place_of : (o : Option Place) (p : Place) → placed o ≡ Where.Is p → o ≡ some p
-place_of none p e = absurd (let z : ◌≡◌ {A = ℕ} 0 1 = cc in omega arith)
-place_of (some w) p e = cc
-
-no_place : (o : Option Place) → placed o ≡ Where.Malformed → o ≡ none
-no_place none e = refl
-no_place (some w) e = absurd (let z : ◌≡◌ {A = ℕ} 0 1 = cc in omega arith)
-
-flag_of : (o : Option Bool) (b : Bool) → flagged o ≡ Flag.Is b → o ≡ some b
-flag_of none b e = absurd (let z : ◌≡◌ {A = ℕ} 0 1 = cc in omega arith)
-flag_of (some w) b e = cc
-
-no_flag : (o : Option Bool) → flagged o ≡ Flag.Malformed → o ≡ none
-no_flag none e = refl
-no_flag (some w) e = absurd (let z : ◌≡◌ {A = ℕ} 0 1 = cc in omega arith)
 
 none_there : (c : ℕ) (o : Option Place) → with_place c o none ≡ none
 none_there c none = refl
@@ -414,42 +406,39 @@ none_flagged : (c : ℕ) (o : Option Bool) → with_flag c o none ≡ none
 none_flagged c none = refl
 none_flagged c (some b) = refl
 
-module _ (s : List ℕ) (a c : ℕ) (n : ShortField) (en : n ≡ near s a) where
-  module _ (h : 32 ≤ n.number) where
-    large : 32 ≤ near_number s a
-    large = rw (ap (λ (x : ShortField). x.number) en) at h
-
-    pub cell_early : no_order ≡ number (cell c (fields_from s a))
-    cell_early = sym (ap number (not_near (cell c) refl (λ g. refl) far (λ f. rw (onto_none (short_of f)) (none_there c (first place_name [] all_places))) s a large))
+module _ (s : List ℕ) (a c : ℕ) where
+  module _ (h : register_read s a ≡ None) where
+    pub cell_early : None ≡ as_option (cell c (fields_from s a))
+    cell_early = rw (not_near (cell c) refl (λ g. refl) far (λ f. rw (onto_none (short_of f)) (none_there c (first place_name [] all_places))) s a (not_register s a h))
       where
         far : (f : List ℕ) (fs : List (List ℕ)) → 32 ≤ short_of f → cell c (f ∷ fs) ≡ none
         far f [] i = refl
         far f (g ∷ fs) i = rw (le-ltb (short_of f) 32 i) (none_there c (first place_name g all_places))
 
-    pub branch_early : no_order ≡ number (branch c (fields_from s a))
+    pub branch_early : None ≡ as_option (branch c (fields_from s a))
     unfolding read_values
-    branch_early = sym (ap number (not_near (branch c) refl (λ g. refl) far (λ f. refl) s a large))
+    branch_early = rw (not_near (branch c) refl (λ g. refl) far (λ f. refl) s a (not_register s a h))
       where
         far : (f : List ℕ) (fs : List (List ℕ)) → 32 ≤ short_of f → branch c (f ∷ fs) ≡ none
         far f [] i = refl
         far f (g ∷ fs) i = rw (le-ltb (short_of f) 32 i) (none_flagged c (only flag fs))
 
-  module _ (h : n.number < 32) where
+  module _ (x b : ℕ) (h : register_read s a ≡ Some (x, b)) where
     abbrev one : List ℕ
     one = field (drop a s)
 
-    abbrev b : ℕ
-    b = n.stop + 1
-
     before : fields_from s a ≡ one ∷ fields_from s b
-    before = near_first s a n en h
+    before = near_first s a x b h
+
+    onto_it : (o : Option ℕ) → onto (short_of one) o ≡ map (below x) o
+    onto_it o = rw (← (register_is s a x b h), lt-ltb x 32 (register_small s a x b h))
 
     -- the second field ends at f
     module _ (f : ℕ) (hf : f ≡ end_from s b) (hb : b ≤ f) where
       abbrev two : List ℕ
       two = take (f - b) (drop b s)
 
-      pub cell_short : length s ≤ f → no_order ≡ number (cell c (fields_from s a))
+      pub cell_short : length s ≤ f → None ≡ as_option (cell c (fields_from s a))
       cell_short l =
           let z : cell c (one ∷ fields_from s b) ≡ none = too_few s b f hf hb (λ gs. cell c (one ∷ gs)) none l refl (λ g. rw (onto_none (short_of one)) (none_there c (first place_name g all_places))) in
           rw (before, z)
@@ -458,39 +447,53 @@ module _ (s : List ℕ) (a c : ℕ) (n : ShortField) (en : n ≡ near s a) where
         fields : fields_from s a ≡ one ∷ two ∷ fields_from s (f + 1)
         fields = before ∙ rw (comma s b f hf hb hm)
 
-        pub cell_no_place : placed (first place_name two all_places) ≡ Where.Malformed → no_order ≡ number (cell c (fields_from s a))
-        cell_no_place e = rw (fields, no_place (first place_name two all_places) e)
+        pub cell_no_place : placed (first place_name two all_places) ≡ None → None ≡ as_option (cell c (fields_from s a))
+        cell_no_place e = rw (fields, as_none (first place_name two all_places) e)
 
-        pub cell_is : (y t r k : ℕ) (p : Place) → t ≡ number (onto n.number (numbered y)) → placed (first place_name two all_places) ≡ Where.Is p → y ≡ number (operands 0 4096 (fields_from s (f + 1))) → k ≡ place_number p → r ≡ number (behind (c + 16 * k) (numbered t)) → r ≡ number (cell c (fields_from s a))
-        unfolding operands
-        cell_is y t r k p et ep ey ek er =
-            rw (fields, place_of (first place_name two all_places) p ep, ← ek, ← (register_is s a n en h))
-            (one_register (c + 16 * k) n.number y t r (last 4096 (fields_from s (f + 1))) (last_small 4096 (fields_from s (f + 1))) ey et er)
+        module _ (p : Place) (ep : placed (first place_name two all_places) ≡ Some p) where
+          with_it : cell c (fields_from s a) ≡ behind (c + 16 * place_number p) (map (below x) (operands 0 4096 (fields_from s (f + 1))))
+          unfolding operands
+          with_it = rw (fields, as_some (first place_name two all_places) p ep, onto_it (last 4096 (fields_from s (f + 1))))
+
+          pub cell_no_last : as_option (operands 0 4096 (fields_from s (f + 1))) ≡ None → None ≡ as_option (cell c (fields_from s a))
+          cell_no_last e = rw (with_it, as_none (operands 0 4096 (fields_from s (f + 1))) e)
+
+          pub cell_is : (y k : ℕ) → as_option (operands 0 4096 (fields_from s (f + 1))) ≡ Some y → k ≡ place_number p → Some (c + 16 * k + 256 * (x + 32 * y)) ≡ as_option (cell c (fields_from s a))
+          cell_is y k e ek = rw (with_it, as_some (operands 0 4096 (fields_from s (f + 1))) y e, ek)
 
     -- the second field is read up to its end
-    module _ (m : ShortField) (em : m ≡ short (take (length s - b) (drop b s))) where
+    module _ (m : rust.Option ℕ × ℕ) (em : m ≡ short (take (length s - b) (drop b s))) where
       there : b ≤ length s
-      there = omega (arith, stops_within s a n en h)
+      there = register_within s a x b h
 
-      label_is : m.number ≡ short_of (field (drop b s))
-      label_is = ap (λ (x : ShortField). x.number) em ∙ rw (part s b there)
+      label_is : m.0 ≡ small 10000 (short_of (field (drop b s)))
+      label_is = ap (λ (p : rust.Option ℕ × ℕ). p.0) em ∙ ap (λ (l : List ℕ). small 10000 (short_of (field l))) (part s b there)
 
-      stop_of : m.stop ≡ upto (drop b s)
-      stop_of = ap (λ (x : ShortField). x.stop) em ∙ rw (part s b there)
+      stop_of : m.1 ≡ upto (drop b s)
+      stop_of = ap (λ (p : rust.Option ℕ × ℕ). p.1) em ∙ ap upto (part s b there)
 
-      pub stop_fits : b + m.stop ≤ length s
+      pub stop_fits : b + m.1 ≤ length s
       stop_fits = omega (arith, stop_of, upto_within (drop b s), length-drop b s, there)
 
-      both : fields_from s a ≡ one ∷ field (drop b s) ∷ fields_from s (b + m.stop + 1)
+      both : fields_from s a ≡ one ∷ field (drop b s) ∷ fields_from s (b + m.1 + 1)
       both = before ∙ rw (field_at s b there, stop_of)
 
-      pub branch_no_label : 1024 ≤ m.number → no_order ≡ number (branch c (fields_from s a))
-      branch_no_label l = rw (both, ← label_is, le-ltb m.number 1024 l, onto_none (short_of one), none_flagged c (only flag (fields_from s (b + m.stop + 1))))
+      great : 1024 ≤ short_of (field (drop b s)) → None ≡ as_option (branch c (fields_from s a))
+      great l = rw (both, le-ltb (short_of (field (drop b s))) 1024 l, onto_none (short_of one), none_flagged c (only flag (fields_from s (b + m.1 + 1))))
 
-      pub branch_no_flag : flagged (only flag (fields_from s (b + m.stop + 1))) ≡ Flag.Malformed → no_order ≡ number (branch c (fields_from s a))
-      branch_no_flag e = rw (both, no_flag (only flag (fields_from s (b + m.stop + 1))) e)
+      pub branch_no_number : m.0 ≡ None → None ≡ as_option (branch c (fields_from s a))
+      branch_no_number e = great (omega (arith, many (short_of (field (drop b s))) (sym label_is ∙ e)))
 
-      pub branch_is : (t r k : ℕ) (e : Bool) → t ≡ number (onto n.number (numbered m.number)) → m.number < 1024 → flagged (only flag (fields_from s (b + m.stop + 1))) ≡ Flag.Is e → k ≡ flag_number e → r ≡ number (behind (c + 16 * k) (numbered t)) → r ≡ number (branch c (fields_from s a))
-      branch_is t r k e et l ee ek er =
-          rw (both, flag_of (only flag (fields_from s (b + m.stop + 1))) e ee, ← ek, ← (register_is s a n en h), ← label_is, lt-ltb m.number 1024 l)
-          (one_register (c + 16 * k) n.number m.number t r (some m.number) (λ z i. omega (arith, l, some-injective m.number z i)) refl et er)
+      module _ (y : ℕ) (ey : m.0 ≡ Some y) where
+        its_label : y ≡ short_of (field (drop b s))
+        its_label = few (short_of (field (drop b s))) y (sym label_is ∙ ey)
+
+        pub branch_no_label : 1024 ≤ y → None ≡ as_option (branch c (fields_from s a))
+        branch_no_label l = great (omega (arith, its_label))
+
+        pub branch_no_flag : flagged (only flag (fields_from s (b + m.1 + 1))) ≡ None → None ≡ as_option (branch c (fields_from s a))
+        branch_no_flag e = rw (both, as_none (only flag (fields_from s (b + m.1 + 1))) e)
+
+        pub branch_is : (k : ℕ) (e : Bool) → y < 1024 → flagged (only flag (fields_from s (b + m.1 + 1))) ≡ Some e → k ≡ flag_number e → Some (c + 16 * k + 256 * (x + 32 * y)) ≡ as_option (branch c (fields_from s a))
+        branch_is k e l ee ek =
+            rw (both, as_some (only flag (fields_from s (b + m.1 + 1))) e ee, ek, ← its_label, lt-ltb y 1024 l, onto_it (some y))

@@ -9,7 +9,9 @@ use borrow.Author.Tests.{le-ltb, ltb-true, eqb-true, eqb-false, leb-true}
 use lib.Dec.{eqb, ltb, leb}
 use lib.ListN.{length, get_or, take, length-append}
 use lib.Seq.{take-take, take-nil, length-take-le}
-use Rattle.text.specs.Readers.{read_decimal, read_integer, read_word, upto, split, same, fields_from, end_from}
+use Rattle.std.specs.Prelude as rust
+use Rattle.std.specs.Prelude.{None}
+use Rattle.text.specs.Readers.{as_option, read_decimal, read_integer, read_word, upto, split, same, fields_from, end_from}
 use Rattle.text.specs.Fields.{commas}
 use Rattle.text.proofs.Answers.{first_field, no_field}
 use Rattle.text.proofs.Joined.{join_split}
@@ -17,15 +19,13 @@ use Rattle.form.specs.Inner.Syntax.{Sort, number, integer, word, place, flag, Va
 use Rattle.form.specs.Inner.Read.{first, both, kind_of, read_field, read_values, fields_say}
 use Rattle.form.specs.Form.{form_of, formed}
 use Rattle.form.specs.Inner.Parts.{shaped, shaped', named}
-use Rattle.form.specs.declared.Form.TheVariants as Form
 use Rattle.form.specs.declared.Kind.{Kind}
 use Rattle.base.specs.Tests.{all}
 use Rattle.form.proofs.Names.{named_is}
-use Rattle.form.proofs.Shapes.{line_is, line_bad, no_line, no_newline, newline}
-use Rattle.deck.specs.Inner.Forms.{form_judged}
+use Rattle.form.proofs.Shapes.{line_is, line_bad, not_ended, ended}
 use Rattle.deck.proofs.Forms.{form_line_judged, line_law}
 use Rattle.fast.specs.Inner.Fast.{only_order, order_said}
-use Rattle.fast.specs.Inner.Packed.{no_order, number as number_of, pack}
+use Rattle.fast.specs.Inner.Packed.{pack}
 use Rattle.form.specs.Inner.Names.{kind_code, coded}
 use Rattle.fast.specs.Inner.Fields.{numeric, registers_of, bound_of, fields_packed}
 use Rattle.fast.proofs.Fields.{none_left}
@@ -36,11 +36,11 @@ by_form : (l : List ℕ) → order_said l ≡ only_order (form_line_judged false
 by_form l = ap only_order (sym (line_law false l))
 
 -- nothing is said
-malformed : only_order (form_line_judged false Form.Malformed) ≡ none
-unfolding form_line_judged form_judged
+malformed : only_order (form_line_judged false None) ≡ none
+unfolding form_line_judged
 malformed = refl
 
-unsaid : (l : List ℕ) → Form.Malformed ≡ form_of l → no_order ≡ number_of (map pack (order_said l))
+unsaid : (l : List ℕ) → None ≡ form_of l → None ≡ as_option (map pack (order_said l))
 unsaid l e = rw (by_form l, ← e, malformed)
 
 -- ---- the first field
@@ -163,32 +163,30 @@ module _ (s : List ℕ) (h : length s < 7) where
 -- ---- the ways through `order_in`
 
 module _ (l : List ℕ) where
-  pub short_line : length l < 8 → no_order ≡ number_of (map pack (order_said l))
+  pub short_line : length l < 8 → None ≡ as_option (map pack (order_said l))
   short_line h = go (eqb (get_or l (length l - 1) 0) 10) refl
     where
-      go : (t : Bool) → eqb (get_or l (length l - 1) 0) 10 ≡ t → no_order ≡ number_of (map pack (order_said l))
-      go true e = by (length l) refl
-        where
-          by : (n : ℕ) → length l ≡ n → no_order ≡ number_of (map pack (order_said l))
-          by zero z = unsaid l (no_line l z)
-          by (suc n) z = rw (by_form l, ← newline l (length l - 1) refl (eqb-true (get_or l (length l - 1) 0) 10 e), short_body (take (length l - 1) l) (rw (length-take-le (length l - 1) l (omega arith)) (omega arith)))
-      go false e = unsaid l (no_newline l (length l - 1) refl (eqb-false (get_or l (length l - 1) 0) 10 e))
+      go : (t : Bool) → eqb (get_or l (length l - 1) 0) 10 ≡ t → None ≡ as_option (map pack (order_said l))
+      go true e =
+          let k : length (take (length l - 1) l) < 7 = omega (arith, length-take-le (length l - 1) l (omega arith)) in
+          rw (by_form l, ← (ended l (eqb-true (get_or l (length l - 1) 0) 10 e)), short_body (take (length l - 1) l) k)
+      go false e = unsaid l (not_ended l (eqb-false (get_or l (length l - 1) 0) 10 e))
 
   module _ (m : ℕ) (hm : m ≡ length l - 1) where
-    pub no_end : (get_or l m 0 ≡ 10 → ⊥) → no_order ≡ number_of (map pack (order_said l))
-    no_end h = unsaid l (no_newline l m hm h)
+    pub no_end : (get_or l m 0 ≡ 10 → ⊥) → None ≡ as_option (map pack (order_said l))
+    no_end h = unsaid l (not_ended l (rw hm at h))
 
     module _ (h : 8 ≤ length l) (c : get_or l m 0 ≡ 10) (e : ℕ) (he : e ≡ end_from (take m l) 0) where
       part : m ≡ length (take m l)
       part = sym (length-take-le m l (omega arith))
 
-      pub no_comma : m ≤ e → no_order ≡ number_of (map pack (order_said l))
+      pub no_comma : m ≤ e → None ≡ as_option (map pack (order_said l))
       no_comma g =
           let b : fields_packed (coded (kind_of (take e (take m l)))) (fields_from (take m l) (e + 1)) ≡ none = rw (no_field (take m l) (e + 1) (omega (arith, part))) (nothing_behind (coded (kind_of (take e (take m l))))) in
-          rw (by_form l, ← newline l m hm c, ← body_said (take m l) e he, b)
+          rw (by_form l, ← (ended l (rw hm at c)), ← hm, ← body_said (take m l) e he, b)
 
       module _ (g : e < m) where
-        pub line_said : (k r : ℕ) → k ≡ coded (kind_of (take e l)) → r ≡ number_of (fields_packed k (fields_from (take m l) (e + 1))) → r ≡ number_of (map pack (order_said l))
+        pub line_said : (k : ℕ) (r : rust.Option ℕ) → k ≡ coded (kind_of (take e l)) → r ≡ as_option (fields_packed k (fields_from (take m l) (e + 1))) → r ≡ as_option (map pack (order_said l))
         line_said k r ek er =
             let t : take e (take m l) ≡ take e l = take-take e m l (omega arith) in
-            rw (by_form l, ← newline l m hm c, ← body_said (take m l) e he, t, ← ek) er
+            rw (by_form l, ← (ended l (rw hm at c)), ← hm, ← body_said (take m l) e he, t, ← ek) er

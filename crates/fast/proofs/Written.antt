@@ -32,7 +32,8 @@ use Rattle.orders.specs.Inner.Parts.{instrs}
 use Rattle.orders.specs.Wrote.{word, roomy, no_room}
 use Rattle.orders.proofs.Whole.{order_valid, order_short, items_all, unsaved_some, counted_some}
 use Rattle.orders.proofs.Wrote.{words_valid}
-use Rattle.fast.specs.Inner.Fast.{taken, placed_in, not_mine, left}
+use Rattle.std.specs.Prelude.{Some, None}
+use Rattle.fast.specs.Inner.Fast.{taken, placed_in, left}
 use Rattle.fast.specs.Inner.Packed.{unpacked}
 use Rattle.fast.specs.Inner.Plain.{ready}
 use Rattle.fast.proofs.Apart.{plain_order}
@@ -126,9 +127,6 @@ module _ (a : Asm) (h : ready a ≡ true) where
       let l = leb-true (a.len + 44) (room (length b)) r in
       rw (le-leb a.len (room (length b)) (omega arith)) (both (not a.closed) _ h).1
 
-room_small : (n : ℕ) → room n ≤ 65536
-room_small n = omega arith
-
 module _ (tag : ℕ) (o : Order) (s : State) (p : Straight o) (h : ready s.asm ≡ true) (r : roomy s.asm.len s.buf ≡ true) where
   written_order : emitted tag o s ≡ record { answer = accepted tt; state = with_words (map word (instrs o)) s }
   written_order =
@@ -145,28 +143,24 @@ module _ (tag : ℕ) (o : Order) (s : State) (p : Straight o) (h : ready s.asm �
 -- ---- the ways through `plain`
 
 module _ (H : Head) (o : Order) (a : Asm) (b : List ℕ) (p : Straight o) (f : saves_hold H.mask o ≡ true) (r : roomy a.len b ≡ true) where
-  abbrev None : Type 0
-  None = (tag : ℕ) (ls js : List ℕ) → left not_mine a ls js b ≡ placed_in H tag (some o) (state a ls js b)
+  abbrev Nothing : Type 0
+  Nothing = (tag : ℕ) (ls js : List ℕ) → left None ls js b ≡ placed_in H tag (some o) (state a ls js b)
 
-  pub cell_refused : index_holds H o ≡ false → None
+  pub cell_refused : index_holds H o ≡ false → Nothing
   cell_refused e tag ls js = sym (no_cell H tag o (state a ls js b) e)
 
   module _ (e : index_holds H o ≡ true) where
-    pub record_refused : ready a ≡ false → None
+    pub record_refused : ready a ≡ false → Nothing
     record_refused h tag ls js = let s = state a ls js b in sym (judged H tag o s e f r ∙ unready H tag o s h p.1)
 
     module _ (h : ready a ≡ true) (d : List ℕ) (end : ℕ) (ed : d ≡ cond (roomy a.len b) (written b a.len (map word (instrs o))) b) (ee : end ≡ cond (roomy a.len b) (a.len + 4 * length (instrs o)) no_room) where
       end_is : end ≡ a.len + 4 * length (instrs o)
       end_is = rw r at ee
 
-      pub small : end ≤ 65536
-      small = omega (arith, leb-true (a.len + 44) (room (length b)) r, room_small (length b), order_short o, end_is)
-
-      pub done : (tag : ℕ) (ls js : List ℕ) → left end a ls js d ≡ placed_in H tag (some o) (state a ls js b)
+      pub done : (tag : ℕ) (ls js : List ℕ) → left (Some (record { len = end; jumps = a.jumps; closed = a.closed })) ls js d ≡ placed_in H tag (some o) (state a ls js b)
       done tag ls js =
           let s = state a ls js b in
-          let x : end % 131072 ≡ end = omega (arith, small) in
           let n : length (map word (instrs o)) ≡ length (instrs o) = length-map (instrs o) word in
           let g : d ≡ written b a.len (map word (instrs o)) = rw r at ed in
           let t : taken (emitted tag o s) ≡ some (state (record { len = end; jumps = a.jumps; closed = a.closed }) ls js d) = rw (written_order tag o s p h r, g, end_is, n) in
-          rw (lt-ltb end not_mine (omega (arith, small)), lt-ltb end 131072 (omega (arith, small)), x) (sym (judged H tag o s e f r ∙ t))
+          sym (judged H tag o s e f r ∙ t)

@@ -4,7 +4,7 @@
 
 ghost use Rattle.std.specs.Prelude.{◌≡◌, true, ◌+◌, ◌*◌, ◌/◌, ◌%◌, ◌≤◌, ◌<◌, leb, length};
 ghost use Rattle.std.proofs.Math.Option.{map};
-ghost use Rattle.text.specs.Readers.{fields_from};
+ghost use Rattle.text.specs.Readers.{as_option, fields_from};
 ghost use Rattle.base.specs.Tests.{all};
 ghost use Rattle.ast.specs.Mask.{free};
 ghost use Rattle.ast.specs.Uses.{unary_writes, index_holds, saves_hold};
@@ -16,16 +16,12 @@ ghost use Rattle.orders.specs.Wrote.{Wrote, roomy};
 ghost use Rattle.fast.specs.Inner.Fast.{order_said, taken, fast_line, Leaves};
 ghost use Rattle.fast.specs.Inner.Plain.{ready, Kept, LeavesBuf};
 ghost use Rattle.form.specs.Inner.Names.{unary_at};
-ghost use Rattle.fast.specs.Inner.Packed.{place_at, place_number, flag_number, number, numbered, pack, unpacked};
-ghost use Rattle.fast.specs.Inner.Fields.{onto, operands, numbers_packed, numeric, registers_of, bound_of, behind, fields_packed};
+ghost use Rattle.fast.specs.Inner.Packed.{place_at, place_number, flag_number, pack, unpacked};
+ghost use Rattle.fast.specs.Inner.Fields.{register_read, operands, numbers_packed, numeric, registers_of, bound_of, behind, fields_packed};
 ghost use Rattle.fast.specs.Inner.Fields.{cell as cell_packed, branch as branch_packed};
 
 use assembler::{Answer, Asm, Jumps, Labels};
 use ast::{Head, Order, Place};
-use form::{Flag, Where};
-
-// Not this path's: nothing is said of the line, and nothing changes.
-pub const NOT_MINE: u64 = 0x8000000000000000;
 
 // ---- an order as one number: a shape, an operation within it, operands
 
@@ -47,9 +43,6 @@ const SAVE: u64 = 6;
 const LOAD_CONST: u64 = 7;
 
 const BRANCH: u64 = 8;
-
-// Above the number of any order.
-const NONE: u64 = 0x1000000000000;
 
 fn place_at(n: u64) -> Place
     ensures { result ≡ place_at n }
@@ -93,12 +86,20 @@ fn index(x: u64) -> u32
 // ---- the fields
 
 // The last field, a number below the bound.
-fn last_below(s: &[u8], a: usize, bound: u64) -> u64
+fn last_below(s: &[u8], a: usize, bound: u64) -> Option<u64>
     requires { (bound ≤ 10000) × (a ≤ length s.now) }
-    ensures { result ≡ number (operands 0 bound (fields_from s.now a)) }
+    ensures { result ≡ as_option (operands 0 bound (fields_from s.now a)) }
 {
-    let x = text::short_number(&s[a..]);
-    if x < bound { x } else { NONE }
+    let x = text::short_number(&s[a..])?;
+    if x < bound { Some(x) } else { None }
+}
+
+// A register that a comma ends, and where the next field starts.
+fn register_at(s: &[u8], a: usize) -> Option<(u64, usize)>
+    ensures { result ≡ register_read s.now a }
+{
+    let (x, stop) = text::near_field(s, a)?;
+    if x < 32 { Some((x, stop + 1)) } else { None }
 }
 
 // The shapes of numbers alone, as bits, so that no branch chooses.
@@ -130,135 +131,87 @@ fn last_bound(shape: u64) -> u64
 }
 
 // An order of numbers alone: some registers, and the last field.
-fn numbers(k: u64, s: &[u8], a: usize) -> u64
+fn numbers(k: u64, s: &[u8], a: usize) -> Option<u64>
     requires { (k < 256) × (a ≤ length s.now) }
-    ensures { result ≡ number (behind k (numbers_packed (k % 16) (fields_from s.now a))) }
+    ensures { result ≡ as_option (behind k (numbers_packed (k % 16) (fields_from s.now a))) }
 {
     let mut at = a;
-    let mut left = registers(k % 16);
     let mut scale = 1;
     let mut sum = 0;
-    while left > 0 {
-        let f = text::near_field(s, at);
-        let x = f.number;
-        if x >= 32 {
-            return NONE;
-        }
+    for _i in 0..registers(k % 16) {
+        let (x, next) = register_at(s, at)?;
         sum += scale * x;
         scale *= 32;
-        at = f.stop + 1;
-        left -= 1;
+        at = next;
     }
-    let y = last_below(s, at, last_bound(k % 16));
-    if y >= NONE {
-        return NONE;
-    }
-    k + 256 * (sum + scale * y)
-}
-
-// A register below what is packed behind it.
-fn join(x: u64, rest: u64) -> u64
-    ensures { result ≡ number (onto x (numbered rest)) }
-{
-    if x >= 32 {
-        return NONE;
-    }
-    if rest >= NONE {
-        return NONE;
-    }
-    x + 32 * rest
-}
-
-// A kind's operation and shape below its operands.
-fn with_code(k: u64, rest: u64) -> u64
-    requires { k < 512 }
-    ensures { result ≡ number (behind k (numbered rest)) }
-{
-    if rest >= NONE {
-        return NONE;
-    }
-    k + 256 * rest
+    let y = last_below(s, at, last_bound(k % 16))?;
+    Some(k + 256 * (sum + scale * y))
 }
 
 // `get` or `put`: a register, a place and an index.
-fn cell(k: u64, s: &[u8], a: usize) -> u64
+fn cell(k: u64, s: &[u8], a: usize) -> Option<u64>
     requires { k < 256 }
-    ensures { result ≡ number (cell_packed k (fields_from s.now a)) }
+    ensures { result ≡ as_option (cell_packed k (fields_from s.now a)) }
 {
-    let g = text::near_field(s, a);
-    let x = g.number;
-    if x >= 32 {
-        return NONE;
-    }
-    let b = g.stop + 1;
+    let (x, b) = register_at(s, a)?;
     let f = text::field_end(s, b);
     if f >= s.len() {
-        return NONE;
+        return None;
     }
-    let Where::Is(p) = form::read_place(&s[b..f]) else {
-        return NONE;
-    };
-    let y = last_below(s, f + 1, 4096);
-    with_code(k + 16 * place_number(p), join(x, y))
+    let p = form::read_place(&s[b..f])?;
+    let y = last_below(s, f + 1, 4096)?;
+    Some(k + 16 * place_number(p) + 256 * (x + 32 * y))
 }
 
 // `branch`: a register, a label and 0 or 1.
-fn branch(k: u64, s: &[u8], a: usize) -> u64
+fn branch(k: u64, s: &[u8], a: usize) -> Option<u64>
     requires { k < 256 }
-    ensures { result ≡ number (branch_packed k (fields_from s.now a)) }
+    ensures { result ≡ as_option (branch_packed k (fields_from s.now a)) }
 {
-    let g = text::near_field(s, a);
-    let x = g.number;
-    if x >= 32 {
-        return NONE;
-    }
-    let b = g.stop + 1;
-    let h = text::short_field(&s[b..]);
-    let y = h.number;
+    let (x, b) = register_at(s, a)?;
+    let (label, stop) = text::short_field(&s[b..]);
+    let y = label?;
     if y >= 1024 {
-        return NONE;
+        return None;
     }
-    let Flag::Is(other) = form::last_flag(s, b + h.stop + 1) else {
-        return NONE;
-    };
-    with_code(k + 16 * flag_number(other), join(x, y))
+    let other = form::last_flag(s, b + stop + 1)?;
+    Some(k + 16 * flag_number(other) + 256 * (x + 32 * y))
 }
 
 // The order of a kind; its fields start at a.
-fn order_of(k: u64, s: &[u8], a: usize) -> u64
+fn order_of(k: u64, s: &[u8], a: usize) -> Option<u64>
     requires { (k < 256) × (a ≤ length s.now) }
-    ensures { result ≡ number (fields_packed k (fields_from s.now a)) }
+    ensures { result ≡ as_option (fields_packed k (fields_from s.now a)) }
 {
     let shape = k % 16;
     if is_numeric(shape) {
-        return numbers(k, s, a);
+        numbers(k, s, a)
+    } else if shape < LOAD_CONST {
+        cell(k, s, a)
+    } else if shape == BRANCH {
+        branch(k, s, a)
+    } else {
+        None
     }
-    if shape < LOAD_CONST {
-        return cell(k, s, a);
-    }
-    if shape == BRANCH {
-        return branch(k, s, a);
-    }
-    NONE
 }
 
 // The order that a line says, as one number. The shortest such line has eight bytes.
-fn order_in(line: &[u8]) -> u64
-    ensures { result ≡ number (map pack (order_said line.now)) }
+fn order_in(line: &[u8]) -> Option<u64>
+    ensures { result ≡ as_option (map pack (order_said line.now)) }
 {
     let n = line.len();
     if n < 8 {
-        return NONE;
+        return None;
     }
     let m = n - 1;
-    if line[m] != 10 {
-        return NONE;
+    if line[m] != b'\n' {
+        return None;
     }
-    let name = form::read_name(line);
-    if name.end >= m {
-        return NONE;
+    let (code, end) = form::read_name(line);
+    if end >= m {
+        return None;
     }
-    order_of(name.code, &line[..m], name.end + 1)
+    order_of(code, &line[..m], end + 1)
 }
 
 // ---- what is asked of every order
@@ -399,19 +352,16 @@ fn write(q: u64, buf: &mut [u8], len: usize) -> usize
 }
 
 // An order of instructions alone that has room and saves what it must.
-fn plain(head: Head, q: u64, buf: &mut [u8], asm: Asm) -> u64
+fn plain(head: Head, q: u64, buf: &mut [u8], asm: Asm) -> Option<Asm>
     requires { (q % 16 < 7) × Kept head q × (roomy asm.len buf.old ≡ true) }
     ensures { LeavesBuf head (unpacked q) result asm buf }
 {
-    if within(head, q) {
-        if is_ready(asm) {
-            let end = write(q, buf, asm.len);
-            if end <= 65536 {
-                return end as u64;
-            }
-        }
+    if !within(head, q) || !is_ready(asm) {
+        return None;
     }
-    NOT_MINE
+    let mut next = asm;
+    next.len = write(q, buf, asm.len);
+    Some(next)
 }
 
 // ---- orders that have jumps, and labels
@@ -439,7 +389,7 @@ fn jumping(
     labels: &mut Labels,
     jumps: &mut Jumps,
     asm: Asm,
-) -> u64
+) -> Option<Asm>
     requires { 7 ≤ q % 16 }
     ensures { Leaves (taken (emitted tag (unpacked q) (before asm labels jumps buf))) result asm labels jumps buf }
 {
@@ -447,15 +397,14 @@ fn jumping(
     let w = d.answer;
     let a = d.asm;
     match w {
-        Answer::Accepted => a.len as u64 + (a.jumps as u64 + 1) * 131072,
-        Answer::Refused(_, _) => NOT_MINE,
+        Answer::Accepted => Some(a),
+        Answer::Refused(_, _) => None,
     }
 }
 
 // ---- the whole
 
-// A line of a deck with this head, tagged with its number.
-// The answer is the new length, and with it, for an order with jumps and for a label, the count of jumps.
+// A line of a deck with this head, tagged with its number: the record behind it, where this path takes it. Else nothing changes.
 pub fn line(
     head: Head,
     tag: u32,
@@ -464,20 +413,19 @@ pub fn line(
     labels: &mut Labels,
     jumps: &mut Jumps,
     asm: Asm,
-) -> u64
+) -> Option<Asm>
     ensures { Leaves (fast_line head tag line.now (before asm labels jumps buf)) result asm labels jumps buf }
 {
-    let q = order_in(line);
-    if q >= NONE {
-        return NOT_MINE;
+    let q = order_in(line)?;
+    if !keeps(head.mask, q) {
+        return None;
     }
-    if keeps(head.mask, q) {
-        if is_roomy(buf.len(), asm.len) {
-            if q % 16 < LOAD_CONST {
-                return plain(head, q, buf, asm);
-            }
-            return jumping(tag, q, buf, labels, jumps, asm);
-        }
+    if !is_roomy(buf.len(), asm.len) {
+        return None;
     }
-    NOT_MINE
+    if q % 16 < LOAD_CONST {
+        plain(head, q, buf, asm)
+    } else {
+        jumping(tag, q, buf, labels, jumps, asm)
+    }
 }

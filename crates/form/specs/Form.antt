@@ -1,7 +1,9 @@
--- A line's form, as the code has it: what the line says, each number as 64 bits hold it, or malformed.
+-- A line's form, as the code has it: what the line says, each number as 64 bits hold it; none where it is malformed.
 use Rattle.std.specs.Prelude.{Bool, true, false, List, ℕ, ℤ, pos, negsuc, nat_abs}
-use Rattle.std.proofs.Math.Option.{Option, some, none}
-use Rattle.text.specs.Readers.{sized}
+use Rattle.std.proofs.Math.Option.{Option}
+use Rattle.std.specs.Prelude as rust
+use Rattle.std.specs.Prelude.{option_map}
+use Rattle.text.specs.Readers.{sized, as_option}
 use Rattle.ast.specs.declared.Order.{Order}
 use Rattle.form.specs.Text.{DeckLine, head, order, float, bits}
 use Rattle.form.specs.Grammar.{said}
@@ -30,9 +32,8 @@ cut (order o) = order_form o
 cut (float z) = Form.Float (is_negative z) (sized (nat_abs z))
 cut (bits n) = Form.Bits n
 
-abbrev pub formed : Option DeckLine → Form
-formed none = Form.Malformed
-formed (some l) = cut l
+abbrev pub formed : Option DeckLine → rust.Option Form
+formed o = option_map cut (as_option o)
 
-unfoldable pub form_of : List ℕ → Form
+unfoldable pub form_of : List ℕ → rust.Option Form
 form_of s = formed (said s)

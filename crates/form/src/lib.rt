@@ -1,19 +1,19 @@
 // Document 01, "The deck file": a line's kind and fields. Ranges are judged above (`deck`).
 #![tactic(auto)]
 
-ghost use Rattle.std.specs.Prelude.{◌≡◌, cond};
+ghost use Rattle.std.specs.Prelude.{◌≡◌, [], ◌∷◌};
 ghost use Rattle.text.specs.Readers.{split, fields_from, next_from};
 ghost use Rattle.form.specs.Text.{place_name, flag_name};
-ghost use Rattle.form.specs.Inner.Syntax.{place, flag};
-ghost use Rattle.form.specs.Inner.Read.{first, all_places, all_flags, fields_say};
+ghost use Rattle.form.specs.Inner.Syntax.{number, place, flag};
+ghost use Rattle.form.specs.Inner.Read.{first, all_places, all_flags, read_values, fields_say};
 ghost use Rattle.form.specs.Form.{form_of, formed};
-ghost use Rattle.form.specs.Inner.Parts.{placed, flagged, shaped, only, zeros, read_numbers, of_numbers, first_of};
+ghost use Rattle.form.specs.Inner.Parts.{placed, flagged, celled, shaped, only, read_numbers, first_of};
 
 mod name;
 
 use ast::{Binary, Frame, Fused, Place, Scratched, Unary};
-pub use name::{NameField, binary_at, fused_at, read_name, scratched_at, unary_at};
-use text::{Integer, Number, Numeral, Word};
+pub use name::{binary_at, fused_at, read_name, scratched_at, unary_at};
+use text::Number;
 
 // What a line's first word says.
 #[derive(Clone, Copy)]
@@ -50,264 +50,175 @@ pub enum Form {
     // a minus, and the magnitude
     Float(bool, Number),
     Bits(u64),
-    Malformed,
-}
-
-#[derive(Clone, Copy)]
-pub enum Named {
-    Is(Kind),
-    Unknown,
-}
-
-// The last five number fields; where there are fewer, 0 stands in front.
-#[derive(Clone, Copy)]
-pub enum Numbers {
-    Are(Number, Number, Number, Number, Number),
-    Malformed,
-}
-
-#[derive(Clone, Copy)]
-pub enum Where {
-    Is(Place),
-    Malformed,
-}
-
-// What a place field says, and where the next field starts.
-#[derive(Clone, Copy)]
-struct PlaceField {
-    place: Where,
-    next: usize,
-}
-
-#[derive(Clone, Copy)]
-pub enum Flag {
-    Is(bool),
-    Malformed,
 }
 
 // ---- forms: the fields behind the name start at a
 
-// So many number fields, to the line's end.
-fn read_numbers(s: &[u8], a: usize, count: u64) -> Numbers
-    ensures { result ≡ read_numbers count zeros (fields_from s.now a) }
+// N number fields, to the line's end.
+fn read_numbers<const N: usize>(s: &[u8], a: usize) -> Option<[Number; N]>
+    ensures { result ≡ read_numbers N (fields_from s.now a) }
 {
     let mut at = a;
-    let mut left = count;
-    let mut v = Number::Value(0);
-    let mut w = Number::Value(0);
-    let mut x = Number::Value(0);
-    let mut y = Number::Value(0);
-    let mut z = Number::Value(0);
-    while left > 0 {
-        let field = text::number_at(s, at);
-        let numeral = field.numeral;
-        let Numeral::Is(n) = numeral else {
-            return Numbers::Malformed;
-        };
-        v = w;
-        w = x;
-        x = y;
-        y = z;
-        z = n;
-        at = field.next;
-        left -= 1;
+    let mut all = [Number::Value(0); N];
+    for i in 0..N {
+        let (n, next) = text::number_at(s, at);
+        all[i] = n?;
+        at = next;
     }
-    if s.len() < at {
-        return Numbers::Are(v, w, x, y, z);
-    }
-    Numbers::Malformed
+    if s.len() < at { Some(all) } else { None }
 }
 
-// A line of a kind that has numbers only, so many of them.
-fn form_numbers(k: Kind, s: &[u8], a: usize, count: u64) -> Form
-    ensures { result ≡ of_numbers (read_numbers count zeros (fields_from s.now a)) k }
-{
-    let Numbers::Are(v, w, x, y, z) = read_numbers(s, a, count) else {
-        return Form::Malformed;
-    };
-    match k {
-        Kind::Head(f) => Form::Head(f, v, w, x, y, z),
-        Kind::Unary(u) => Form::Unary(u, y, z),
-        Kind::Scratched(u) => Form::Scratched(u, x, y, z),
-        Kind::Binary(u) => Form::Binary(u, x, y, z),
-        Kind::Fused(u) => Form::Fused(u, w, x, y, z),
-        Kind::Ifelse => Form::Ifelse(w, x, y, z),
-        Kind::LoadConst => Form::LoadConst(y, z),
-        Kind::Load => Form::Malformed,
-        Kind::Save => Form::Malformed,
-        Kind::BranchIf => Form::Malformed,
-        Kind::SetLabel => Form::SetLabel(z),
-        Kind::Float => Form::Malformed,
-        Kind::Bits => Form::Malformed,
-    }
-}
-
-pub fn read_place(s: &[u8]) -> Where
+pub fn read_place(s: &[u8]) -> Option<Place>
     ensures { result ≡ placed (first place_name s.now all_places) }
 {
+    // `match s { b"mem" => ..` is tried byte by byte in the proof, which leaves a goal for each byte that may differ
     if text::same(s, b"mem") {
-        return Where::Is(Place::Mem);
+        Some(Place::Mem)
+    } else if text::same(s, b"stack") {
+        Some(Place::Stack)
+    } else if text::same(s, b"param") {
+        Some(Place::Param)
+    } else {
+        None
     }
-    if text::same(s, b"stack") {
-        return Where::Is(Place::Stack);
-    }
-    if text::same(s, b"param") {
-        return Where::Is(Place::Param);
-    }
-    Where::Malformed
 }
 
-// The place word in the field that starts at a.
-fn place_at(s: &[u8], a: usize) -> PlaceField
-    ensures { (result.place ≡ placed (first_of place (fields_from s.now a))) × (result.next ≡ next_from s.now a) }
+// The place word in the field that starts at a, and where the next field starts.
+fn place_at(s: &[u8], a: usize) -> (Option<Place>, usize)
+    ensures { result ≡ (placed (first_of place (fields_from s.now a)), next_from s.now a) }
 {
     if s.len() < a {
-        return PlaceField {
-            place: Where::Malformed,
-            next: a,
-        };
+        return (None, a);
     }
     let e = text::field_end(s, a);
-    let p = read_place(&s[a..e]);
-    PlaceField {
-        place: p,
-        next: e + 1,
-    }
+    (read_place(&s[a..e]), e + 1)
 }
 
-// A register, a place and an index, to the line's end: saved there, or loaded.
-fn form_cell(save: bool, s: &[u8], a: usize) -> Form
-    ensures { result ≡ shaped (cond save Kind.Save Kind.Load) (fields_from s.now a) }
+// A register, a place and an index, to the line's end.
+fn read_cell(s: &[u8], a: usize) -> Option<(Number, Place, Number)>
+    ensures { result ≡ celled (read_values (number ∷ place ∷ number ∷ []) (fields_from s.now a)) }
 {
-    let x = text::number_at(s, a);
-    let y = place_at(s, x.next);
-    let Numbers::Are(_, _, _, _, i) = read_numbers(s, y.next, 1) else {
-        return Form::Malformed;
-    };
-    let n = x.numeral;
-    let Numeral::Is(d) = n else {
-        return Form::Malformed;
-    };
-    let w = y.place;
-    let Where::Is(p) = w else {
-        return Form::Malformed;
-    };
-    if save {
-        Form::Save(d, p, i)
-    } else {
-        Form::Load(d, p, i)
-    }
+    let (d, a) = text::number_at(s, a);
+    let (p, a) = place_at(s, a);
+    let [i] = read_numbers::<1>(s, a)?;
+    Some((d?, p?, i))
 }
 
-fn read_flag(s: &[u8]) -> Flag
+fn read_flag(s: &[u8]) -> Option<bool>
     ensures { result ≡ flagged (first flag_name s.now all_flags) }
 {
     if text::same(s, b"0") {
-        return Flag::Is(false);
+        Some(false)
+    } else if text::same(s, b"1") {
+        Some(true)
+    } else {
+        None
     }
-    if text::same(s, b"1") {
-        return Flag::Is(true);
-    }
-    Flag::Malformed
 }
 
 // 0 or 1, in the line's last field.
-pub fn last_flag(s: &[u8], a: usize) -> Flag
+pub fn last_flag(s: &[u8], a: usize) -> Option<bool>
     ensures { result ≡ flagged (only flag (fields_from s.now a)) }
 {
     let e = text::field_end(s, a);
     if e != s.len() {
-        return Flag::Malformed;
+        return None;
     }
     read_flag(&s[a..e])
 }
 
-fn form_branch(s: &[u8], a: usize) -> Form
+fn form_branch(s: &[u8], a: usize) -> Option<Form>
     ensures { result ≡ shaped Kind.BranchIf (fields_from s.now a) }
 {
-    let x = text::number_at(s, a);
-    let y = text::number_at(s, x.next);
-    let Flag::Is(b) = last_flag(s, y.next) else {
-        return Form::Malformed;
-    };
-    let n = x.numeral;
-    let Numeral::Is(c) = n else {
-        return Form::Malformed;
-    };
-    let m = y.numeral;
-    let Numeral::Is(l) = m else {
-        return Form::Malformed;
-    };
-    Form::BranchIf(c, l, b)
+    let (c, a) = text::number_at(s, a);
+    let (l, a) = text::number_at(s, a);
+    let e = last_flag(s, a)?;
+    Some(Form::BranchIf(c?, l?, e))
 }
 
-fn form_float(s: &[u8], a: usize) -> Form
+fn form_float(s: &[u8], a: usize) -> Option<Form>
     ensures { result ≡ shaped Kind.Float (fields_from s.now a) }
 {
     if s.len() < a {
-        return Form::Malformed;
+        return None;
     }
-    match text::read_integer(&s[a..]) {
-        Integer::Is(minus, n) => Form::Float(minus, n),
-        Integer::Malformed => Form::Malformed,
-    }
+    let n = text::read_integer(&s[a..])?;
+    Some(Form::Float(n.minus, n.magnitude))
 }
 
-fn form_bits(s: &[u8], a: usize) -> Form
+fn form_bits(s: &[u8], a: usize) -> Option<Form>
     ensures { result ≡ shaped Kind.Bits (fields_from s.now a) }
 {
     if s.len() < a {
-        return Form::Malformed;
+        return None;
     }
-    match text::read_word(&s[a..]) {
-        Word::Is(n) => Form::Bits(n),
-        Word::Malformed => Form::Malformed,
-    }
+    let n = text::read_word(&s[a..])?;
+    Some(Form::Bits(n))
 }
 
 // The form of a line of kind k.
-fn form_kind(k: Kind, s: &[u8], a: usize) -> Form
+fn form_kind(k: Kind, s: &[u8], a: usize) -> Option<Form>
     ensures { result ≡ shaped k (fields_from s.now a) }
 {
-    match k {
-        Kind::Head(_) => form_numbers(k, s, a, 5),
-        Kind::Unary(_) => form_numbers(k, s, a, 2),
-        Kind::Scratched(_) => form_numbers(k, s, a, 3),
-        Kind::Binary(_) => form_numbers(k, s, a, 3),
-        Kind::Fused(_) => form_numbers(k, s, a, 4),
-        Kind::Ifelse => form_numbers(k, s, a, 4),
-        Kind::LoadConst => form_numbers(k, s, a, 2),
-        Kind::Load => form_cell(false, s, a),
-        Kind::Save => form_cell(true, s, a),
-        Kind::BranchIf => form_branch(s, a),
-        Kind::SetLabel => form_numbers(k, s, a, 1),
-        Kind::Float => form_float(s, a),
-        Kind::Bits => form_bits(s, a),
-    }
+    Some(match k {
+        Kind::Head(f) => {
+            let [cap, states, obs, last, mask] = read_numbers::<5>(s, a)?;
+            Form::Head(f, cap, states, obs, last, mask)
+        }
+        Kind::Unary(u) => {
+            let [d, s] = read_numbers::<2>(s, a)?;
+            Form::Unary(u, d, s)
+        }
+        Kind::Scratched(u) => {
+            let [d, s, t] = read_numbers::<3>(s, a)?;
+            Form::Scratched(u, d, s, t)
+        }
+        Kind::Binary(u) => {
+            let [d, a, b] = read_numbers::<3>(s, a)?;
+            Form::Binary(u, d, a, b)
+        }
+        Kind::Fused(u) => {
+            let [d, a, b, c] = read_numbers::<4>(s, a)?;
+            Form::Fused(u, d, a, b, c)
+        }
+        Kind::Ifelse => {
+            let [d, a, b, i] = read_numbers::<4>(s, a)?;
+            Form::Ifelse(d, a, b, i)
+        }
+        Kind::LoadConst => {
+            let [d, k] = read_numbers::<2>(s, a)?;
+            Form::LoadConst(d, k)
+        }
+        Kind::Load => {
+            let (d, p, i) = read_cell(s, a)?;
+            Form::Load(d, p, i)
+        }
+        Kind::Save => {
+            let (d, p, i) = read_cell(s, a)?;
+            Form::Save(d, p, i)
+        }
+        Kind::BranchIf => form_branch(s, a)?,
+        Kind::SetLabel => {
+            let [l] = read_numbers::<1>(s, a)?;
+            Form::SetLabel(l)
+        }
+        Kind::Float => form_float(s, a)?,
+        Kind::Bits => form_bits(s, a)?,
+    })
 }
 
 // The form of a line without its byte 10.
-fn form_body(s: &[u8]) -> Form
+fn form_body(s: &[u8]) -> Option<Form>
     ensures { result ≡ formed (fields_say (split s.now)) }
 {
     let e = text::field_end(s, 0);
-    match name::kind_named(&s[..e]) {
-        Named::Is(k) => form_kind(k, s, e + 1),
-        Named::Unknown => Form::Malformed,
-    }
+    let k = name::kind_named(&s[..e])?;
+    form_kind(k, s, e + 1)
 }
 
-// The form of a line: that of the one text that it is, or malformed.
-pub fn read_form(line: &[u8]) -> Form
+// The form of a line: that of the one text that it is; none is malformed.
+pub fn read_form(line: &[u8]) -> Option<Form>
     ensures { result ≡ form_of line.now }
 {
-    let n = line.len();
-    if n == 0 {
-        return Form::Malformed;
-    }
-    let e = n - 1;
-    if line[e] != 10 {
-        return Form::Malformed;
-    }
-    form_body(&line[..e])
+    form_body(line.strip_suffix(b"\n")?)
 }

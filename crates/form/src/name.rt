@@ -7,15 +7,8 @@ ghost use Rattle.form.specs.Inner.Parts.{named};
 ghost use Rattle.form.specs.Inner.Names.{unary_at, scratched_at, binary_at, fused_at, frame_at, kind_at, coded};
 ghost use Rattle.form.specs.Inner.Names.{name_word, name_place, row_at, entry, code_at};
 
-use crate::{Kind, Named};
+use crate::Kind;
 use ast::{Binary, Frame, Fused, Scratched, Unary};
-
-// A line's first word: its kind's number, and where it ends.
-#[derive(Clone, Copy)]
-pub struct NameField {
-    pub code: u64,
-    pub end: usize,
-}
 
 const NO_KIND: u64 = 0xff;
 
@@ -79,25 +72,25 @@ fn frame_at(n: u64) -> Frame
 }
 
 // The kind of a number.
-fn kind_at(c: u64) -> Named
+fn kind_at(c: u64) -> Option<Kind>
     ensures { result ≡ named (kind_at c) }
 {
     let n = c / 16;
     match c % 16 {
-        0 => Named::Is(Kind::Unary(unary_at(n))),
-        1 => Named::Is(Kind::Scratched(scratched_at(n))),
-        2 => Named::Is(Kind::Binary(binary_at(n))),
-        3 => Named::Is(Kind::Fused(fused_at(n))),
-        4 => Named::Is(Kind::Ifelse),
-        5 => Named::Is(Kind::Load),
-        6 => Named::Is(Kind::Save),
-        7 => Named::Is(Kind::LoadConst),
-        8 => Named::Is(Kind::BranchIf),
-        9 => Named::Is(Kind::SetLabel),
-        10 => Named::Is(Kind::Head(frame_at(n))),
-        11 => Named::Is(Kind::Float),
-        12 => Named::Is(Kind::Bits),
-        _ => Named::Unknown,
+        0 => Some(Kind::Unary(unary_at(n))),
+        1 => Some(Kind::Scratched(scratched_at(n))),
+        2 => Some(Kind::Binary(binary_at(n))),
+        3 => Some(Kind::Fused(fused_at(n))),
+        4 => Some(Kind::Ifelse),
+        5 => Some(Kind::Load),
+        6 => Some(Kind::Save),
+        7 => Some(Kind::LoadConst),
+        8 => Some(Kind::BranchIf),
+        9 => Some(Kind::SetLabel),
+        10 => Some(Kind::Head(frame_at(n))),
+        11 => Some(Kind::Float),
+        12 => Some(Kind::Bits),
+        _ => None,
     }
 }
 
@@ -205,7 +198,7 @@ fn whole_code(s: &[u8]) -> u64
     short_code(name_word(s))
 }
 
-pub(crate) fn kind_named(s: &[u8]) -> Named
+pub(crate) fn kind_named(s: &[u8]) -> Option<Kind>
     ensures { result ≡ named (kind_of s.now) }
 {
     kind_at(whole_code(s))
@@ -225,12 +218,11 @@ fn code_to(s: &[u8], e: usize) -> u64
     short_code(w)
 }
 
-// The first word of a line.
-pub fn read_name(s: &[u8]) -> NameField
-    ensures { (result.end ≡ end_from s.now 0) × (result.end ≤ length s.now)
-        × (result.code ≡ coded (kind_of (take result.end s.now))) }
+// The first word of a line: its kind's number, and where it ends.
+pub fn read_name(s: &[u8]) -> (u64, usize)
+    ensures { (result.1 ≡ end_from s.now 0) × (result.1 ≤ length s.now)
+        × (result.0 ≡ coded (kind_of (take result.1 s.now))) }
 {
     let end = text::name_end(s);
-    let code = code_to(s, end);
-    NameField { code, end }
+    (code_to(s, end), end)
 }

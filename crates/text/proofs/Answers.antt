@@ -11,14 +11,14 @@ use lib.Dec.{eqb, ltb}
 use lib.IntN.{pos}
 use lib.ListN.{length, get_or, take, drop, length-drop, drop_of_length-le}
 use lib.Seq.{drop-drop, take_all}
-use Rattle.text.specs.Readers.{digit_value, read_from, read_decimal, read_integer, read_word, sized, numeral, negative, integer, word}
+use Rattle.text.specs.Readers.{digit_value, read_from, read_decimal, read_integer, read_word, sized, as_option, numeral, negative, integer, word}
 use Rattle.text.specs.Readers.{upto, end_from, next_from, split, fields_from}
 use Rattle.text.specs.Fields.{onto}
 use Rattle.text.specs.declared.Number.{Number}
 use Rattle.text.specs.declared.Number.TheVariants.{Value, TooBig}
-use Rattle.text.specs.declared.Numeral.{Numeral}
-use Rattle.text.specs.declared.Integer.TheVariants as Integer
-use Rattle.text.specs.declared.Word.TheVariants as Word
+use Rattle.std.specs.Prelude as rust
+use Rattle.std.specs.Prelude.{Some, None}
+use Rattle.text.specs.declared.Integer.{Integer}
 use Rattle.text.proofs.Steps.{at, off}
 
 -- ---- a decimal number
@@ -52,6 +52,17 @@ module _ (s : List ℕ) (h : length s ≡ 0 → ⊥) (k : length s ≡ 1 → ⊥
       go [] h e = absurd (h refl)
       go (c ∷ cs) h e = rw (ne_eqb c 48 e)
 
+-- ---- the code's own `Option`
+
+module _ {A : Type 0} where
+  pub as_some : (o : Option A) (x : A) → as_option o ≡ Some x → o ≡ some x
+  as_some none x e = absurd (let z : ◌≡◌ {A = ℕ} 0 1 = cc in omega arith)
+  as_some (some y) x e = cc
+
+  pub as_none : (o : Option A) → as_option o ≡ None → o ≡ none
+  as_none none e = refl
+  as_none (some y) e = absurd (let z : ◌≡◌ {A = ℕ} 0 1 = cc in omega arith)
+
 -- ---- a minus
 
 pub empty_integer : (s : List ℕ) → length s ≡ 0 → read_integer s ≡ none
@@ -72,26 +83,29 @@ plain (c ∷ cs) h e = rw (ne_eqb c 45 e)
 pub part_is : (s : List ℕ) → read_decimal (take (length s - 1) (drop 1 s)) ≡ read_decimal (drop 1 s)
 part_is s = ap read_decimal (take_all (length s - 1) (drop 1 s) (omega (arith, length-drop 1 s)))
 
-pub plain_is : (o : Option ℕ) (m : Number) → numeral o ≡ Numeral.Is m → Integer.Is false m ≡ integer (map pos o)
+abbrev signed : Bool → Number → rust.Option Integer
+signed minus m = Some (record { minus = minus; magnitude = m })
+
+pub plain_is : (o : Option ℕ) (m : Number) → numeral o ≡ Some m → signed false m ≡ integer (map pos o)
 plain_is none m e = absurd (let z : ◌≡◌ {A = ℕ} 0 1 = cc in omega arith)
 plain_is (some n) m e = cc
 
-pub plain_bad : (o : Option ℕ) → numeral o ≡ Numeral.Malformed → Integer.Malformed ≡ integer (map pos o)
+pub plain_bad : (o : Option ℕ) → numeral o ≡ None → None ≡ integer (map pos o)
 plain_bad none e = refl
 plain_bad (some n) e = absurd (let z : ◌≡◌ {A = ℕ} 0 1 = cc in omega arith)
 
-minus_is : (o : Option ℕ) (m : Number) → numeral o ≡ Numeral.Is m → (m ≡ Value 0 → ⊥) → Integer.Is true m ≡ integer (negative o)
+minus_is : (o : Option ℕ) (m : Number) → numeral o ≡ Some m → (m ≡ Value 0 → ⊥) → signed true m ≡ integer (negative o)
 minus_is none m e f = absurd (let z : ◌≡◌ {A = ℕ} 0 1 = cc in omega arith)
 minus_is (some zero) m e f = absurd (f (cc))
 minus_is (some (suc n)) m e f = cc
 
-pub minus_big : (o : Option ℕ) (m : Number) → numeral o ≡ Numeral.Is m → m ≡ TooBig → Integer.Is true m ≡ integer (negative o)
+pub minus_big : (o : Option ℕ) (m : Number) → numeral o ≡ Some m → m ≡ TooBig → signed true m ≡ integer (negative o)
 minus_big o m e f = minus_is o m e (λ g. let z : ◌≡◌ {A = ℕ} 0 1 = cc in omega arith)
 
-pub minus_value : (o : Option ℕ) (m : Number) (v : ℕ) → numeral o ≡ Numeral.Is m → m ≡ Value v → (v ≡ 0 → ⊥) → Integer.Is true m ≡ integer (negative o)
+pub minus_value : (o : Option ℕ) (m : Number) (v : ℕ) → numeral o ≡ Some m → m ≡ Value v → (v ≡ 0 → ⊥) → signed true m ≡ integer (negative o)
 minus_value o m v e f h = minus_is o m e (λ g. h (cc))
 
-pub minus_bad : (o : Option ℕ) → numeral o ≡ Numeral.Malformed → Integer.Malformed ≡ integer (negative o)
+pub minus_bad : (o : Option ℕ) → numeral o ≡ None → None ≡ integer (negative o)
 minus_bad none e = refl
 minus_bad (some n) e = absurd (let z : ◌≡◌ {A = ℕ} 0 1 = cc in omega arith)
 
@@ -102,17 +116,17 @@ value_is n v e = go (ltb n 18446744073709551616) e
     go true f = cc
     go false f = absurd (let z : ◌≡◌ {A = ℕ} 0 1 = cc in omega arith)
 
-pub some_is : (o : Option ℕ) (v : ℕ) → numeral o ≡ Numeral.Is (Value v) → o ≡ some v
+pub some_is : (o : Option ℕ) (v : ℕ) → numeral o ≡ Some (Value v) → o ≡ some v
 some_is none v e = absurd (let z : ◌≡◌ {A = ℕ} 0 1 = cc in omega arith)
 some_is (some n) v e = ap some (value_is n v (cc))
 
-pub minus_zero : (o : Option ℕ) → numeral o ≡ Numeral.Is (Value 0) → Integer.Malformed ≡ integer (negative o)
+pub minus_zero : (o : Option ℕ) → numeral o ≡ Some (Value 0) → None ≡ integer (negative o)
 minus_zero o e = rw (some_is o 0 e)
 
 -- ---- a word
 
 module _ (s : List ℕ) where
-  pub not_16 : (length s ≡ 16 → ⊥) → Word.Malformed ≡ word (read_word s)
+  pub not_16 : (length s ≡ 16 → ⊥) → None ≡ word (read_word s)
   unfolding read_word
   not_16 h = rw (ne_eqb (length s) 16 h)
 
@@ -129,28 +143,38 @@ module _ (s : List ℕ) where
     has_16 = rw (eq-eqb (length s) 16 h)
 
     module _ (v i : ℕ) (b : Wording v i) where
-      pub word_ends : 16 ≤ i → Word.Is v ≡ word (read_word s)
+      pub word_ends : length s ≤ i → Some v ≡ word (read_word s)
       unfolding read_from
-      word_ends g = let ended : length s ≤ i = omega arith in rw (has_16, b.2, drop_of_length-le s ended)
+      word_ends g = rw (has_16, b.2, drop_of_length-le s g)
 
-      module _ (g : i < 16) where
+      module _ (g : i < length s) where
         left : drop i s ≡ get_or s i 0 ∷ drop (i + 1) s
-        left = at s i (omega arith)
+        left = at s i g
 
-        pub word_bad : 15 < digit_value (get_or s i 0) → Word.Malformed ≡ word (read_word s)
+        pub word_bad : cond (ltb (digit_value (get_or s i 0)) 16) (Some (digit_value (get_or s i 0))) None ≡ None → None ≡ word (read_word s)
         unfolding read_from
-        word_bad d = rw (has_16, b.2, left, le-ltb (digit_value (get_or s i 0)) 16 (omega arith))
+        word_bad d = rw (has_16, b.2, left) (go (ltb (digit_value (get_or s i 0)) 16) d)
+          where
+            go : (t : Bool) → cond t (Some (digit_value (get_or s i 0))) None ≡ None → None ≡ word (cond t (read_from 16 (v * 16 + digit_value (get_or s i 0)) (drop (i + 1) s)) none)
+            go true e = absurd (let z : ◌≡◌ {A = ℕ} 0 1 = cc in omega arith)
+            go false e = refl
 
-        module _ (d : ℕ) (e : d ≡ digit_value (get_or s i 0)) (k : d ≤ 15) where
+        pub word_low : v < 16 ^ 15
+        word_low = let k : i ≤ 15 = omega arith in let m : 16 ^ i ≤ 16 ^ 15 = pow-le-pow_right (omega arith) k in omega (arith, b.1, m)
+
+        module _ (d : ℕ) (k : (ltb (digit_value (get_or s i 0)) 16 ≡ true) × (digit_value (get_or s i 0) ≡ d)) where
+          few : d < 16
+          few = omega (arith, ltb-true (digit_value (get_or s i 0)) 16 k.0, k.1)
+
           more : v * 16 + d < 16 ^ (i + 1)
-          more = let j : i + 1 ≡ suc i = omega arith in rw (j, pow-succ' 16 i) (omega (arith, b.1))
+          more = let j : i + 1 ≡ suc i = omega arith in rw (j, pow-succ' 16 i) (omega (arith, b.1, few))
 
           pub word_room : v * 16 + d < 2 ^ 64
-          word_room = let within : i + 1 ≤ 16 = omega arith in let m : 16 ^ (i + 1) ≤ 16 ^ 16 = pow-le-pow_right (omega arith) within in omega (arith, more, m)
+          word_room = omega (arith, word_low, few)
 
           pub word_more : Wording (v * 16 + d) (i + 1)
           unfolding read_from
-          word_more = (omega arith, more, b.2 ∙ rw (left, ← e, lt-ltb d 16 (omega arith)))
+          word_more = (omega arith, more, b.2 ∙ rw (left, k.0, k.1))
 
 -- ---- fields
 

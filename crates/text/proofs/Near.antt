@@ -1,74 +1,58 @@
 -- Numbers of the fast path that a comma ends.
-use mathlib.Core.Path.{◌≡◌, refl, sym, ap, ◌∙◌}
+use mathlib.Core.Path.{◌≡◌, refl, ap}
 use mathlib.Core.Bool.{Bool, true, false, cond}
 use mathlib.Core.Option.{Option, some, none}
 use mathlib.Core.List.{List, []}
 use Prim.Native.Nat.{ℕ, ◌+◌, ◌*◌, ◌-◌, ◌<◌, ◌≤◌}
 use native.Mathlib.Omega.{arith}
-use borrow.Author.Tests.{lt-ltb, le-ltb, ltb-false, lt-leb, le-leb, eq-eqb, ne_eqb, eqb-true, eqb-false}
+use borrow.Author.Tests.{lt-ltb, le-ltb, ltb-true, ltb-false, lt-leb, le-leb, eq-eqb, ne_eqb, eqb-true, eqb-false}
 use lib.Dec.{eqb, ltb, leb}
 use lib.ListN.{length, get_or, take, drop, length-drop}
 use lib.Seq.{length-take-le, get_or-take, get_or-drop}
-use Rattle.text.specs.Readers.{read_decimal, numeral, upto, field, end_from}
-use Rattle.text.specs.Inner.Parts.{Decimal, numeral_of}
-use Rattle.text.specs.Inner.Short.{capped, short_of, short, near_number, near}
+use Rattle.text.specs.Readers.{numeral, upto, field, end_from}
+use Rattle.text.specs.Inner.Parts.{Decimal, few}
+use Rattle.text.specs.Inner.Short.{below, capped, short_of, near_number, near}
 use Rattle.text.specs.declared.Number.TheVariants.{Value, TooBig}
-use Rattle.text.specs.declared.Numeral.TheVariants as Numeral
-use Rattle.text.specs.declared.ShortField.{ShortField}
-use Rattle.text.proofs.Answers.{some_is}
+use Rattle.std.specs.Prelude as rust
+use Rattle.std.specs.Prelude.{option_and_then, MatchOption}
+use Rattle.text.specs.declared.Number.{Number}
+use Rattle.std.specs.Prelude.{Some, None}
 use Rattle.text.proofs.Once.{end_is}
 use Rattle.text.proofs.Steps.{at, off, ends_near}
 use Rattle.text.proofs.Short.{long_field, no_bytes, no_digit, first_low, few_digits, few_below, times_few}
 
-abbrev found : (number stop : ℕ) → ShortField
-found n e = record { number = n; stop = e }
-
 -- ---- as the reader of any number has them
 
-module _ (o : Option ℕ) (k v : ℕ) (e : numeral_of k v ≡ numeral o) where
-  has_value : k ≡ 0 → o ≡ some v
-  has_value z = some_is o v (sym e ∙ rw z)
+module _ (r : rust.Option ℕ) where
+  pub few_is : (o : rust.Option Number) → MatchOption o (r ≡ None) (λ n. r ≡ few n) → r ≡ option_and_then few o
+  few_is None h = h
+  few_is (Some n) h = h
 
-  no_value : (k ≡ 0 → ⊥) → 10000 ≡ capped o
-  no_value z = go o (rw (ne_eqb k 0 z) at e)
-    where
-      by : (n : ℕ) (t u : Bool) → ltb n 18446744073709551616 ≡ t → cond u (Numeral.Is TooBig) Numeral.Malformed ≡ Numeral.Is (cond t (Value n) TooBig) → 10000 ≡ capped (some n)
-      by n true true h e = absurd (let z : ◌≡◌ {A = ℕ} 0 1 = cc in omega arith)
-      by n true false h e = absurd (let z : ◌≡◌ {A = ℕ} 0 1 = cc in omega arith)
-      by n false u h e = rw (le-ltb n 10000 (omega (arith, ltb-false n 18446744073709551616 h)))
-
-      go : (o : Option ℕ) → cond (eqb k 1) (Numeral.Is TooBig) Numeral.Malformed ≡ numeral o → 10000 ≡ capped o
-      go none e = refl
-      go (some n) e = by n (ltb n 18446744073709551616) (eqb k 1) refl e
-
-module _ (s : List ℕ) (k v e : ℕ) (n : numeral_of k v ≡ numeral (read_decimal (field s))) (ee : e ≡ upto s) where
-  pub short_value : k ≡ 0 → v < 10000 → found v e ≡ short s
-  unfolding short_of
-  short_value z h = rw (has_value (read_decimal (field s)) k v n z, lt-ltb v 10000 h, ee)
-
-  pub short_large : k ≡ 0 → 10000 ≤ v → found 10000 e ≡ short s
-  unfolding short_of
-  short_large z h = rw (has_value (read_decimal (field s)) k v n z, le-ltb v 10000 h, ee)
-
-  pub short_none : (k ≡ 0 → ⊥) → found 10000 e ≡ short s
-  unfolding short_of
-  short_none z = rw (← (no_value (read_decimal (field s)) k v n z), ee)
+pub few_read : (o : Option ℕ) → option_and_then few (numeral o) ≡ below 10000 (capped o)
+few_read none = refl
+few_read (some n) = by (ltb n 18446744073709551616) (ltb n 10000) refl refl
+  where
+    by : (t u : Bool) → ltb n 18446744073709551616 ≡ t → ltb n 10000 ≡ u → few (cond t (Value n) TooBig) ≡ below 10000 (cond u n 10000)
+    by true true h g = refl
+    by true false h g = rw g
+    by false true h g = absurd (omega (arith, ltb-false n 18446744073709551616 h, ltb-true n 10000 g))
+    by false false h g = refl
 
 -- ---- one or two digits
 
 module _ (s : List ℕ) (a : ℕ) where
-  is_none : near_number s a ≡ 100 → found 100 a ≡ near s a
+  is_none : near_number s a ≡ 100 → None ≡ near s a
   is_none e = rw e
 
-  pub near_few : length s < a + 3 → found 100 a ≡ near s a
+  pub near_few : length s < a + 3 → None ≡ near s a
   unfolding near_number
   near_few h = is_none (rw (lt-leb (a + 3) (length s) h))
 
-  large : 100 ≤ short_of (field (drop a s)) → found 100 a ≡ near s a
+  large : 100 ≤ short_of (field (drop a s)) → None ≡ near s a
   unfolding near_number
   large h = is_none (rw (le-ltb (short_of (field (drop a s))) 100 h, off (ltb (end_from s a) (length s)), off (leb (a + 3) (length s))))
 
-  is_near : a + 3 ≤ length s → end_from s a < length s → (v e : ℕ) → v ≡ short_of (field (drop a s)) → v < 100 → e ≡ end_from s a → found v e ≡ near s a
+  is_near : a + 3 ≤ length s → end_from s a < length s → (v e : ℕ) → v ≡ short_of (field (drop a s)) → v < 100 → e ≡ end_from s a → Some (v, e) ≡ near s a
   unfolding near_number
   is_near h l v e ev hv ee = rw (← ev, lt-ltb v 100 hv, lt-ltb (end_from s a) (length s) l, le-leb (a + 3) (length s) h, lt-ltb v 100 hv, ← ee)
 
@@ -85,7 +69,7 @@ module _ (s : List ℕ) (a : ℕ) where
         rw (at s a (omega arith), at s (a + 1) (omega arith), x, at s (a + 2) h, ne_eqb _ _ f, ne_eqb _ _ g, ne_eqb _ _ k)
         (long_field _ 2 (omega arith) (omega arith) (omega arith))
 
-    pub no_comma : (get_or s e 0 ≡ 44 → ⊥) → found 100 a ≡ near s a
+    pub no_comma : (get_or s e 0 ≡ 44 → ⊥) → None ≡ near s a
     no_comma n = large (go (eqb (get_or s a 0) 44) refl)
       where
         by : (get_or s a 0 ≡ 44 → ⊥) → (t : Bool) → eqb (get_or s (a + 1) 0) 44 ≡ t → e ≡ cond t (a + 1) (a + 2) → 100 ≤ short_of (field (drop a s))
@@ -116,25 +100,25 @@ module _ (s : List ℕ) (a : ℕ) where
         last : Decimal (get_or (take (e - a) (drop a s)) (length (take (e - a) (drop a s)) - 1) 0) y
         last = rw (size, byte (e - a - 1) (e - 1) (omega arith) (omega arith)) dy
 
-      none_if : ((get_or s a 0 ≡ 44 → ⊥) → 10000 ≡ short_of (take (e - a) (drop a s))) → found 100 a ≡ near s a
+      none_if : ((get_or s a 0 ≡ 44 → ⊥) → 10000 ≡ short_of (take (e - a) (drop a s))) → None ≡ near s a
       none_if p = large (go (eqb (get_or s a 0) 44) refl)
         where
           go : (t : Bool) → eqb (get_or s a 0) 44 ≡ t → 100 ≤ short_of (field (drop a s))
           go true u = comma_first (eqb-true _ _ u)
           go false u = let f = eqb-false _ _ u in rw (is_field f) (omega (arith, p f))
 
-      pub near_low : x < e - a - 1 → found 100 a ≡ near s a
+      pub near_low : x < e - a - 1 → None ≡ near s a
       near_low l = none_if (λ f. first_low _ x (omega (arith, size f)) (first f) (omega (arith, size f)))
 
-      pub near_last : 9 < y → found 100 a ≡ near s a
+      pub near_last : 9 < y → None ≡ near s a
       near_last l = none_if (λ f. no_digit _ _ y (omega (arith, size f)) (last f) l)
 
-      pub near_above : y ≤ 9 → 99 < x * 10 * (e - a - 1) + y → found 100 a ≡ near s a
+      pub near_above : y ≤ 9 → 99 < x * 10 * (e - a - 1) + y → None ≡ near s a
       near_above g l =
           let m : x ≤ 9 → ⊥ = λ m. omega (arith, times_few (x * 10) (e - a - 1) 90 (omega arith) (omega arith)) in
           none_if (λ f. no_digit _ 0 x (omega (arith, size f)) (first f) (omega (arith, m)))
 
-      pub near_yes : e - a - 1 ≤ x → y ≤ 9 → x * 10 * (e - a - 1) + y ≤ 99 → found (x * 10 * (e - a - 1) + y) e ≡ near s a
+      pub near_yes : e - a - 1 ≤ x → y ≤ 9 → x * 10 * (e - a - 1) + y ≤ 99 → Some (x * 10 * (e - a - 1) + y, e) ≡ near s a
       near_yes l g m =
           let b : x ≤ 9 = few_below (get_or s a 0) (get_or s (e - 1) 0) x y (e - a - 1) (omega arith) (λ z. ap (λ (i : ℕ). get_or s i 0) (omega arith)) dx dy g m in
           let f : get_or s a 0 ≡ 44 → ⊥ = λ f. omega (arith, rw f at (dx.0 (omega arith))) in

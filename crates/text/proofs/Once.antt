@@ -3,6 +3,7 @@ use mathlib.Core.Path.{◌≡◌, refl, sym, ap, ◌∙◌}
 use mathlib.Core.Bool.{Bool, true, false, cond, ◌&&◌, not}
 use mathlib.Core.Option.{Option, none}
 use mathlib.Core.List.{List, [], ◌∷◌, ◌++◌}
+use mathlib.Core.Logic.{◌⊎◌, inl, inr}
 use Prim.Native.Nat.{ℕ, zero, suc, ◌+◌, ◌*◌, ◌-◌, ◌^◌, ◌<◌, ◌≤◌}
 use native.Mathlib.Omega.{arith}
 use borrow.Author.Tests.{lt-ltb, le-ltb, lt-leb, le-leb, ltb-true, ltb-false, leb-true, leb-false, eq-eqb, ne_eqb, eqb-true, eqb-false}
@@ -14,11 +15,11 @@ use Rattle.base.proofs.Bools.{both}
 use Rattle.base.proofs.Tested.{tested}
 use Rattle.text.specs.Readers.{digit_value, read_from, read_decimal, numeral, upto, field, end_from, next_from, fields_from, first_decimal}
 use Rattle.text.specs.Once.{reads, CommaEnds}
-use Rattle.text.specs.Inner.Parts.{Decimal, numeral_of, stays_big}
-use Rattle.text.specs.declared.Stopped.{Stopped}
+use Rattle.text.specs.Inner.Parts.{Decimal, stays_big}
 use Rattle.text.specs.declared.Number.TheVariants.{Value, TooBig}
-use Rattle.text.specs.declared.Numeral.{Numeral}
-use Rattle.text.specs.declared.Numeral.TheVariants.{Is, Malformed}
+use Rattle.text.specs.declared.Number.{Number}
+use Rattle.std.specs.Prelude as rust
+use Rattle.std.specs.Prelude.{Some, None}
 use Rattle.text.proofs.Steps.{at, off}
 use Rattle.text.proofs.Numerals.{digit_0}
 use Rattle.text.proofs.Short.{none_in}
@@ -105,10 +106,14 @@ module _ (v c : ℕ) (t : List ℕ) where
         rw (ne_eqb v 0 n, lt-ltb (digit_value c) 10 h, ne_eqb (v * 10 + digit_value c) 0 (λ e. n (omega (arith, e))))
 
 -- the last digit was read
-pub rest_ends : (i v : ℕ) → 0 < i → v < 2 ^ 64 → numeral (rest_of i v []) ≡ Is (Value v)
+pub rest_ends : (i v : ℕ) → 0 < i → v < 2 ^ 64 → numeral (rest_of i v []) ≡ Some (Value v)
 unfolding rest_of read_from
 rest_ends zero v h g = absurd (omega arith)
 rest_ends (suc i) v h g = rw (off (eqb v 0), lt-ltb v (2 ^ 64) g)
+
+-- what a number field says, and where the reader stopped
+abbrev stopped : rust.Option Number → (stop : ℕ) → rust.Option Number × ℕ
+stopped n e = (n, e)
 
 -- ---- a number of more than 64 bits
 
@@ -135,7 +140,7 @@ unfolding rest_of
 turns_big i v t h = rw (ne_eqb v 0 (λ z. omega (arith, h, z))) (both_big v (2 ^ 64) t h (omega arith))
 
 module _ (c : ℕ) (t : List ℕ) where
-  pub big_bad : 10 ≤ digit_value c → stays_big (c ∷ t) ≡ Malformed
+  pub big_bad : 10 ≤ digit_value c → stays_big (c ∷ t) ≡ None
   unfolding read_from
   big_bad h = rw (le-ltb (digit_value c) 10 h)
 
@@ -148,18 +153,25 @@ abbrev pub Bigger : (s : List ℕ) (a i : ℕ) → Type 0
 Bigger s a i = (i ≤ length s) × (i + upto (drop i s) ≡ a + upto (drop a s)) × (stays_big (field (drop a s)) ≡ stays_big (field (drop i s)))
 
 module _ (s : List ℕ) (a i : ℕ) (b : Bigger s a i) where
-  pub big_ends : upto (drop i s) ≡ 0 → (Is TooBig ≡ stays_big (field (drop a s))) × (i ≡ a + upto (drop a s))
+  pub big_ends : upto (drop i s) ≡ 0 → stopped (Some TooBig) i ≡ stopped (stays_big (field (drop a s))) (a + upto (drop a s))
   unfolding read_from
-  big_ends e = (rw (b.2, e), omega (arith, b.1, e))
+  big_ends e = let z : i ≡ a + upto (drop a s) = omega (arith, b.1, e) in rw (b.2, e, ← z)
 
   module _ (h : i < length s) (n : get_or s i 0 ≡ 44 → ⊥) where
-    pub big_stops : 10 ≤ digit_value (get_or s i 0) → (k v e : ℕ) → k ≡ 2 → e ≡ i + 1 + upto (drop (i + 1) s) → (numeral_of k v ≡ stays_big (field (drop a s))) × (e ≡ a + upto (drop a s))
-    big_stops g k v e ek ee = (rw (ek, b.2, one_more s i h n, big_bad (get_or s i 0) (field (drop (i + 1) s)) g), omega (arith, b.1, ee, one_byte s i h n))
+    pub big_stops : 10 ≤ digit_value (get_or s i 0) → stopped None (i + 1 + upto (drop (i + 1) s)) ≡ stopped (stays_big (field (drop a s))) (a + upto (drop a s))
+    big_stops g =
+        let z : i + 1 + upto (drop (i + 1) s) ≡ a + upto (drop a s) = omega (arith, b.1, one_byte s i h n) in
+        rw (b.2, one_more s i h n, big_bad (get_or s i 0) (field (drop (i + 1) s)) g, z)
 
     pub big_goes_on : digit_value (get_or s i 0) < 10 → Bigger s a (i + 1)
     big_goes_on g = (omega arith, omega (arith, b.1, one_byte s i h n), b.2 ∙ rw (one_more s i h n) (big_one (get_or s i 0) (field (drop (i + 1) s)) g))
 
 -- ---- the loop
+
+-- no digit behind a 0 alone
+pub first_zero : (v i : ℕ) → ((v ≡ 0) × (i ≤ 0)) ⊎ (v ≡ 0 → ⊥) → v ≡ 0 → i ≡ 0
+first_zero v i (inl h) e = omega (arith, h.1)
+first_zero v i (inr n) e = absurd (n e)
 
 abbrev pub Scanned : (s : List ℕ) (v i : ℕ) → Type 0
 Scanned s v i =
@@ -170,11 +182,11 @@ unfolding rest_of
 scan_starts s = (omega arith, omega arith, refl, λ e. refl, omega arith)
 
 module _ (s : List ℕ) (v i : ℕ) (b : Scanned s v i) where
-  pub scan_ends : upto (drop i s) ≡ 0 → (n : Numeral) (e : ℕ) → n ≡ numeral_of (cond (eqb i 0) 2 0) v → e ≡ i → (n ≡ numeral (read_decimal (field s))) × (e ≡ upto s)
+  pub scan_ends : upto (drop i s) ≡ 0 → stopped (cond (eqb i 0) None (Some (Value v))) i ≡ reads s
   unfolding rest_of read_decimal
-  scan_ends z n e en ee = (en ∙ go i refl ∙ sym (rw z at b.2), omega (arith, b.1, ee, z))
+  scan_ends z = let e : i ≡ upto s = omega (arith, b.1, z) in rw (go i refl ∙ sym (rw z at b.2), ← e)
     where
-      go : (j : ℕ) → i ≡ j → numeral_of (cond (eqb j 0) 2 0) v ≡ numeral (rest_of j v [])
+      go : (j : ℕ) → i ≡ j → cond (eqb j 0) None (Some (Value v)) ≡ numeral (rest_of j v [])
       go zero e = refl
       go (suc j) e = rw (ne_eqb (suc j) 0 (λ z. omega arith)) (sym (rest_ends (suc j) v (omega arith) b.4))
 
@@ -185,36 +197,28 @@ module _ (s : List ℕ) (v i : ℕ) (b : Scanned s v i) where
     abbrev t : List ℕ
     t = field (drop (i + 1) s)
 
-    -- the numeral, and where the reader stops, by what the rest is
-    rest : (m : Numeral) (e : ℕ) → m ≡ numeral (rest_of i v (c ∷ t)) → e ≡ i + 1 + upto (drop (i + 1) s) → (m ≡ numeral (read_decimal (field s))) × (e ≡ upto s)
-    rest m e em ee = (em ∙ sym (b.2 ∙ rw (one_more s i h n)), omega (arith, b.1, ee, one_byte s i h n))
+    -- by what the rest is
+    rest : (m : rust.Option Number) → m ≡ numeral (rest_of i v (c ∷ t)) → stopped m (i + 1 + upto (drop (i + 1) s)) ≡ reads s
+    rest m em =
+        let e : i + 1 + upto (drop (i + 1) s) ≡ upto s = omega (arith, b.1, one_byte s i h n) in
+        rw (em ∙ sym (b.2 ∙ rw (one_more s i h n)), e)
 
-    module _ (k w e : ℕ) (ee : e ≡ i + 1 + upto (drop (i + 1) s)) where
-      pub scan_bad : 10 ≤ digit_value c → k ≡ 2 → (numeral_of k w ≡ numeral (read_decimal (field s))) × (e ≡ upto s)
-      scan_bad g ek = rest (numeral_of k w) e (rw (ek, rest_bad v c t i g)) ee
+    pub scan_bad : 10 ≤ digit_value c → stopped None (i + 1 + upto (drop (i + 1) s)) ≡ reads s
+    scan_bad g = rest None (rw (rest_bad v c t i g))
 
-      pub scan_zero : eqb v 0 && ltb 0 i ≡ true → k ≡ 2 → (numeral_of k w ≡ numeral (read_decimal (field s))) × (e ≡ upto s)
-      scan_zero g ek =
-          let x = both (eqb v 0) (ltb 0 i) g in
-          rest (numeral_of k w) e (rw (ek, rest_zero v c t i (eqb-true v 0 x.0) (ltb-true 0 i x.1))) ee
+    pub scan_zero : v ≡ 0 → 0 < i → stopped None (i + 1 + upto (drop (i + 1) s)) ≡ reads s
+    scan_zero e g = rest None (rw (rest_zero v c t i e g))
 
-      pub scan_big : (d : ℕ) → (d ≡ digit_value c) × (digit_value c < 10) → leb (2 ^ 64) (v * 10 + d) ≡ true → numeral_of k w ≡ stays_big t → (numeral_of k w ≡ numeral (read_decimal (field s))) × (e ≡ upto s)
-      scan_big d g f ek =
-          let q : 2 ^ 64 ≤ v * 10 + d = leb-true (2 ^ 64) (v * 10 + d) f in
-          let p : v ≡ 0 → i ≡ 0 = λ z. absurd (omega (arith, q, z, g)) in
-          rest (numeral_of k w) e (ek ∙ sym (rw (rest_one v c t g.1 i b.3 p, ← g.0) (turns_big i (v * 10 + d) t q))) ee
+    pub scan_big : (d : ℕ) → (d ≡ digit_value c) × (digit_value c < 10) → leb (2 ^ 64) (v * 10 + d) ≡ true → stopped (stays_big t) (i + 1 + upto (drop (i + 1) s)) ≡ reads s
+    scan_big d g f =
+        let q : 2 ^ 64 ≤ v * 10 + d = leb-true (2 ^ 64) (v * 10 + d) f in
+        let p : v ≡ 0 → i ≡ 0 = λ z. absurd (omega (arith, q, z, g)) in
+        rest (stays_big t) (sym (rw (rest_one v c t g.1 i b.3 p, ← g.0) (turns_big i (v * 10 + d) t q)))
 
-    pub scan_goes_on : (d : ℕ) → (d ≡ digit_value c) × (digit_value c < 10) → eqb v 0 && ltb 0 i ≡ false → leb (2 ^ 64) (v * 10 + d) ≡ false → Scanned s (v * 10 + d) (i + 1)
+    pub scan_goes_on : (d : ℕ) → (d ≡ digit_value c) × (digit_value c < 10) → (v ≡ 0 → i ≡ 0) → leb (2 ^ 64) (v * 10 + d) ≡ false → Scanned s (v * 10 + d) (i + 1)
     scan_goes_on d g f l =
         let j : suc i ≡ i + 1 = omega arith in
-        (omega arith, omega (arith, b.1, one_byte s i h n), b.2 ∙ rw (one_more s i h n, g.0) (ap numeral (rest_one v c t g.1 i b.3 first) ∙ ap (λ (k : ℕ). numeral (rest_of k (v * 10 + digit_value c) t)) j), λ e. absurd (omega arith), leb-false (2 ^ 64) (v * 10 + d) l)
-      where
-        first : v ≡ 0 → i ≡ 0
-        first z = go (ltb 0 i) refl (rw z at f)
-          where
-            go : (u : Bool) → ltb 0 i ≡ u → u ≡ false → i ≡ 0
-            go true q r = absurd (let y : ◌≡◌ {A = ℕ} 0 1 = cc in omega (arith, y))
-            go false q r = omega (arith, ltb-false 0 i q)
+        (omega arith, omega (arith, b.1, one_byte s i h n), b.2 ∙ rw (one_more s i h n, g.0) (ap numeral (rest_one v c t g.1 i b.3 f) ∙ ap (λ (k : ℕ). numeral (rest_of k (v * 10 + digit_value c) t)) j), λ e. absurd (omega arith), leb-false (2 ^ 64) (v * 10 + d) l)
 
 -- ---- a field that is all of s
 
@@ -230,15 +234,15 @@ comma_at (c ∷ s) h = go (eqb c 44) refl h (comma_at s)
 whole_bad : (s : List ℕ) → upto s < length s → read_decimal s ≡ none
 whole_bad s h = none_in s (upto s) h (rw (comma_at s h) (omega arith))
 
-module _ (s : List ℕ) (f : Stopped) (e : f ≡ reads s) where
-  stopped : f.stop ≡ upto s
-  stopped = ap (λ (r : Stopped). r.stop) e
+module _ (s : List ℕ) (f : rust.Option Number × ℕ) (e : f ≡ reads s) where
+  stop_is : f.1 ≡ upto s
+  stop_is = ap (λ (r : rust.Option Number × ℕ). r.1) e
 
-  pub whole_not : f.stop < length s → Malformed ≡ numeral (read_decimal s)
-  whole_not h = rw (whole_bad s (rw stopped at h))
+  pub whole_not : f.1 < length s → None ≡ numeral (read_decimal s)
+  whole_not h = rw (whole_bad s (rw stop_is at h))
 
-  pub whole_is : length s ≤ f.stop → f.numeral ≡ numeral (read_decimal s)
-  whole_is h = ap (λ (r : Stopped). r.numeral) e ∙ rw (take_all (upto s) s (rw stopped at h))
+  pub whole_is : length s ≤ f.1 → f.0 ≡ numeral (read_decimal s)
+  whole_is h = ap (λ (r : rust.Option Number × ℕ). r.0) e ∙ rw (take_all (upto s) s (rw stop_is at h))
 
 -- ---- the field that starts at place a
 
@@ -258,16 +262,16 @@ module _ (s : List ℕ) (a : ℕ) (h : a ≤ length s) where
   pub first : fields_from s a ≡ field (drop a s) ∷ fields_from s (next_from s a)
   first = let z : a + upto (drop a s) - a ≡ upto (drop a s) = omega arith in field_is s a h ∙ rw (end_is s a h, z)
 
-  module _ (f : Stopped) (e : f ≡ reads (take (length s - a) (drop a s))) where
+  module _ (f : rust.Option Number × ℕ) (e : f ≡ reads (take (length s - a) (drop a s))) where
     there : f ≡ reads (drop a s)
     there = rw part at e
 
-    pub stop_within : a + f.stop ≤ length s
-    stop_within = omega (arith, stopped (drop a s) f there, upto_within (drop a s), length-drop a s)
+    pub stop_within : a + f.1 ≤ length s
+    stop_within = omega (arith, stop_is (drop a s) f there, upto_within (drop a s), length-drop a s)
 
-    pub field_read : (f.numeral ≡ numeral (first_decimal (fields_from s a))) × (a + f.stop + 1 ≡ next_from s a)
-    field_read =
-        (ap (λ (r : Stopped). r.numeral) there ∙ rw first, ap (λ (n : ℕ). a + n + 1) (stopped (drop a s) f there) ∙ sym (next_is s a h ∙ rw (end_is s a h)))
+    pub field_read : stopped f.0 (a + f.1 + 1) ≡ stopped (numeral (first_decimal (fields_from s a))) (next_from s a)
+    field_read = let z : a + f.1 + 1 ≡ next_from s a = rw (next_is s a h, end_is s a h, stop_is (drop a s) f there) in
+        rw (z, first, there)
 
 -- ---- the law
 

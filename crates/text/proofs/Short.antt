@@ -11,7 +11,8 @@ use lib.Dec.{eqb, ltb}
 use lib.ListN.{length, get_or}
 use Rattle.text.specs.Readers.{digit_value, read_from, read_decimal, split}
 use Rattle.text.specs.Inner.Parts.{Decimal}
-use Rattle.text.specs.Inner.Short.{capped, short_of}
+use Rattle.std.specs.Prelude.{Some, None}
+use Rattle.text.specs.Inner.Short.{capped, below, short_of}
 use Rattle.text.specs.Fields.{commas}
 use Rattle.text.proofs.Answers.{empty, alone, leading, led}
 use Rattle.text.proofs.Numerals.{digit_0, decimal_high, decimal_read}
@@ -41,6 +42,13 @@ short_read t h = go (read_decimal t) h
 is_short : (s : List ℕ) (n : ℕ) → n < 10000 → read_decimal s ≡ some n → n ≡ short_of s
 unfolding short_of
 is_short s n h e = rw (e, lt-ltb n 10000 h)
+
+module _ (s : List ℕ) where
+  pub none_below : 10000 ≡ short_of s → None ≡ below 10000 (short_of s)
+  none_below e = rw (← e)
+
+  pub some_below : (v : ℕ) → v < 10000 → v ≡ short_of s → Some v ≡ below 10000 (short_of s)
+  some_below v h e = rw (← e, lt-ltb v 10000 h)
 
 no_number : (s : List ℕ) → read_decimal s ≡ none → 10000 ≡ short_of s
 unfolding short_of

@@ -2,10 +2,10 @@
 use Rattle.std.specs.Prelude.{Bool, true, false, cond, ◌&&◌, not, List, [], ◌∷◌, ℕ, zero, suc, ◌+◌, ◌*◌, ◌-◌, ◌^◌, eqb, ltb, leb, ℤ, pos, negsuc, length, take, drop}
 use Rattle.std.proofs.Math.Option.{Option, some, none, map}
 use Rattle.text.specs.Fields.{onto}
+use Rattle.std.specs.Prelude as rust
+use Rattle.std.specs.Prelude.{Some, None, option_map}
 use Rattle.text.specs.declared.Number.{Number}
-use Rattle.text.specs.declared.Numeral.{Numeral}
 use Rattle.text.specs.declared.Integer.{Integer}
-use Rattle.text.specs.declared.Word.{Word}
 
 -- ---- numbers
 
@@ -74,20 +74,23 @@ same (a ∷ xs) (b ∷ bs) = eqb a b && same xs bs
 
 -- ---- as the code has it
 
+-- the code's own `Option`
+abbrev pub as_option : {A : Type 0} → Option A → rust.Option A
+as_option none = None
+as_option (some x) = Some x
+
 -- a number of any size as 64 bits hold it
 abbrev pub sized : ℕ → Number
 sized n = cond (ltb n (2 ^ 64)) (Number.Value n) Number.TooBig
 
-abbrev pub numeral : Option ℕ → Numeral
-numeral none = Numeral.Malformed
-numeral (some n) = Numeral.Is (sized n)
+abbrev pub numeral : Option ℕ → rust.Option Number
+numeral o = option_map sized (as_option o)
 
 -- with its minus, and its magnitude
-abbrev pub integer : Option ℤ → Integer
-integer none = Integer.Malformed
-integer (some (pos n)) = Integer.Is false (sized n)
-integer (some (negsuc n)) = Integer.Is true (sized (suc n))
+abbrev pub integer : Option ℤ → rust.Option Integer
+integer none = None
+integer (some (pos n)) = Some (record { minus = false; magnitude = sized n })
+integer (some (negsuc n)) = Some (record { minus = true; magnitude = sized (suc n) })
 
-abbrev pub word : Option ℕ → Word
-word none = Word.Malformed
-word (some n) = Word.Is n
+abbrev pub word : Option ℕ → rust.Option ℕ
+word o = as_option o

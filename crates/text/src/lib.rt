@@ -1,76 +1,30 @@
 // Document 01, "The deck file": numbers, fields and lines as bytes.
 #![tactic(auto)]
 
-ghost use Rattle.std.specs.Prelude.{◌≡◌, true, cond, ◌&&◌, ◌+◌, ◌*◌, ◌/◌, ◌^◌, ◌≤◌, ◌<◌, eqb, ltb, leb, length, get_or, take, drop};
+ghost use Rattle.std.specs.Prelude.{◌≡◌, Some, None, true, cond, ◌&&◌, ◌+◌, ◌*◌, ◌/◌, ◌^◌, ◌≤◌, ◌<◌, eqb, ltb, leb, length, get_or, take, drop};
 ghost use Rattle.std.specs.Int.Count.{count_trailing_zeros};
 ghost use Rattle.std.proofs.Math.Pow.{are_bytes};
 ghost use Rattle.text.specs.Readers.{negative, digit_value, read_decimal, read_integer, read_word, numeral, integer, word};
 ghost use Rattle.text.specs.Once.{reads};
-ghost use Rattle.text.specs.Inner.Parts.{Decimal, numeral_of, Scans, stays_big, four_are, each, marks};
-ghost use Rattle.text.specs.Inner.Short.{short_of, short, near};
+ghost use Rattle.text.specs.Inner.Parts.{Decimal, few, stays_big, four_are, each, marks};
+ghost use Rattle.text.specs.Inner.Short.{below, short_of, short, near};
 ghost use Rattle.text.specs.Readers.{same, fields_from, upto, field, end_from, next_from, first_decimal};
 ghost use Rattle.text.specs.Lines.{Ends};
+ghost use Rattle.text.specs.declared.Number.TheVariants.{Value};
 ghost use Rattle.text.specs.Bytes.{joined_eight, word_to};
 
-// A number of any size.
+// A number of any size. One of more than 64 bits is there, and isn't malformed: its range refuses it, so no `Option` stands for it.
 #[derive(Clone, Copy)]
 pub enum Number {
     Value(u64),
     TooBig,
 }
 
+// A number that may have a minus.
 #[derive(Clone, Copy)]
-pub enum Numeral {
-    Is(Number),
-    Malformed,
-}
-
-// A minus, and the magnitude.
-#[derive(Clone, Copy)]
-pub enum Integer {
-    Is(bool, Number),
-    Malformed,
-}
-
-#[derive(Clone, Copy)]
-pub enum Word {
-    Is(u64),
-    Malformed,
-}
-
-// What a number field says, and how many bytes of the line it has: a comma or the line's end stopped the reader there.
-#[derive(Clone, Copy)]
-pub struct Stopped {
-    pub numeral: Numeral,
-    pub stop: usize,
-}
-
-// The same as plain numbers, which cost less to hand on: one of three kinds, and the value of the first.
-#[derive(Clone, Copy)]
-struct Scan {
-    kind: u64,
-    value: u64,
-    stop: usize,
-}
-
-const VALUE: u64 = 0;
-
-const TOO_BIG: u64 = 1;
-
-const MALFORMED: u64 = 2;
-
-// A number of the fast path, and a place: where its field ends, counted as each function says.
-#[derive(Clone, Copy)]
-pub struct ShortField {
-    pub number: u64,
-    pub stop: usize,
-}
-
-// What a number field says, and where the next field starts.
-#[derive(Clone, Copy)]
-pub struct Field {
-    pub numeral: Numeral,
-    pub next: usize,
+pub struct Integer {
+    pub minus: bool,
+    pub magnitude: Number,
 }
 
 // ---- decimal numbers
@@ -79,7 +33,7 @@ pub struct Field {
 fn decimal(c: u8) -> u64
     ensures { Decimal c result }
 {
-    wide(c) ^ 48
+    u64::from(c ^ b'0')
 }
 
 // Whether v with the digit d behind it has more than 64 bits.
@@ -97,199 +51,127 @@ fn is_big(v: u64, d: u64) -> bool
 }
 
 // A field that is no number, whatever stands from place a on.
-fn malformed(s: &[u8], a: usize) -> Scan
+fn malformed(s: &[u8], a: usize) -> (Option<Number>, usize)
     requires { a ≤ length s.now }
-    ensures { (result.kind ≡ 2) × (result.stop ≡ a + upto (drop a s.now)) }
+    ensures { result ≡ (None, a + upto (drop a s.now)) }
 {
-    Scan {
-        kind: MALFORMED,
-        value: 0,
-        stop: field_end_bytewise(s, a),
-    }
+    (None, field_end_bytewise(s, a))
 }
 
 // A number of more than 64 bits goes on at place a.
-fn big_number(s: &[u8], a: usize) -> Scan
+fn big_number(s: &[u8], a: usize) -> (Option<Number>, usize)
     requires { a ≤ length s.now }
-    ensures { Scans (stays_big (field (drop a s.now))) (a + upto (drop a s.now)) result.kind result.value result.stop }
+    ensures { result ≡ (stays_big (field (drop a s.now)), a + upto (drop a s.now)) }
 {
-    let mut i = a;
-    while i < s.len() {
+    for i in a..s.len() {
         let c = s[i];
-        if c == 44 {
-            break;
+        if c == b',' {
+            return (Some(Number::TooBig), i);
         }
         if decimal(c) > 9 {
             return malformed(s, i + 1);
         }
-        i += 1;
     }
-    Scan {
-        kind: TOO_BIG,
-        value: 0,
-        stop: i,
-    }
-}
-
-// Whether the i digits that gave v are a 0 alone: no digit may follow it.
-fn is_zero(v: u64, i: usize) -> bool
-    ensures { result ≡ eqb v 0 && ltb 0 i }
-{
-    if v != 0 {
-        return false;
-    }
-    0 < i
+    (Some(Number::TooBig), s.len())
 }
 
 // The number that i digits gave; none is malformed.
-fn scanned(v: u64, i: usize) -> Scan
-    ensures { Scans (numeral_of (cond (eqb i 0) 2 0) v) i result.kind result.value result.stop }
+fn scanned(v: u64, i: usize) -> (Option<Number>, usize)
+    ensures { result ≡ (cond (eqb i 0) None (Some (Value v)), i) }
 {
     if i == 0 {
-        return Scan {
-            kind: MALFORMED,
-            value: 0,
-            stop: 0,
-        };
-    }
-    Scan {
-        kind: VALUE,
-        value: v,
-        stop: i,
+        (None, i)
+    } else {
+        (Some(Number::Value(v)), i)
     }
 }
 
-// A decimal number; s is the line from the field's first byte on. Each byte up to the comma is looked at once.
-fn scan_number(s: &[u8]) -> Scan
-    ensures { Scans (numeral (read_decimal (field s.now))) (upto s.now) result.kind result.value result.stop }
+// What a number field says, and how many bytes of the line it has; s is the line from the field's first byte on.
+// A comma or the line's end stops the reader, and each byte up to there is looked at once.
+pub fn read_number(s: &[u8]) -> (Option<Number>, usize)
+    ensures { result ≡ reads s.now }
 {
     let mut v = 0;
-    let mut i = 0;
-    while i < s.len() {
+    for i in 0..s.len() {
         let c = s[i];
-        if c == 44 {
+        if c == b',' {
             return scanned(v, i);
         }
         let d = decimal(c);
-        if d > 9 {
-            return malformed(s, i + 1);
-        }
-        if is_zero(v, i) {
+        // no digit, or one behind a 0 alone
+        if d > 9 || v == 0 && i > 0 {
             return malformed(s, i + 1);
         }
         if is_big(v, d) {
             return big_number(s, i + 1);
         }
         v = v * 10 + d;
-        i += 1;
     }
-    scanned(v, i)
-}
-
-// The numeral of a kind and a value.
-fn numeral_of(kind: u64, value: u64) -> Numeral
-    ensures { result ≡ numeral_of kind value }
-{
-    if kind == VALUE {
-        return Numeral::Is(Number::Value(value));
-    }
-    if kind == TOO_BIG {
-        return Numeral::Is(Number::TooBig);
-    }
-    Numeral::Malformed
-}
-
-// A decimal number; s is the line from the field's first byte on.
-pub fn read_number(s: &[u8]) -> Stopped
-    ensures { result ≡ reads s.now }
-{
-    let f = scan_number(s);
-    let n = numeral_of(f.kind, f.value);
-    Stopped {
-        numeral: n,
-        stop: f.stop,
-    }
+    scanned(v, s.len())
 }
 
 // A decimal number that is all of s: no comma stands behind it.
-fn whole_number(s: &[u8]) -> Numeral
+fn whole_number(s: &[u8]) -> Option<Number>
     ensures { result ≡ numeral (read_decimal s.now) }
 {
-    let f = read_number(s);
-    if f.stop < s.len() {
-        return Numeral::Malformed;
-    }
-    f.numeral
+    let (numeral, stop) = read_number(s);
+    if stop < s.len() { None } else { numeral }
 }
 
 // A decimal number that may have a minus.
-pub fn read_integer(s: &[u8]) -> Integer
+pub fn read_integer(s: &[u8]) -> Option<Integer>
     ensures { result ≡ integer (read_integer s.now) }
 {
     if s.len() == 0 {
-        return Integer::Malformed;
+        return None;
     }
-    if s[0] == 45 {
+    if s[0] == b'-' {
         return read_negative(&s[1..]);
     }
-    match whole_number(s) {
-        Numeral::Is(n) => Integer::Is(false, n),
-        Numeral::Malformed => Integer::Malformed,
-    }
+    let magnitude = whole_number(s)?;
+    Some(Integer {
+        minus: false,
+        magnitude,
+    })
 }
 
 // What stands behind a minus: no zero.
-fn read_negative(s: &[u8]) -> Integer
+fn read_negative(s: &[u8]) -> Option<Integer>
     ensures { result ≡ integer (negative (read_decimal s.now)) }
 {
-    let Numeral::Is(n) = whole_number(s) else {
-        return Integer::Malformed;
-    };
-    let Number::Value(v) = n else {
-        return Integer::Is(true, n);
-    };
-    if v == 0 {
-        Integer::Malformed
-    } else {
-        Integer::Is(true, n)
+    match whole_number(s)? {
+        Number::Value(0) => None,
+        magnitude => Some(Integer {
+            minus: true,
+            magnitude,
+        }),
     }
 }
 
 // ---- hexadecimal numbers
 
-fn digit(c: u8) -> u64
-    ensures { result ≡ digit_value c }
+fn digit(c: u8) -> Option<u64>
+    ensures { result ≡ cond (ltb (digit_value c) 16) (Some (digit_value c)) None }
 {
-    if c < 48 {
-        return 16;
+    match c {
+        b'0'..=b'9' => Some(u64::from(c - b'0')),
+        b'a'..=b'f' => Some(u64::from(c - b'a' + 10)),
+        _ => None,
     }
-    if c <= 57 {
-        return c as u64 - 48;
-    }
-    if c < 97 {
-        return 16;
-    }
-    if c <= 102 { c as u64 - 87 } else { 16 }
 }
 
 // 16 lowercase hexadecimal digits.
-pub fn read_word(s: &[u8]) -> Word
+pub fn read_word(s: &[u8]) -> Option<u64>
     ensures { result ≡ word (read_word s.now) }
 {
     if s.len() != 16 {
-        return Word::Malformed;
+        return None;
     }
     let mut v = 0;
-    let mut i = 0;
-    while i < 16 {
-        let d = digit(s[i]);
-        if d > 15 {
-            return Word::Malformed;
-        }
-        v = v * 16 + d;
-        i += 1;
+    for &c in s {
+        v = v * 16 + digit(c)?;
     }
-    Word::Is(v)
+    Some(v)
 }
 
 // ---- fields
@@ -300,7 +182,7 @@ fn field_end_bytewise(s: &[u8], a: usize) -> usize
 {
     let mut i = a;
     while i < s.len() {
-        if s[i] == 44 {
+        if s[i] == b',' {
             return i;
         }
         i += 1;
@@ -313,7 +195,7 @@ fn near_end(s: &[u8], a: usize) -> usize
     requires { a + 2 < length s.now }
     ensures { (result ≡ cond (eqb (get_or s.now (a + 1) 0) 44) (a + 1) (a + 2)) × (a < result) × (result ≤ a + 2) }
 {
-    if s[a + 1] == 44 { a + 1 } else { a + 2 }
+    if s[a + 1] == b',' { a + 1 } else { a + 2 }
 }
 
 // Where the field that starts at a ends: at a comma, or with s. A field of one or two bytes takes no loop.
@@ -327,32 +209,25 @@ pub fn field_end(s: &[u8], a: usize) -> usize
     if a > n - 3 {
         return field_end_bytewise(s, a);
     }
-    if s[a] == 44 {
+    if s[a] == b',' {
         return a;
     }
     let e = near_end(s, a);
-    if s[e] == 44 {
+    if s[e] == b',' {
         return e;
     }
     field_end_bytewise(s, a)
 }
 
-// The number in the field that starts at a.
-pub fn number_at(s: &[u8], a: usize) -> Field
-    ensures { (result.numeral ≡ numeral (first_decimal (fields_from s.now a))) × (result.next ≡ next_from s.now a) }
+// The number in the field that starts at a, and where the next field starts.
+pub fn number_at(s: &[u8], a: usize) -> (Option<Number>, usize)
+    ensures { result ≡ (numeral (first_decimal (fields_from s.now a)), next_from s.now a) }
 {
     if s.len() < a {
-        return Field {
-            numeral: Numeral::Malformed,
-            next: a,
-        };
+        return (None, a);
     }
-    let f = read_number(&s[a..]);
-    let n = f.numeral;
-    Field {
-        numeral: n,
-        next: a + f.stop + 1,
-    }
+    let (numeral, stop) = read_number(&s[a..]);
+    (numeral, a + stop + 1)
 }
 
 // The same bytes.
@@ -374,116 +249,84 @@ pub fn same(s: &[u8], w: &[u8]) -> bool
 
 // ---- the fast path's numbers
 
-// A number below 10,000, else 10,000; s is the line from the field's first byte on.
-pub fn short_field(s: &[u8]) -> ShortField
-    ensures { result ≡ short s.now }
+// A number, if it is below 10,000.
+fn few(n: Number) -> Option<u64>
+    ensures { result ≡ few n }
 {
-    let f = scan_number(s);
-    let stop = f.stop;
-    if f.kind == VALUE {
-        if f.value < 10000 {
-            return ShortField {
-                number: f.value,
-                stop,
-            };
-        }
-    }
-    ShortField {
-        number: 10000,
-        stop,
+    match n {
+        Number::Value(v) if v < 10000 => Some(v),
+        Number::Value(_) => None,
+        Number::TooBig => None,
     }
 }
 
+// A number below 10,000, and how many bytes its field has; s is the line from the field's first byte on.
+pub fn short_field(s: &[u8]) -> (Option<u64>, usize)
+    ensures { result ≡ short s.now }
+{
+    let (numeral, stop) = read_number(s);
+    (numeral.and_then(few), stop)
+}
+
 // A number of one or two digits that a comma ends, in the field that starts at a, and where it ends; both take the same way.
-// It declines, by 100 and a, anything else, and fields that start fewer than three bytes before the end.
-pub fn near_field(s: &[u8], a: usize) -> ShortField
+// It declines anything else, and fields that start fewer than three bytes before the end.
+pub fn near_field(s: &[u8], a: usize) -> Option<(u64, usize)>
     ensures { result ≡ near s.now a }
 {
-    let none = ShortField {
-        number: 100,
-        stop: a,
-    };
     let n = s.len();
-    if n < 3 {
-        return none;
-    }
-    if a > n - 3 {
-        return none;
+    if n < 3 || a > n - 3 {
+        return None;
     }
     let e = near_end(s, a);
-    if s[e] != 44 {
-        return none;
+    if s[e] != b',' {
+        return None;
     }
     let w = (e - a) as u64;
     let x = decimal(s[a]);
     let y = decimal(s[e - 1]);
-    if x < w - 1 {
-        return none;
-    }
-    if y > 9 {
-        return none;
+    if x < w - 1 || y > 9 {
+        return None;
     }
     let v = x * 10 * (w - 1) + y;
-    if v > 99 {
-        return none;
-    }
-    ShortField { number: v, stop: e }
+    if v > 99 { None } else { Some((v, e)) }
 }
 
-// Three or four digits, which take the same way; else 10,000.
-fn more_digits(s: &[u8]) -> u64
+// Three or four digits, which take the same way.
+fn more_digits(s: &[u8]) -> Option<u64>
     requires { 2 < length s.now }
-    ensures { result ≡ short_of s.now }
+    ensures { result ≡ below 10000 (short_of s.now) }
 {
     let n = s.len();
     if n > 4 {
-        return 10000;
+        return None;
     }
     let a = decimal(s[0]);
     let b = decimal(s[n - 3]);
     let c = decimal(s[n - 2]);
     let d = decimal(s[n - 1]);
-    if a == 0 {
-        return 10000;
+    if a == 0 || a > 9 || b > 9 || c > 9 || d > 9 {
+        return None;
     }
-    if a > 9 {
-        return 10000;
-    }
-    if b > 9 {
-        return 10000;
-    }
-    if c > 9 {
-        return 10000;
-    }
-    if d > 9 {
-        return 10000;
-    }
-    a * 1000 * (n as u64 - 3) + b * 100 + c * 10 + d
+    Some(a * 1000 * (n as u64 - 3) + b * 100 + c * 10 + d)
 }
 
-// A number below 10,000 that is all of s, else 10,000. One and two digits take the same way.
-pub fn short_number(s: &[u8]) -> u64
-    ensures { result ≡ short_of s.now }
+// A number below 10,000 that is all of s. One and two digits take the same way.
+pub fn short_number(s: &[u8]) -> Option<u64>
+    ensures { result ≡ below 10000 (short_of s.now) }
 {
     let n = s.len();
     if n == 0 {
-        return 10000;
+        return None;
     }
     if n > 2 {
         return more_digits(s);
     }
     let a = decimal(s[0]);
     let b = decimal(s[n - 1]);
-    if a < n as u64 - 1 {
-        return 10000;
+    if a < n as u64 - 1 || a > 9 || b > 9 {
+        return None;
     }
-    if a > 9 {
-        return 10000;
-    }
-    if b > 9 {
-        return 10000;
-    }
-    a * 10 * (n as u64 - 1) + b
+    Some(a * 10 * (n as u64 - 1) + b)
 }
 
 // ---- eight bytes at a time
@@ -538,7 +381,7 @@ pub fn word_to(s: &[u8], e: usize) -> u64
     if e > 6 {
         return 0;
     }
-    if s[e] != 44 {
+    if s[e] != b',' {
         return 0;
     }
     let above = 56 - 8 * e as u64;
@@ -577,7 +420,7 @@ fn line_end_bytewise(file: &[u8], a: usize) -> usize
 {
     let mut i = a;
     while i < file.len() {
-        if file[i] == 10 {
+        if file[i] == b'\n' {
             return i + 1;
         }
         i += 1;

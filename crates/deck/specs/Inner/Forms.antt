@@ -2,9 +2,8 @@
 use Rattle.std.specs.Prelude.{Bool, true, false, ◌&&◌, ℕ, ◌^◌, ltb, ℤ, pos, neg_ℤ}
 use Rattle.std.specs.Float.Ieee.{of_int}
 use Rattle.std.specs.Float.{binary64}
-use Rattle.refusal.specs.Answer.{Answer, accepted, refused}
-use Rattle.refusal.specs.Number.{number_of}
-use Rattle.refusal.specs.declared.Refusal.TheVariants.{Register, Value as Valued, Label, Count, Line}
+use Rattle.refusal.specs.Answer.{Answer, accepted}
+use Rattle.refusal.specs.declared.Refusal.TheVariants.{Register, Value as Valued, Label, Count}
 use Rattle.ast.specs.Constant.{constant_limit}
 use Rattle.ast.specs.Counts.{counts_hold}
 use Rattle.ast.specs.declared.Frame.{Frame}
@@ -60,10 +59,9 @@ signed true n = neg_ℤ (pos n)
 abbrev pub head_of : Frame → (cap states obs last mask : Number) → Head
 head_of f c s o l m = record { frame = f; cap = value c; states = value s; obs = value o; last = value l; mask = value m }
 
--- ---- a form: 12, then 1, 3, 2, 9
+-- ---- a form: 1, 3, 2, 9
 
 unfoldable pub form_judged : Form → Answer Content
-form_judged Form.Malformed = refused (number_of Line) 0
 form_judged (Form.Head f c s o l m) =
     demand (mask m) Valued
     (demand (count c && (count s && (count o && (count l && counts_hold (head_of f c s o l m))))) Count
@@ -111,4 +109,3 @@ form_is_head (Form.BranchIf c l e) = false
 form_is_head (Form.SetLabel l) = false
 form_is_head (Form.Float minus n) = false
 form_is_head (Form.Bits n) = false
-form_is_head Form.Malformed = false

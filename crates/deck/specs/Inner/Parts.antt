@@ -1,11 +1,10 @@
 -- The parts of the judge: what only its own functions promise.
-use Rattle.std.specs.Prelude.{Bool, ◌&&◌, ℕ, ◌%◌, ◌^◌}
+use Rattle.std.specs.Prelude.{◌≡◌, true, false, ℕ, Result, Ok, Err}
+use Rattle.refusal.specs.declared.Refusal.{Refusal}
 use Rattle.text.specs.declared.Number.{Number}
 use Rattle.deck.specs.Inner.Forms.{below, value}
 
--- four numbers below one bound
-abbrev pub are_below : ℕ → (a b c d : Number) → Bool
-are_below k a b c d = below k a && (below k b && (below k c && below k d))
-
-abbrev pub truncated : Number → ℕ
-truncated n = value n % 2 ^ 32
+-- a number's value, if it is below a bound, else why it is refused
+abbrev pub Bounds : ℕ → Refusal → Number → Result ℕ Refusal → Type 0
+Bounds k why n (Ok v) = (below k n ≡ true) × (v ≡ value n)
+Bounds k why n (Err e) = (below k n ≡ false) × (e ≡ why)

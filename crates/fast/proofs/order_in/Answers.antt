@@ -11,15 +11,15 @@ returns-then-n-lt8 c = short_line c.args.line.now c.if-n-lt8.true
 pub returns-then-line-m-ne10 : goal.returns-then-line-m-ne10
 returns-then-line-m-ne10 c = no_end c.args.line.now _ refl c.if-line-m-ne10.true
 
-pub returns-then-name-m : goal.returns-then-name-m
-returns-then-name-m c =
+pub returns-then-end-m : goal.returns-then-end-m
+returns-then-end-m c =
     let l = c.args.line.now in
-    no_comma l _ refl c.if-n-lt8.false c.if-line-m-ne10.false (length l - 1) (far_end l (length l - 1) c.read_name-name.result.end c.read_name-name.ensures.0 c.if-name-m.true) (omega arith)
+    no_comma l _ refl c.if-n-lt8.false c.if-line-m-ne10.false (length l - 1) (far_end l (length l - 1) c.read_name-code.result.1 c.read_name-code.ensures.0 c.if-end-m.true) (omega arith)
 
 pub returns : goal.returns
 returns c =
     let l = c.args.line.now in
-    let r = c.read_name-name in
+    let r = c.read_name-code in
     -- the end of the name is the same without byte 10
-    let e = near_end l (length l - 1) r.result.end r.ensures.0 c.if-name-m.false in
-    line_said l _ refl c.if-n-lt8.false c.if-line-m-ne10.false r.result.end e c.if-name-m.false r.result.code c.order_of.result r.ensures.2 c.order_of.ensures
+    let e = near_end l (length l - 1) r.result.1 r.ensures.0 c.if-end-m.false in
+    line_said l _ refl c.if-n-lt8.false c.if-line-m-ne10.false r.result.1 e c.if-end-m.false r.result.0 c.order_of.result r.ensures.2 c.order_of.ensures

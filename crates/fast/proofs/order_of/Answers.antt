@@ -1,4 +1,5 @@
 use mathlib.Core.Path.{sym, ◌∙◌}
+use Rattle.std.specs.Prelude.{None}
 use Rattle.text.specs.Readers.{fields_from}
 use Rattle.fast.proofs.Fields.{is_numbers, is_cell, is_branch, is_other}
 use Rattle.fast.proofs.order_of.Goals as goal
@@ -18,7 +19,7 @@ returns-then-shape-eq-BRANCH c =
     let a = c.args in
     is_branch a.k (fields_from a.s.now a.a) c.branch-k.result (sym c.is_numeric.ensures ∙ c.if-is_numeric.false) c.if-shape-lt-LOAD_CONST.false c.if-shape-eq-BRANCH.true c.branch-k.ensures
 
-pub returns : goal.returns
-returns c =
+pub returns-else-shape-eq-BRANCH : goal.returns-else-shape-eq-BRANCH
+returns-else-shape-eq-BRANCH c =
     let a = c.args in
-    is_other a.k (fields_from a.s.now a.a) 0 (sym c.is_numeric.ensures ∙ c.if-is_numeric.false) c.if-shape-lt-LOAD_CONST.false c.if-shape-eq-BRANCH.false
+    is_other a.k (fields_from a.s.now a.a) None (sym c.is_numeric.ensures ∙ c.if-is_numeric.false) c.if-shape-lt-LOAD_CONST.false c.if-shape-eq-BRANCH.false

@@ -1,31 +1,21 @@
 use mathlib.Core.Path.{refl, sym, ◌∙◌}
-use native.Mathlib.Omega.{arith}
+use Rattle.std.proofs.lemmas.Option.{none-some}
 use Rattle.fast.specs.Inner.Packed.{unpacked}
-use Rattle.fast.proofs.Written.{plain_fits, cell_refused, record_refused, small, done}
+use Rattle.fast.proofs.Written.{plain_fits, cell_refused, record_refused, done}
 use Rattle.fast.proofs.plain.Goals as goal
+use Rattle.fast.proofs.plain.Goals.{then-not-within-via-then-not-within, then-not-within-via-else-not-within+then-not-is_ready}
 
-pub returns-then-end-le65536 : goal.returns-then-end-le65536
-returns-then-end-le65536 c =
-    let a = c.args in
-    let r = sym c.is_ready.ensures ∙ c.if-is_ready.true in (
-      done a.head (unpacked a.q) a.asm a.buf.now (plain_fits a.q c.requires.0) c.requires.1 c.requires.2 (sym c.within.ensures ∙ c.if-within.true) r _ c.write-end.result c.write-end.ensures.0 c.write-end.ensures.1,
-      λ h. absurd (omega (arith, h, c.if-end-le65536.true)),
-    )
-
-pub returns-else-end-le65536 : goal.returns-else-end-le65536
-returns-else-end-le65536 c =
-    let a = c.args in
-    let s = small a.head (unpacked a.q) a.asm a.buf.now (plain_fits a.q c.requires.0) c.requires.1 c.requires.2 (sym c.within.ensures ∙ c.if-within.true) (sym c.is_ready.ensures ∙ c.if-is_ready.true) _ c.write-end.result c.write-end.ensures.0 c.write-end.ensures.1 in
-    absurd (omega (arith, s, c.if-end-le65536.false))
-
-pub returns-else-is_ready : goal.returns-else-is_ready
-returns-else-is_ready c =
+pub returns-then-not-within : goal.returns-then-not-within
+returns-then-not-within c =
     let a = c.args in (
-      record_refused a.head (unpacked a.q) a.asm a.buf.now (plain_fits a.q c.requires.0) c.requires.1 c.requires.2 (sym c.within.ensures ∙ c.if-within.true) (sym c.is_ready.ensures ∙ c.if-is_ready.false),
+      elim c.then-not-within.branch [
+        | then-not-within-via-then-not-within w ↦ cell_refused a.head (unpacked a.q) a.asm a.buf.now (plain_fits a.q c.requires.0) c.requires.1 c.requires.2 (sym c.within.ensures ∙ w.if-not-within.true)
+        | then-not-within-via-else-not-within+then-not-is_ready w ↦ record_refused a.head (unpacked a.q) a.asm a.buf.now (plain_fits a.q c.requires.0) c.requires.1 c.requires.2 (sym c.within.ensures ∙ w.if-not-within.false) (sym w.is_ready.ensures ∙ w.if-not-is_ready.true)
+      ],
       λ h. refl,
     )
 
-pub returns-else-within : goal.returns-else-within
-returns-else-within c =
+pub returns : goal.returns
+returns c =
     let a = c.args in
-    (cell_refused a.head (unpacked a.q) a.asm a.buf.now (plain_fits a.q c.requires.0) c.requires.1 c.requires.2 (sym c.within.ensures ∙ c.if-within.false), λ h. refl)
+    (done a.head (unpacked a.q) a.asm a.buf.now (plain_fits a.q c.requires.0) c.requires.1 c.requires.2 (sym c.within.ensures ∙ c.if-not-within.false) (sym c.is_ready.ensures ∙ c.if-not-is_ready.false) _ c.write.result c.write.ensures.0 c.write.ensures.1, λ h. absurd (none-some _ (sym h)))

@@ -1,6 +1,7 @@
 -- The fast path through one line behind line 1: which lines it takes, and the state that it leaves. The state is that of the general path
 -- (document 01, "The deck file" and "Numbers of refusal"): a line that is refused is not taken.
-use Rattle.std.specs.Prelude.{◌≡◌, false, cond, List, ℕ, ◌/◌, ◌%◌, ◌^◌, ◌≤◌, ◌-◌, ltb}
+use Rattle.std.specs.Prelude as rust
+use Rattle.std.specs.Prelude.{◌≡◌, false, cond, List, ℕ, Some, None}
 use Rattle.std.proofs.Math.Option.{Option, some, none}
 use Rattle.refusal.specs.Answer.{Answer, accepted, refused}
 use Rattle.ast.specs.declared.Head.{Head}
@@ -45,19 +46,13 @@ fast_line H tag line s = placed_in H tag (order_said line) s
 
 -- ---- the answer
 
--- not this path's: nothing is said of the line
-abbrev pub not_mine : ℕ
-not_mine = 2 ^ 63
-
--- an answer below that is a length, and from 131,072 on a count of jumps above it, plus 1: else the count stays
-abbrev pub asm_of : (r : ℕ) → Asm → Asm
-asm_of r a = record { len = r % 131072; jumps = cond (ltb r 131072) a.jumps (r / 131072 - 1); closed = a.closed }
-
-abbrev pub left : (r : ℕ) → Asm → (labels jumps buf : List ℕ) → Option State
-left r a ls js b = cond (ltb r not_mine) (some (state (asm_of r a) ls js b)) none
+-- the record behind the line, and the memory, are a state
+abbrev pub left : rust.Option Asm → (labels jumps buf : List ℕ) → Option State
+left None ls js b = none
+left (Some a) ls js b = some (state a ls js b)
 
 -- the answer and the memory are those of the state; where there is none nothing changes
-abbrev pub Leaves : Option State → (r : ℕ) → Asm → (labels jumps buf : Lent) → Type 0
+abbrev pub Leaves : Option State → (r : rust.Option Asm) → Asm → (labels jumps buf : Lent) → Type 0
 Leaves o r a labels jumps buf =
-    (left r a labels.exit.now jumps.exit.now buf.exit.now ≡ o)
-    × (not_mine ≤ r → state a labels.exit.now jumps.exit.now buf.exit.now ≡ before a labels jumps buf)
+    (left r labels.exit.now jumps.exit.now buf.exit.now ≡ o)
+    × (r ≡ None → state a labels.exit.now jumps.exit.now buf.exit.now ≡ before a labels jumps buf)

@@ -2,7 +2,10 @@
 use Rattle.std.specs.Prelude.{Bool, cond, List, [], ◌∷◌, ℕ, zero, suc, ◌+◌, ◌*◌, ◌%◌, eqb, ltb, get_or}
 use Rattle.std.proofs.Math.Option.{Option, some, none, map}
 use Rattle.base.specs.Tests.{member}
-use Rattle.text.specs.Inner.Short.{short_of}
+use Rattle.std.specs.Prelude as rust
+use Rattle.std.specs.Prelude.{Some, None}
+use Rattle.text.specs.Readers.{end_from}
+use Rattle.text.specs.Inner.Short.{short_of, near_number}
 use Rattle.ast.specs.declared.Place.{Place}
 use Rattle.form.specs.Inner.Syntax.{flag}
 use Rattle.form.specs.Text.{place_name}
@@ -15,6 +18,10 @@ use Rattle.fast.specs.Inner.Packed.{place_number, flag_number, below}
 -- x, where it is below the bound
 abbrev pub bounded : (bound x : ℕ) → Option ℕ
 bounded b x = cond (ltb x b) (some x) none
+
+-- the register in the field that starts at place a, where a comma ends it, and where the next field starts
+abbrev pub register_read : List ℕ → (a : ℕ) → rust.Option (ℕ × ℕ)
+register_read s a = cond (ltb (near_number s a) 32) (Some (near_number s a, end_from s a + 1)) None
 
 -- a register below what stands behind it
 abbrev pub onto : (x : ℕ) → Option ℕ → Option ℕ

@@ -1,7 +1,6 @@
 -- An order as one number: its shape and its operation (the place of `get` and `put`, the flag of `branch`), two digits of base 16,
 -- then its operands in base 32, the first one lowest. The last operand may be an index.
-use Rattle.std.specs.Prelude.{Bool, cond, ℕ, ◌+◌, ◌*◌, ◌/◌, ◌%◌, ◌^◌, eqb, ltb}
-use Rattle.std.proofs.Math.Option.{Option, some, none}
+use Rattle.std.specs.Prelude.{Bool, cond, ℕ, ◌+◌, ◌*◌, ◌/◌, ◌%◌, eqb}
 use Rattle.ast.specs.declared.Place.{Place}
 use Rattle.ast.specs.declared.Place.TheVariants.{Mem, Stack, Param}
 use Rattle.form.specs.Inner.Names.{unary_number, scratched_number, binary_number, fused_number}
@@ -43,18 +42,6 @@ pack (Save s p i) = code 6 (place_number p) + 256 * below s i
 pack (LoadConst d k) = code 7 0 + 256 * below d k
 pack (BranchIf c l e) = code 8 (flag_number e) + 256 * below c l
 pack (SetLabel l) = code 9 0 + 256 * l
-
--- no order: above the number of any
-abbrev pub no_order : ℕ
-no_order = 2 ^ 48
-
--- a number that may be missing
-abbrev pub number : Option ℕ → ℕ
-number none = no_order
-number (some x) = x
-
-abbrev pub numbered : ℕ → Option ℕ
-numbered x = cond (ltb x no_order) (some x) none
 
 -- ---- and back
 

@@ -2,12 +2,9 @@ use mathlib.Core.Path.{sym, ◌∙◌}
 use Rattle.form.proofs.Shapes.{line_is, line_bad}
 use Rattle.form.proofs.form_body.Goals as goal
 
-pub returns-in-Is : goal.returns-in-Is
-returns-in-Is c =
-    let a = c.args in
-    c.form_kind.ensures ∙ line_is a.s.now _ c.field_end-e.ensures.0 _ (sym c.kind_named.ensures ∙ c.in-Is.is)
+pub returns-in_err-k : goal.returns-in_err-k
+returns-in_err-k c =
+    c.from_residual.ensures ∙ line_bad c.args.s.now _ c.field_end-e.ensures.0 (sym c.kind_named.ensures ∙ c.in_err-k.was)
 
-pub returns-in-Unknown : goal.returns-in-Unknown
-returns-in-Unknown c =
-    let a = c.args in
-    line_bad a.s.now _ c.field_end-e.ensures.0 (sym c.kind_named.ensures ∙ c.in-Unknown.is)
+pub returns : goal.returns
+returns c = c.form_kind.ensures ∙ line_is c.args.s.now _ c.field_end-e.ensures.0 _ (sym c.kind_named.ensures ∙ c.in_ok-k.was)

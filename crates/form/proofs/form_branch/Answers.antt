@@ -1,18 +1,20 @@
-use Rattle.form.proofs.Shapes.{branch_no_register, branch_no_label, branch_no_flag, branch_is}
+use mathlib.Core.Path.{◌∙◌}
+use Rattle.form.specs.declared.Form.{Form}
+use Rattle.form.proofs.Shapes.{no_first, no_second, no_third, all_three, branch_is}
 use Rattle.form.proofs.form_branch.Goals as goal
 
-pub returns-in_default : goal.returns-in_default
-returns-in_default c =
-    branch_no_flag _ _ _ _ _ _ _ c.number_at-x.ensures c.number_at-y.ensures c.last_flag.ensures c.in_default.is
+pub returns-in_err-e : goal.returns-in_err-e
+returns-in_err-e c =
+    c.from_residual.ensures ∙ no_third Form.BranchIf _ _ _ c.in_err-e.was ∙ branch_is _ _ _ c.number_at-c.ensures _ _ c.number_at-l.ensures c.last_flag.ensures
 
-pub returns-in_default-n : goal.returns-in_default-n
-returns-in_default-n c =
-    branch_no_register _ _ _ _ _ _ _ c.number_at-x.ensures c.number_at-y.ensures c.last_flag.ensures c.in_default-n.is
+pub returns-in_err-c : goal.returns-in_err-c
+returns-in_err-c c =
+    c.from_residual-in_err-c.ensures ∙ no_first Form.BranchIf _ _ _ c.in_err-c.was ∙ branch_is _ _ _ c.number_at-c.ensures _ _ c.number_at-l.ensures c.last_flag.ensures
 
-pub returns-in_default-m : goal.returns-in_default-m
-returns-in_default-m c =
-    branch_no_label _ _ _ _ _ _ _ c.number_at-x.ensures c.number_at-y.ensures c.last_flag.ensures c.in_default-m.is
+pub returns-in_err-l : goal.returns-in_err-l
+returns-in_err-l c =
+    c.from_residual-in_err-l.ensures ∙ no_second Form.BranchIf _ _ _ c.in_err-l.was ∙ branch_is _ _ _ c.number_at-c.ensures _ _ c.number_at-l.ensures c.last_flag.ensures
 
 pub returns : goal.returns
 returns c =
-    branch_is _ _ _ _ _ _ _ c.number_at-x.ensures c.number_at-y.ensures c.last_flag.ensures _ _ _ c.in-Is-n.is c.in-Is-m.is c.in-Is.is
+    all_three Form.BranchIf _ _ _ c.in_ok-c.was c.in_ok-l.was c.in_ok-e.was ∙ branch_is _ _ _ c.number_at-c.ensures _ _ c.number_at-l.ensures c.last_flag.ensures

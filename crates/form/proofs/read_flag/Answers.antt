@@ -8,8 +8,8 @@ returns-then-same c = simp (sym c.same.ensures ∙ c.if-same.true)
 
 pub returns-then-same-2 : goal.returns-then-same-2
 unfolding first
-returns-then-same-2 c = simp (sym c.same.ensures ∙ c.if-same.false, sym c.same-2.ensures ∙ c.if-same-2.true)
+returns-then-same-2 c = simp (sym c.same.ensures ∙ c.if-same.false, sym c.same-else-same.ensures ∙ c.if-same-2.true)
 
-pub returns : goal.returns
+pub returns-else-same-2 : goal.returns-else-same-2
 unfolding first
-returns c = simp (sym c.same.ensures ∙ c.if-same.false, sym c.same-2.ensures ∙ c.if-same-2.false)
+returns-else-same-2 c = simp (sym c.same.ensures ∙ c.if-same.false, sym c.same-else-same.ensures ∙ c.if-same-2.false)

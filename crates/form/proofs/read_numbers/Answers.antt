@@ -1,24 +1,19 @@
-use mathlib.Core.Path.{sym, ◌∙◌}
-use Rattle.form.specs.declared.Numbers.TheVariants as Numbers
-use Rattle.form.proofs.Shapes.{goes_on, stops, none_left, some_left}
+use mathlib.Core.Path.{◌∙◌}
+use Rattle.form.proofs.Shapes.{none_filled, bad_number, one_further, ends_there, goes_further}
 use Rattle.form.proofs.read_numbers.Goals as goal
 
-pub returns-in_default : goal.returns-in_default
-returns-in_default c =
-    let l = c.loop-left in
-    sym (l.invariant ∙ stops c.args.s.now l.at (Numbers.Are l.v l.w l.x l.y l.z) l.left c.loop-left-test.true c.number_at-field.ensures.0 c.in_default.is)
+pub loop-i-init : goal.loop-i-init
+loop-i-init g c = none_filled _ _ _ _
 
-pub loop-left-preserved : goal.loop-left-preserved
-loop-left-preserved c =
-    let l = c.loop-left in
-    l.invariant ∙ goes_on c.args.s.now l.at (Numbers.Are l.v l.w l.x l.y l.z) l.left _ c.loop-left-test.true c.number_at-field.ensures.0 c.number_at-field.ensures.1 c.in-Is.is
+pub loop-i-preserved : goal.loop-i-preserved
+loop-i-preserved g c = one_further _ _ g.row.N _ _ _ c.loop-i.invariant c.loop-i-test.true _ c.number_at-n.ensures _ c.in_ok-all.was
+
+pub returns-in_err-all : goal.returns-in_err-all
+returns-in_err-all g c =
+    c.from_residual.ensures ∙ bad_number _ _ g.row.N _ _ _ c.loop-i.invariant c.loop-i-test.true _ c.number_at-n.ensures c.in_err-all.was
 
 pub returns-then-s-at : goal.returns-then-s-at
-returns-then-s-at c =
-    let l = c.loop-left in
-    sym (l.invariant ∙ none_left c.args.s.now l.at (Numbers.Are l.v l.w l.x l.y l.z) l.left c.loop-left-test.false c.if-s-at.true)
+returns-then-s-at g c = ends_there _ _ g.row.N _ _ _ c.loop-i.invariant c.loop-i-test.false c.if-s-at.true
 
-pub returns : goal.returns
-returns c =
-    let l = c.loop-left in
-    sym (l.invariant ∙ some_left c.args.s.now l.at (Numbers.Are l.v l.w l.x l.y l.z) l.left c.loop-left-test.false c.if-s-at.false)
+pub returns-else-s-at : goal.returns-else-s-at
+returns-else-s-at g c = goes_further _ _ g.row.N _ _ _ c.loop-i.invariant c.loop-i-test.false c.if-s-at.false

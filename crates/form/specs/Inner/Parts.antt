@@ -1,67 +1,42 @@
 -- The parts of the reader: what only its own functions promise.
 use Rattle.std.specs.Prelude.{Bool, List, [], ◌∷◌, ℕ, zero, suc, replicate}
 use Rattle.std.proofs.Math.Option.{Option, some, none, map}
-use Rattle.text.specs.Readers.{sized}
+use Rattle.std.specs.Prelude as rust
+use Rattle.std.specs.Prelude.{option_map}
+use Rattle.text.specs.Readers.{sized, as_option}
 use Rattle.text.specs.declared.Number.{Number}
-use Rattle.form.specs.Inner.Syntax.{Sort, number, Value, Values, sorts, line_of}
+use Rattle.form.specs.Inner.Syntax.{Sort, number, place, Value, Values, sorts, line_of}
 use Rattle.form.specs.Inner.Read.{read_field, read_values}
 use Rattle.form.specs.Form.{cut}
 use Rattle.ast.specs.declared.Place.{Place}
 use Rattle.form.specs.declared.Kind.{Kind}
 use Rattle.form.specs.declared.Form.{Form}
-use Rattle.form.specs.declared.Named.{Named}
-use Rattle.form.specs.declared.Where.{Where}
-use Rattle.form.specs.declared.Flag.{Flag}
-use Rattle.form.specs.declared.Numbers.{Numbers}
 
 -- a line of kind k with these fields behind the name
-abbrev pub shaped' : (k : Kind) → Option (Values (sorts k)) → Form
-shaped' k none = Form.Malformed
-shaped' k (some vs) = cut (line_of k vs)
+abbrev pub shaped' : (k : Kind) → Option (Values (sorts k)) → rust.Option Form
+shaped' k o = option_map (λ vs. cut (line_of k vs)) (as_option o)
 
-unfoldable pub shaped : Kind → List (List ℕ) → Form
+unfoldable pub shaped : Kind → List (List ℕ) → rust.Option Form
 shaped k fs = shaped' k (read_values (sorts k) fs)
 
-abbrev pub named : Option Kind → Named
-named none = Named.Unknown
-named (some k) = Named.Is k
+abbrev pub named : Option Kind → rust.Option Kind
+named o = as_option o
 
--- one number more behind four of five
-abbrev pub behind : Numbers → Number → Numbers
-behind Numbers.Malformed n = Numbers.Malformed
-behind (Numbers.Are v w x y z) n = Numbers.Are w x y z n
+-- numbers as the code has them
+abbrev pub all_sized : (k : ℕ) → Values (replicate k number) → List Number
+all_sized zero vs = []
+all_sized (suc k) vs = sized vs.0 ∷ all_sized k vs.1
 
-abbrev pub all_behind : (k : ℕ) → Numbers → Values (replicate k number) → Numbers
-all_behind zero q vs = q
-all_behind (suc k) q vs = all_behind k (behind q (sized vs.0)) vs.1
+abbrev pub numbers : (k : ℕ) → Option (Values (replicate k number)) → rust.Option (List Number)
+numbers k o = option_map (all_sized k) (as_option o)
 
-abbrev pub numbers : (k : ℕ) → Numbers → Option (Values (replicate k number)) → Numbers
-numbers k q none = Numbers.Malformed
-numbers k q (some vs) = all_behind k q vs
+-- exactly k numbers
+abbrev pub read_numbers : (k : ℕ) → List (List ℕ) → rust.Option (List Number)
+read_numbers k fs = numbers k (read_values (replicate k number) fs)
 
--- exactly k numbers, behind those of q
-abbrev pub read_numbers : (k : ℕ) → Numbers → List (List ℕ) → Numbers
-read_numbers k q fs = numbers k q (read_values (replicate k number) fs)
-
-abbrev pub zeros : Numbers
-zeros = Numbers.Are (Number.Value 0) (Number.Value 0) (Number.Value 0) (Number.Value 0) (Number.Value 0)
-
--- a line of a kind that has numbers only
-abbrev pub of_numbers : Numbers → Kind → Form
-of_numbers Numbers.Malformed k = Form.Malformed
-of_numbers (Numbers.Are v w x y z) (Kind.Head f) = Form.Head f v w x y z
-of_numbers (Numbers.Are v w x y z) (Kind.Unary u) = Form.Unary u y z
-of_numbers (Numbers.Are v w x y z) (Kind.Scratched u) = Form.Scratched u x y z
-of_numbers (Numbers.Are v w x y z) (Kind.Binary u) = Form.Binary u x y z
-of_numbers (Numbers.Are v w x y z) (Kind.Fused u) = Form.Fused u w x y z
-of_numbers (Numbers.Are v w x y z) Kind.Ifelse = Form.Ifelse w x y z
-of_numbers (Numbers.Are v w x y z) Kind.LoadConst = Form.LoadConst y z
-of_numbers (Numbers.Are v w x y z) Kind.Load = Form.Malformed
-of_numbers (Numbers.Are v w x y z) Kind.Save = Form.Malformed
-of_numbers (Numbers.Are v w x y z) Kind.BranchIf = Form.Malformed
-of_numbers (Numbers.Are v w x y z) Kind.SetLabel = Form.SetLabel z
-of_numbers (Numbers.Are v w x y z) Kind.Float = Form.Malformed
-of_numbers (Numbers.Are v w x y z) Kind.Bits = Form.Malformed
+-- a register, a place and an index
+abbrev pub celled : Option (Values (number ∷ place ∷ number ∷ [])) → rust.Option (Number × Place × Number)
+celled o = option_map (λ vs. (sized vs.0, vs.1.0, sized vs.1.1.0)) (as_option o)
 
 -- the value of the first of the fields
 abbrev pub first_of : (q : Sort) → List (List ℕ) → Option (Value q)
@@ -72,10 +47,8 @@ first_of q (f ∷ fs) = read_field q f
 abbrev pub only : (q : Sort) → List (List ℕ) → Option (Value q)
 only q fs = map (λ vs. vs.0) (read_values (q ∷ []) fs)
 
-abbrev pub placed : Option Place → Where
-placed none = Where.Malformed
-placed (some p) = Where.Is p
+abbrev pub placed : Option Place → rust.Option Place
+placed o = as_option o
 
-abbrev pub flagged : Option Bool → Flag
-flagged none = Flag.Malformed
-flagged (some b) = Flag.Is b
+abbrev pub flagged : Option Bool → rust.Option Bool
+flagged o = as_option o

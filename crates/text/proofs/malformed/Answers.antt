@@ -1,6 +1,6 @@
-use mathlib.Core.Path.{refl, ◌∙◌}
+use mathlib.Core.Path.{◌∙◌}
 use Rattle.text.proofs.Once.{end_is}
 use Rattle.text.proofs.malformed.Goals as goal
 
 pub returns : goal.returns
-returns c = (refl, c.field_end_bytewise.ensures.0 ∙ end_is _ _ c.requires)
+returns c = rw (c.field_end_bytewise.ensures.0 ∙ end_is _ _ c.requires)

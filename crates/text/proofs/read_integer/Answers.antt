@@ -1,5 +1,5 @@
-use Rattle.text.specs.Readers.{read_decimal}
 use mathlib.Core.Path.{sym, ◌∙◌}
+use Rattle.text.specs.Readers.{read_decimal}
 use Rattle.text.proofs.Answers.{empty_integer, minus, plain, plain_is, plain_bad, part_is}
 use Rattle.text.proofs.read_integer.Goals as goal
 
@@ -11,12 +11,12 @@ returns-then-s-eq45 c =
     let s = c.args.s.now in
     rw (minus s c.if-s-eq0.false c.if-s-eq45.true) (c.read_negative.ensures ∙ rw (part_is s))
 
-pub returns-in-Is : goal.returns-in-Is
-returns-in-Is c =
+pub returns-in_err-magnitude : goal.returns-in_err-magnitude
+returns-in_err-magnitude c =
     let s = c.args.s.now in
-    rw (plain s c.if-s-eq0.false c.if-s-eq45.false) (plain_is (read_decimal s) _ (sym c.whole_number.ensures ∙ c.in-Is.is))
+    c.from_residual.ensures ∙ rw (plain s c.if-s-eq0.false c.if-s-eq45.false) (plain_bad (read_decimal s) (sym c.whole_number.ensures ∙ c.in_err-magnitude.was))
 
-pub returns-in-Malformed : goal.returns-in-Malformed
-returns-in-Malformed c =
+pub returns : goal.returns
+returns c =
     let s = c.args.s.now in
-    rw (plain s c.if-s-eq0.false c.if-s-eq45.false) (plain_bad (read_decimal s) (sym c.whole_number.ensures ∙ c.in-Malformed.is))
+    rw (plain s c.if-s-eq0.false c.if-s-eq45.false) (plain_is (read_decimal s) _ (sym c.whole_number.ensures ∙ c.in_ok-magnitude.was))

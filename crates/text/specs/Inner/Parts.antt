@@ -1,8 +1,11 @@
 -- The parts of the readers: what only their own functions promise.
 use Rattle.std.specs.Prelude.{◌≡◌, cond, List, ℕ, zero, suc, ◌+◌, ◌*◌, ◌/◌, ◌%◌, ◌^◌, ◌<◌, ◌≤◌, eqb, get_or}
 use Rattle.text.specs.Readers.{digit_value, read_from, numeral}
-use Rattle.text.specs.declared.Number.TheVariants as Number
-use Rattle.text.specs.declared.Numeral.{Numeral}
+use Rattle.std.specs.Prelude as rust
+use Rattle.std.specs.Prelude.{None}
+use Rattle.text.specs.declared.Number.{Number}
+use Rattle.text.specs.declared.Number.TheVariants.{Value, TooBig}
+use Rattle.text.specs.Inner.Short.{below}
 
 -- the four lowest bytes of x are those of f from i on
 abbrev pub four_are : List ℕ → ℕ → ℕ → Type 0
@@ -28,14 +31,11 @@ marks c (suc k) x = marks c k (x / 256) * 256 + cond (eqb (x % 256) c) 128 0
 abbrev pub Decimal : (c r : ℕ) → Type 0
 Decimal c r = (r < 10 → r ≡ digit_value c) × (10 ≤ r → 10 ≤ digit_value c) × (r < 256)
 
--- the number reader's answer as numbers: 0 is a value, 1 too big, 2 malformed
-abbrev pub numeral_of : (kind value : ℕ) → Numeral
-numeral_of k v = cond (eqb k 0) (Numeral.Is (Number.Value v)) (cond (eqb k 1) (Numeral.Is Number.TooBig) Numeral.Malformed)
-
--- kind and value are this numeral, and the reader stopped at e
-abbrev pub Scans : Numeral → (e : ℕ) → (kind value stop : ℕ) → Type 0
-Scans n e k v stop = (numeral_of k v ≡ n) × (stop ≡ e)
-
 -- a number of more than 64 bits, with these bytes behind it
-abbrev pub stays_big : List ℕ → Numeral
+abbrev pub stays_big : List ℕ → rust.Option Number
 stays_big t = numeral (read_from 10 (2 ^ 64) t)
+
+-- a number, if it is below 10,000
+abbrev pub few : Number → rust.Option ℕ
+few (Value n) = below 10000 n
+few TooBig = None
