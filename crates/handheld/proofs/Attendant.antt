@@ -1,14 +1,12 @@
 -- What a call tells an attendant, from what the attendant can't see.
-use mathlib.Core.Path.{◌≡◌, sym, ap, ◌∙◌}
+use mathlib.Core.Path.{sym, ap, ◌∙◌}
 use mathlib.Core.List.{List}
 use Prim.Native.Nat.{ℕ, zero, suc}
 use native.Mathlib.Omega.{arith}
-use Rattle.refusal.specs.Answer.{Answer}
-use Rattle.reading.specs.Program.{Program}
-use Rattle.routine.specs.Routine.{Summary, program_of, summary_answer}
-use Rattle.print.specs.Text.{length_in, put_in}
+use Rattle.routine.specs.Routine.{program_of}
+use Rattle.print.specs.Text.{put_in}
 use Rattle.listing.proofs.Unseen.{unseen}
-use Rattle.handheld.specs.Numbers.{number, text_number, listing_numbers}
+use Rattle.handheld.specs.Numbers.{number}
 use Rattle.handheld.specs.Attendant.{SameTold}
 use Rattle.handheld.proofs.Shown.{number_told}
 

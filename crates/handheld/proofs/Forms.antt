@@ -9,13 +9,15 @@ use borrow.Author.Tests.{lt-leb, ltb-false}
 use lib.Dec.{ltb}
 use lib.IntN.{ℤ}
 use Rattle.ast.specs.declared.Order.{Order}
-use Rattle.ast.specs.declared.Order.TheVariants as Order
 use Rattle.text.specs.Readers.{sized}
 use Rattle.text.specs.declared.Number.TheVariants.{Value, TooBig}
 use Rattle.form.specs.Text.{DeckLine}
 use Rattle.form.specs.Text as Text
 use Rattle.form.specs.Grammar.{said}
 use Rattle.form.specs.Form.{cut, formed, form_of}
+use Rattle.std.specs.Prelude.{Some, None}
+use Rattle.form.specs.declared.Form.{Form}
+use Rattle.handheld.specs.declared.Said.TheVariants as Said
 use Rattle.deck.proofs.Forms.{form_law}
 use Rattle.handheld.specs.Single.{field, constant_of, says}
 use Rattle.handheld.specs.Inner.Forms.{field_of, form_says}
@@ -49,14 +51,26 @@ bits_said : (n : ℕ) → form_says (cut (Text.bits n)) ≡ says (some (Text.bit
 unfolding form_says says
 bits_said n = ap constant_of (form_law (Text.bits n))
 
-formed_said : (o : Option DeckLine) → form_says (formed o) ≡ says o
+formed_said : (l : DeckLine) → form_says (cut l) ≡ says (some l)
 unfolding form_says says
-formed_said none = refl
-formed_said (some (Text.head H)) = refl
-formed_said (some (Text.order o)) = order_said o
-formed_said (some (Text.float z)) = float_said z
-formed_said (some (Text.bits n)) = bits_said n
+formed_said (Text.head H) = refl
+formed_said (Text.order o) = order_said o
+formed_said (Text.float z) = float_said z
+formed_said (Text.bits n) = bits_said n
 
-pub form_said : (line : List ℕ) → form_says (form_of line) ≡ says (said line)
-unfolding form_of
-form_said line = formed_said (said line)
+module _ (line : List ℕ) where
+  pub says_form : (f : Form) → form_of line ≡ Some f → form_says f ≡ says (said line)
+  unfolding form_of
+  says_form f e = go (said line) e
+    where
+      go : (o : Option DeckLine) → formed o ≡ Some f → form_says f ≡ says o
+      go none e = absurd (let z : ◌≡◌ {A = ℕ} 0 1 = cc in omega arith)
+      go (some l) e = let w : f ≡ cut l = cc in rw w (formed_said l)
+
+  pub says_none : form_of line ≡ None → says (said line) ≡ Said.Other
+  unfolding form_of says
+  says_none e = go (said line) e
+    where
+      go : (o : Option DeckLine) → formed o ≡ None → says o ≡ Said.Other
+      go none e = refl
+      go (some l) e = absurd (let z : ◌≡◌ {A = ℕ} 0 1 = cc in omega arith)

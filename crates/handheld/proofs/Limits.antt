@@ -13,13 +13,10 @@ use lib.IntN.{nat_abs}
 use lib.ListN.{replicate}
 use Rattle.refusal.specs.Answer.{Answer, accepted}
 use Rattle.refusal.specs.declared.Refusal.{Refusal}
-use Rattle.refusal.specs.declared.Refusal.TheVariants as Refusal
 use Rattle.ast.specs.Counts.{counts_hold}
 use Rattle.ast.specs.Uses.{uses, registers_fit}
 use Rattle.ast.specs.declared.Order.{Order}
-use Rattle.ast.specs.declared.Order.TheVariants as Order
 use Rattle.ast.specs.declared.Operand.{Operand}
-use Rattle.ast.specs.declared.Operand.TheVariants as Operand
 use Rattle.ast.specs.declared.Constant.TheVariants as Constant
 use Rattle.text.specs.Ascii.{bytes}
 use Rattle.text.specs.Readers.{read_decimal, read_integer, read_word, read_from, split, same}

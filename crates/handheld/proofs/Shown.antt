@@ -1,19 +1,14 @@
 -- From answers to the numbers that a caller gets, and from a line to its order.
-use mathlib.Core.Path.{◌≡◌, refl, sym, ap, ◌∙◌}
+use mathlib.Core.Path.{◌≡◌, refl, ap, ◌∙◌}
 use mathlib.Core.Bool.{Bool, true, false, cond}
 use mathlib.Core.List.{List, [], ◌∷◌}
 use Rattle.std.specs.declared.result.Result.{Result}
-use Prim.Native.Nat.{ℕ, zero, suc, ◌<◌, ◌≤◌}
-use borrow.Author.Tests.{le-leb, lt-leb}
+use Prim.Native.Nat.{ℕ, zero, suc}
 use lib.ListN.{length}
 use Rattle.refusal.specs.Answer.{Answer, accepted, refused}
 use Rattle.refusal.specs.Number.{number_of}
 use Rattle.refusal.specs.declared.Refusal.{Refusal}
-use Rattle.text.specs.declared.Number.{Number}
-use Rattle.text.specs.declared.Number.TheVariants.{Value}
 use Rattle.form.specs.Grammar.{said}
-use Rattle.form.specs.Form.{form_of}
-use Rattle.form.specs.declared.Form.{Form}
 use Rattle.assembler.specs.State.{State, Outcome, state, outcome, emit_answer, sound}
 use Rattle.assembler.specs.Put.{targets, ranked, settled, put}
 use Rattle.assembler.specs.declared.Asm.{Asm}
@@ -32,9 +27,7 @@ use Rattle.listing.specs.declared.View.TheVariants.{Attendant}
 use Rattle.handheld.specs.Numbers.{number, deck_numbers, RunTold}
 use Rattle.handheld.specs.Numbers as Numbers
 use Rattle.handheld.specs.Single.{says, order_put, line_put, as_constant, constant_put, numbers_of, record_after, single, order_result, finish_result, finish_told}
-use Rattle.handheld.specs.Inner.Forms.{field_of, form_says}
 use Rattle.handheld.specs.declared.Said.{Said}
-use Rattle.handheld.proofs.Forms.{form_said}
 
 -- ---- a deck file
 
@@ -51,25 +44,14 @@ module _ (t : Answer Summary) (n : ℕ) (l : List ℕ) (g : n ≡ number t) (h :
 
 -- ---- a line's order or constant
 
-module _ (n : Number) (v : ℕ) (e : n ≡ Value v) where
-  pub above : 4294967295 < v → 4294967295 ≡ field_of n
-  above h = rw (e, lt-leb v 4294967295 h)
-
-  pub within : v ≤ 4294967295 → v ≡ field_of n
-  within h = rw (e, le-leb v 4294967295 h)
-
--- by the form that was read
-module _ (line : List ℕ) (f : Form) (r : f ≡ form_of line) (s : State) (x y : Said) (e : x ≡ form_says f) (g : x ≡ y) where
-  its : says (said line) ≡ y
-  its = sym (form_said line) ∙ ap form_says (sym r) ∙ sym e ∙ g
-
+module _ (line : List ℕ) (s : State) (x y : Said) (e : x ≡ says (said line)) (g : x ≡ y) where
   pub order_is : (tag : ℕ) → line_put tag (said line) s ≡ order_put tag y s
   unfolding line_put
-  order_is tag = rw its
+  order_is tag = rw (← e, g)
 
   pub constant_is : (k : ℕ) → constant_put k (said line) s ≡ as_constant k y s
   unfolding constant_put
-  constant_is k = rw its
+  constant_is k = rw (← e, g)
 
 -- a fault of 2, where nothing is to be placed
 same : (t : Bool) → ◌≡◌ {A = ℕ} (cond t 2 2) 2

@@ -5,7 +5,6 @@ use Rattle.refusal.specs.Answer.{Answer, accepted, refused}
 use Rattle.refusal.specs.Number.{number_of}
 use Rattle.refusal.specs.declared.Refusal.TheVariants.{Value as Valued, Line}
 use Rattle.ast.specs.declared.Order.{Order}
-use Rattle.ast.specs.declared.Order.TheVariants as Order
 use Rattle.form.specs.Text.{DeckLine}
 use Rattle.form.specs.Text as Text
 use Rattle.deck.specs.Judge.{Content, judged}
@@ -19,7 +18,6 @@ use Rattle.orders.specs.Emitted.{emitted}
 use Rattle.unused.specs.Unused.{put_list}
 use Rattle.handheld.specs.Numbers.{number, place}
 use Rattle.handheld.specs.declared.Said.{Said}
-use Rattle.handheld.specs.declared.Said.TheVariants as Said
 
 -- ---- what a line says
 

@@ -16,7 +16,7 @@ ghost use Rattle.listing.specs.Listing.{code_answer, listed, deck_listing};
 ghost use Rattle.listing.specs.Views.{deck_view};
 ghost use Rattle.handheld.specs.Numbers.{number, place, frame_number, deck_numbers, Deck, DeckIn, text_number};
 ghost use Rattle.handheld.specs.Numbers.{CodeTold, listing_numbers, DeckListed, view_of};
-ghost use Rattle.handheld.specs.Single.{constant_of, no_such, line_put, constant_put};
+ghost use Rattle.handheld.specs.Single.{constant_of, says, no_such, line_put, constant_put};
 ghost use Rattle.handheld.specs.Single.{asm_of, numbers_of, record_after, order_outcome, finish_outcome, finish_told};
 ghost use Rattle.handheld.specs.Single.{single_before, single_after, finish_before, finish_after};
 ghost use Rattle.unused.specs.Unused.{listed as unused_listed};
@@ -25,7 +25,7 @@ ghost use Rattle.handheld.specs.Inner.Forms.{field_of, form_says};
 
 use assembler::{Asm, EmitResult, Jumps, LABELS, Labels};
 use ast::{Constant, Frame, Order};
-use deck::Judged;
+use deck::Line;
 use form::Form;
 use listing::{CodeError, View};
 use print::TooLong;
@@ -230,12 +230,7 @@ fn field(n: Number) -> u32
     ensures { result ≡ field_of n }
 {
     match n {
-        Number::Value(v) => {
-            if v > 0xFFFFFFFF {
-                return 0xFFFFFFFF;
-            }
-            v as u32
-        }
+        Number::Value(v) => v.min(0xFFFFFFFF) as u32,
         Number::TooBig => 0xFFFFFFFF,
     }
 }
@@ -244,16 +239,26 @@ fn field(n: Number) -> u32
 fn constant(form: Form) -> Said
     ensures { result ≡ constant_of (form_judged form) }
 {
-    let j = deck::judge(form);
-    match j {
-        Judged::Constant(c) => Said::Constant(c),
-        Judged::Refused(_) => Said::TooBig,
-        Judged::Order(_) => Said::Other,
-        Judged::Head(_) => Said::Other,
+    match deck::judge(form) {
+        Ok(Line::Constant(c)) => Said::Constant(c),
+        Ok(Line::Order(_)) => Said::Other,
+        Ok(Line::Head(_)) => Said::Other,
+        Err(_) => Said::TooBig,
     }
 }
 
-fn says(form: Form) -> Said
+#[tactic(auto, using(crate::proofs::Forms::says_form, crate::proofs::Forms::says_none))]
+fn says(line: &[u8]) -> Said
+    ensures { result ≡ says (said line.now) }
+{
+    match form::read_form(line) {
+        Some(form) => form_says(form),
+        None => Said::Other,
+    }
+}
+
+#[tactic(auto, unfolding(crate::specs::Inner::Forms::form_says))]
+fn form_says(form: Form) -> Said
     ensures { result ≡ form_says form }
 {
     match form {
@@ -276,7 +281,6 @@ fn says(form: Form) -> Said
         Form::Float(_, _) => constant(form),
         Form::Bits(_) => constant(form),
         Form::Head(_, _, _, _, _, _) => Said::Other,
-        Form::Malformed => Said::Other,
     }
 }
 
@@ -316,8 +320,7 @@ fn put_line(
 ) -> EmitResult
     ensures { after result labels jumps buf ≡ line_put tag (said line.now) (before asm labels jumps buf) }
 {
-    let said = says(form::read_form(line));
-    match said {
+    match says(line) {
         Said::Order(o) => orders::emit(o, tag, buf, labels, jumps, asm),
         Said::Constant(_) => no_such(asm),
         Said::TooBig => no_such(asm),
@@ -336,8 +339,7 @@ fn put_constant(
 ) -> EmitResult
     ensures { after result labels jumps buf ≡ constant_put k (said line.now) (before asm labels jumps buf) }
 {
-    let said = says(form::read_form(line));
-    match said {
+    match says(line) {
         Said::Constant(c) => assembler::append_const(k, c, buf, labels, jumps, asm),
         Said::TooBig => too_big(asm),
         Said::Order(_) => no_such(asm),

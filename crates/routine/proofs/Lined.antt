@@ -2,12 +2,12 @@
 use mathlib.Core.Path.{◌≡◌, refl, sym, ap, ◌∙◌}
 use mathlib.Core.Bool.{Bool, true, false, cond}
 use mathlib.Core.List.{List, [], ◌∷◌, ◌++◌, append-nil}
-use Prim.Native.Nat.{ℕ, ◌+◌, ◌≤◌, ◌<◌}
+use Prim.Native.Nat.{ℕ, ◌+◌, ◌-◌, ◌≤◌, ◌<◌}
 use native.Mathlib.Numerals.{add-one}
 use native.Mathlib.Omega.{arith}
 use borrow.Author.Tests.{le-leb, lt-leb, ltb-true}
 use lib.Dec.{ltb}
-use lib.ListN.{length, replicate}
+use lib.ListN.{length, take, drop, replicate}
 use Rattle.refusal.specs.Answer.{Answer, accepted, refused}
 use Rattle.refusal.specs.declared.Refusal.{Refusal}
 use Rattle.refusal.specs.declared.Refusal.TheVariants.{Line, Full}
@@ -15,7 +15,7 @@ use Rattle.ast.specs.declared.Head.{Head}
 use Rattle.ast.specs.declared.Order.{Order}
 use Rattle.ast.specs.declared.Frame.{Frame}
 use Rattle.ast.specs.declared.Constant.{Constant}
-use Rattle.text.specs.Lines.{lines_of}
+use Rattle.text.specs.Lines.{lines_of, Ends}
 use Rattle.form.specs.Grammar.{said}
 use Rattle.deck.specs.Judge.{Content, line_judged}
 use Rattle.deck.specs.Judge as Deck
@@ -109,6 +109,10 @@ module _ (file : List ℕ) (s : State) where
     pub file_goes : (t : List ℕ) (ts : List (List ℕ)) → lines_of file ≡ t ∷ ts → (x : Answer Content) → x ≡ line_judged true (said t) → head_run x ts s ≡ file_run file s
     unfolding file_run
     file_goes t ts i x e = rw (le-leb (length file) 65536 h, i, e)
+
+    -- by the line that ends at e
+    pub first_goes : (e : ℕ) → 0 < length file → Ends file 0 e → (x : Answer Content) → x ≡ line_judged true (said (take e file)) → head_run x (lines_of (drop e file)) s ≡ file_run file s
+    first_goes e l n x f = let z : e - 0 ≡ e = omega arith in file_goes (take e file) (lines_of (drop e file)) ((n.1 l).2 ∙ rw z) x f
 
 -- ---- the whole
 

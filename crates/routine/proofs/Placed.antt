@@ -1,8 +1,8 @@
 -- Constants by their lines' places. Assumes nothing.
-use mathlib.Core.Path.{◌≡◌, ◌∙◌}
+use mathlib.Core.Path.{◌≡◌, ap, ◌∙◌}
 use mathlib.Core.Bool.{true}
 use mathlib.Core.List.{List, ◌∷◌, ◌++◌, map-append}
-use Prim.Native.Nat.{ℕ, ◌+◌, ◌≤◌, ◌<◌}
+use Prim.Native.Nat.{ℕ, ◌+◌, ◌-◌, ◌≤◌, ◌<◌}
 use native.Mathlib.Numerals.{add-one}
 use native.Mathlib.Omega.{arith}
 use lib.ListN.{length, get_or, set, take, drop, length-map, drop_of_length-le}
@@ -15,7 +15,9 @@ use Rattle.assembler.specs.State.{State, state, outcome}
 use Rattle.assembler.specs.Put.{put}
 use Rattle.assembler.specs.declared.EmitResult.{EmitResult}
 use Rattle.assembler.specs.declared.Answer.TheVariants.{Accepted, Refused}
+use Rattle.refusal.specs.Answer.{Answer}
 use Rattle.refusal.specs.declared.Refusal.{Refusal}
+use Rattle.deck.specs.Judge.{Content}
 use Rattle.routine.specs.Run.{says, RunOutcome, next, waiting, constants_run}
 use Rattle.routine.specs.Inner.Places.{is_constant, first_said, constant_at, constants_at}
 use Rattle.routine.proofs.Onward.{constants_stop, constants_go}
@@ -29,6 +31,10 @@ module _ (file : List ℕ) (place : ℕ) where
   pub said_at : (t : List ℕ) (ts : List (List ℕ)) → lines_of (drop place file) ≡ t ∷ ts → first_said (waiting (says t)) ≡ constant_at file place
   unfolding constant_at
   said_at t ts i = rw i
+
+  -- by the line that ends at e
+  pub constant_is : (e : ℕ) → lines_of (drop place file) ≡ take (e - place) (drop place file) ∷ lines_of (drop e file) → (x : Answer Content) → x ≡ says (take (e - place) (drop place file)) → first_said (waiting x) ≡ constant_at file place
+  constant_is e i x h = ap (λ (y : Answer Content). first_said (waiting y)) h ∙ said_at _ _ i
 
 -- one place more
 pub place_kept : (file ps : List ℕ) (k place : ℕ) (t : List ℕ) (ts : List (List ℕ)) → lines_of (drop place file) ≡ t ∷ ts → k < length ps → is_constant (says t) ≡ true

@@ -1,37 +1,22 @@
 -- A line that the fast path takes. Assumes nothing.
-use mathlib.Core.Path.{◌≡◌, refl, sym, ◌∙◌}
+use mathlib.Core.Path.{◌≡◌, refl}
 use mathlib.Core.Bool.{Bool, true, false, cond}
 use mathlib.Core.List.{List, ◌∷◌}
 use mathlib.Core.Option.{Option, some, none}
-use Prim.Native.Nat.{ℕ, ◌+◌, ◌-◌, ◌/◌, ◌%◌, ◌≤◌, ◌<◌}
+use Prim.Native.Nat.{ℕ, ◌+◌}
 use native.Mathlib.Omega.{arith}
-use borrow.Author.Tests.{lt-ltb, le-ltb}
 use Rattle.refusal.specs.Answer.{Answer, accepted, refused}
 use Rattle.ast.specs.declared.Head.{Head}
 use Rattle.ast.specs.declared.Order.{Order}
 use Rattle.ast.specs.declared.Constant.{Constant}
 use Rattle.deck.specs.Judge.{Content}
 use Rattle.deck.specs.Judge as Deck
-use Rattle.assembler.specs.declared.Asm.{Asm}
-use Rattle.assembler.specs.State.{State, Outcome, state}
+use Rattle.assembler.specs.State.{State, Outcome}
 use Rattle.orders.specs.Wrote.{roomy}
 use Rattle.orders.specs.Emitted.{emitted_in}
-use Rattle.fast.specs.Inner.Fast.{only_order, if_accepted, taken, placed_in, fast_line, not_mine, asm_of, left}
+use Rattle.fast.specs.Inner.Fast.{only_order, if_accepted, taken, placed_in, fast_line}
 use Rattle.routine.specs.Run.{says, lines_run}
 use Rattle.routine.proofs.Lined.{order_passes}
-
--- the record behind an order without jumps, and behind one with jumps
-pub length_passed : (t : ℕ) (a : Asm) → t < 131072 → record { len = t; jumps = a.jumps; closed = a.closed } ≡ asm_of t a
-length_passed t a h =
-    let e : t % 131072 ≡ t = omega (arith, h) in
-    rw (lt-ltb t 131072 h, e)
-
-pub jumps_passed : (t : ℕ) (a : Asm) → 131072 ≤ t → record { len = t % 131072; jumps = t / 131072 - 1; closed = a.closed } ≡ asm_of t a
-jumps_passed t a h = rw (le-ltb t 131072 h)
-
--- an answer below the mark is a state
-pub left_some : (r : ℕ) (a x : Asm) (ls js b : List ℕ) (o : Option State) → r < not_mine → left r a ls js b ≡ o → x ≡ asm_of r a → o ≡ some (state x ls js b)
-left_some r a x ls js b o h e f = sym e ∙ rw (lt-ltb r not_mine h, f)
 
 no_state : {P : Type 0} (u : State) → ◌≡◌ {A = Option State} none (some u) → P
 no_state u e = let z : ◌≡◌ {A = ℕ} 0 1 = cc in absurd (omega arith)

@@ -8,7 +8,6 @@ ghost use Rattle.assembler.specs.State.{state, outcome, before, after};
 ghost use Rattle.assembler.specs.Put.{put};
 ghost use Rattle.assembler.specs.declared.Answer.TheVariants.{Accepted as Taken, Refused as Stop};
 ghost use Rattle.ast.specs.Constant.{constant_limit};
-ghost use Rattle.fast.specs.Inner.Fast.{asm_of};
 ghost use Rattle.call.specs.Layout.{padding};
 ghost use Rattle.routine.specs.Run.{cleared, enter_run, finish_run, leave_run, constant_run, says, line_run};
 ghost use Rattle.routine.specs.Run.{lines_run, file_run, run};
@@ -18,7 +17,7 @@ ghost use Rattle.routine.specs.Answer.{routine_answer, run_after};
 
 use assembler::{Asm, EmitResult, JUMPS, Jumps, LABELS, Labels};
 use ast::{Constant, Frame, Head};
-use deck::Judged;
+use deck::Line;
 use refusal::{Refusal, Refused};
 
 // At most so many constants.
@@ -208,12 +207,11 @@ fn constant_at(file: &[u8], place: u16) -> Constant
         return Constant::Bits(0);
     }
     let e = lines::line_end(file, p);
-    let j = deck::read_line(false, &file[p..e]);
-    match j {
-        Judged::Constant(c) => c,
-        Judged::Head(_) => Constant::Bits(0),
-        Judged::Order(_) => Constant::Bits(0),
-        Judged::Refused(_) => Constant::Bits(0),
+    match deck::read_line(false, &file[p..e]) {
+        Ok(Line::Constant(c)) => c,
+        Ok(Line::Head(_)) => Constant::Bits(0),
+        Ok(Line::Order(_)) => Constant::Bits(0),
+        Err(_) => Constant::Bits(0),
     }
 }
 
@@ -294,20 +292,6 @@ fn keep(k: usize, asm: Asm) -> EmitResult
     stopped(Refusal::Count, asm)
 }
 
-// The record behind a line that the fast path took.
-fn passed(t: u64, asm: Asm) -> Asm
-    ensures { result ≡ asm_of t asm }
-{
-    let mut next = asm;
-    if t < 131072 {
-        next.len = t as usize;
-        return next;
-    }
-    next.len = (t % 131072) as usize;
-    next.jumps = (t / 131072 - 1) as usize;
-    next
-}
-
 // A line by what it says, behind k constants: an order is emitted, a constant waits.
 fn take_line(
     head: Head,
@@ -322,21 +306,20 @@ fn take_line(
     ensures { (after result.done labels jumps buf ≡ line_run head n k (says line.now) (before asm labels jumps buf))
         × (result.waits ≡ is_constant (says line.now)) }
 {
-    let j = deck::read_line(false, line);
-    match j {
-        Judged::Order(o) => Step {
+    match deck::read_line(false, line) {
+        Ok(Line::Order(o)) => Step {
             done: orders::emit_in(head, n, o, buf, labels, jumps, asm),
             waits: false,
         },
-        Judged::Constant(_) => Step {
+        Ok(Line::Constant(_)) => Step {
             done: keep(k, asm),
             waits: true,
         },
-        Judged::Head(_) => Step {
+        Ok(Line::Head(_)) => Step {
             done: stopped(Refusal::Line, asm),
             waits: false,
         },
-        Judged::Refused(r) => Step {
+        Err(r) => Step {
             done: stopped(r, asm),
             waits: false,
         },
@@ -363,9 +346,8 @@ fn body(
         let place = at;
         at = lines::line_end(file, place);
         n += 1;
-        let t = fast::line(head, n, &file[place..at], buf, labels, jumps, asm);
-        if t < fast::NOT_MINE {
-            asm = passed(t, asm);
+        if let Some(next) = fast::line(head, n, &file[place..at], buf, labels, jumps, asm) {
+            asm = next;
             continue;
         }
         let l = take_line(head, n, k, &file[place..at], buf, labels, jumps, asm);
@@ -424,12 +406,11 @@ fn read_file(
         return refused(Refusal::Line, 1, asm);
     }
     let e = lines::line_end(file, 0);
-    let j = deck::read_line(true, &file[..e]);
-    match j {
-        Judged::Head(h) => read_headed(file, e, h, buf, labels, jumps, asm),
-        Judged::Order(_) => refused(Refusal::Line, 1, asm),
-        Judged::Constant(_) => refused(Refusal::Line, 1, asm),
-        Judged::Refused(r) => refused(r, 1, asm),
+    match deck::read_line(true, &file[..e]) {
+        Ok(Line::Head(h)) => read_headed(file, e, h, buf, labels, jumps, asm),
+        Ok(Line::Order(_)) => refused(Refusal::Line, 1, asm),
+        Ok(Line::Constant(_)) => refused(Refusal::Line, 1, asm),
+        Err(r) => refused(r, 1, asm),
     }
 }
 

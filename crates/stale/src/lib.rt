@@ -16,7 +16,7 @@ ghost use Rattle.stale.specs.Inner.Text.{count_of, line_in, memory_text, Within,
 
 use assembler::{Asm, JUMPS, LABELS, Labels, ROOM};
 use ast::Operand;
-use deck::Judged;
+use deck::Line;
 use print::{TooLong, Writer};
 use refusal::Refused;
 use routine::Outline;
@@ -58,16 +58,13 @@ fn operand_label(p: Operand) -> Option<u32>
 fn label_of(line: &[u8]) -> Option<u32>
     ensures { first_answer result ≡ label_of line.now }
 {
-    let j = deck::read_line(false, line);
-    match j {
-        Judged::Order(o) => {
+    match deck::read_line(false, line) {
+        Ok(Line::Order(o)) => {
             let u = ast::uses(o);
             let p = u.operand;
             operand_label(p)
         }
-        Judged::Head(_) => None,
-        Judged::Constant(_) => None,
-        Judged::Refused(_) => None,
+        Ok(Line::Head(_)) | Ok(Line::Constant(_)) | Err(_) => None,
     }
 }
 

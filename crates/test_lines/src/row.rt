@@ -2,9 +2,9 @@
 ghost use Rattle.std.specs.Prelude.{◌≤◌};
 
 use ast::{Binary, Constant, Frame, Fused, Head, Order, Place, Scratched, Unary};
-use deck::Judged;
+use deck::Line;
+use refusal::Refusal;
 use test_rows::{Hex, Outcome};
-use text::Word;
 
 // Bytes in front of a row's line, and room for the line.
 const FRONT: usize = 48;
@@ -12,7 +12,7 @@ const FRONT: usize = 48;
 const ROOM: usize = 80;
 
 // An answer as a row's numbers.
-#[derive(Clone, Copy)]
+#[derive(Clone, Copy, PartialEq, Eq)]
 struct Answer {
     tag: u32,
     a: u32,
@@ -95,7 +95,7 @@ fn order(o: Order) -> Answer {
         Order::LoadConst(d, k) => answer_of(7, d, k, 0, 0, 0, 0),
         Order::Load(d, p, i) => answer_of(8, d, place(p), i, 0, 0, 0),
         Order::Save(s, p, i) => answer_of(9, s, place(p), i, 0, 0, 0),
-        Order::BranchIf(c, l, e) => answer_of(10, c, l, if e { 1 } else { 0 }, 0, 0, 0),
+        Order::BranchIf(c, l, e) => answer_of(10, c, l, u32::from(e), 0, 0, 0),
         Order::SetLabel(l) => answer_of(11, l, 0, 0, 0, 0, 0),
     }
 }
@@ -109,12 +109,12 @@ fn head(h: Head) -> Answer {
     answer_of(1, k, h.cap, h.states, h.obs, h.last, h.mask as u64)
 }
 
-// A NaN, which differs from itself, has no bits of its own; no line gives one.
+// A NaN has no bits of its own; no line gives one.
 fn bits(x: f64) -> u64 {
-    if x == x {
-        f64::to_bits(x)
-    } else {
+    if x.is_nan() {
         0x7ff8000000000000
+    } else {
+        x.to_bits()
     }
 }
 
@@ -126,30 +126,37 @@ fn constant(c: Constant) -> Answer {
 }
 
 fn line(s: &[u8]) -> Answer {
-    match deck::judge(form::read_form(s)) {
-        Judged::Head(h) => head(h),
-        Judged::Order(o) => order(o),
-        Judged::Constant(c) => constant(c),
-        Judged::Refused(r) => answer_of(0, refusal::number(r) as u32, 0, 0, 0, 0, 0),
+    let said = match form::read_form(s) {
+        Some(form) => deck::judge(form),
+        None => Err(Refusal::Line),
+    };
+    match said {
+        Ok(Line::Head(h)) => head(h),
+        Ok(Line::Order(o)) => order(o),
+        Ok(Line::Constant(c)) => constant(c),
+        Err(r) => answer_of(0, refusal::number(r) as u32, 0, 0, 0, 0, 0),
     }
 }
 
-// A head's line and an order's: is the cell within its count.
-fn cell(s: &[u8]) -> Answer {
+// Whether the cell of an order's line is within its count, by a head's line in front of it.
+fn index_holds(s: &[u8]) -> Option<bool> {
     let e = text::line_end(s, 0);
     if e > s.len() {
-        return answer_of(0, 0, 0, 0, 0, 0, 0);
+        return None;
     }
-    let Judged::Head(h) = deck::read_line(true, &s[0..e]) else {
-        return answer_of(0, 0, 0, 0, 0, 0, 0);
-    };
-    let Judged::Order(o) = deck::read_line(false, &s[e..]) else {
-        return answer_of(0, 0, 0, 0, 0, 0, 0);
-    };
-    if ast::index_holds(h, o) {
-        answer_of(14, 1, 0, 0, 0, 0, 0)
-    } else {
-        answer_of(14, 0, 0, 0, 0, 0, 0)
+    match (
+        deck::read_line(true, &s[..e]),
+        deck::read_line(false, &s[e..]),
+    ) {
+        (Ok(Line::Head(h)), Ok(Line::Order(o))) => Some(ast::index_holds(h, o)),
+        _ => None,
+    }
+}
+
+fn cell(s: &[u8]) -> Answer {
+    match index_holds(s) {
+        Some(holds) => answer_of(14, u32::from(holds), 0, 0, 0, 0, 0),
+        None => answer_of(0, 0, 0, 0, 0, 0, 0),
     }
 }
 
@@ -168,7 +175,7 @@ fn expected(s: &[u8]) -> Answer {
     if s.len() < FRONT {
         return answer_of(255, 0, 0, 0, 0, 0, 0);
     }
-    let Word::Is(last) = text::read_word(&s[28..44]) else {
+    let Some(last) = text::read_word(&s[28..44]) else {
         return answer_of(255, 0, 0, 0, 0, 0, 0);
     };
     answer_of(
@@ -222,16 +229,6 @@ fn unescape(s: &[u8], count: usize, out: &mut [u8; ROOM]) -> usize {
     ROOM
 }
 
-fn same(x: Answer, y: Answer) -> bool {
-    x.tag == y.tag
-        && x.a == y.a
-        && x.b == y.b
-        && x.c == y.c
-        && x.d == y.d
-        && x.e == y.e
-        && x.last == y.last
-}
-
 // What the reader answers for a row's line, the first n bytes of `buf`.
 fn read(tag: u32, buf: &[u8; ROOM], n: usize) -> Answer {
     if n > ROOM {
@@ -261,11 +258,10 @@ fn came(s: &[u8], tag: u32) -> Answer {
 // Rows of cells count as others.
 pub(crate) fn outcome(s: &[u8]) -> Outcome {
     let want = expected(s);
-    if !same(want, came(s, want.tag)) {
+    if want != came(s, want.tag) {
         return Outcome::Mismatch;
     }
-    let k = want.tag;
-    match k {
+    match want.tag {
         0 => Outcome::Refused,
         14 => Outcome::Other,
         _ => Outcome::Accepted,

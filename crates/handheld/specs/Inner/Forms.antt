@@ -4,11 +4,9 @@ use Rattle.ast.specs.declared.Order.TheVariants as Order
 use Rattle.text.specs.declared.Number.{Number}
 use Rattle.text.specs.declared.Number.TheVariants.{Value, TooBig}
 use Rattle.form.specs.declared.Form.{Form}
-use Rattle.form.specs.declared.Form.TheVariants as Form
 use Rattle.deck.specs.Inner.Forms.{form_judged}
 use Rattle.handheld.specs.Single.{field, constant_of}
 use Rattle.handheld.specs.declared.Said.{Said}
-use Rattle.handheld.specs.declared.Said.TheVariants as Said
 
 abbrev pub field_of : Number → ℕ
 field_of (Value n) = field n
@@ -28,4 +26,3 @@ form_says (Form.SetLabel l) = Said.Order (Order.SetLabel (field_of l))
 form_says (Form.Float minus n) = constant_of (form_judged (Form.Float minus n))
 form_says (Form.Bits n) = constant_of (form_judged (Form.Bits n))
 form_says (Form.Head f c s o l m) = Said.Other
-form_says Form.Malformed = Said.Other
