@@ -8,7 +8,7 @@ ghost use Rattle.isa.specs.Instr.{I};
 ghost use Rattle.assembler.specs.Item.{instr};
 ghost use Rattle.assembler.specs.State.{SameLent, before, after};
 ghost use Rattle.assembler.specs.Put.{put};
-ghost use Rattle.assembler.specs.Plan.{fault_number, pushed};
+ghost use Rattle.assembler.specs.Plan.{operand_number, pushed};
 ghost use Rattle.accesses.specs.Code.{low_op, li_code, point_code, load_float_code, save_float_code, load_int_code};
 ghost use Rattle.accesses.specs.Code.{load_complex_code, save_complex_code, sub_stack_code, add_stack_code, allocate_stack_code};
 ghost use Rattle.accesses.specs.Fault.{offset_limit, li_fault, access_fault, one_fault, pair_fault, stack_fault};
@@ -16,9 +16,9 @@ ghost use Rattle.accesses.specs.Plans.{answer_of, pushes, plan_of, access_instr}
 ghost use Rattle.accesses.specs.Accessed.{accessed};
 ghost use Rattle.accesses.specs.Inner.Plans.{settled_plan, one_code, pair_code};
 
-use assembler::{Assembler, Plan, Tail};
+use assembler::{Assembler, Fault, Plan, Tail};
 use encoder::{Encoded, S5, SP, Sign, T0, ZERO};
-use refusal::{Refusal, Refused};
+use refusal::Refused;
 
 // Offsets and stack sizes go to this.
 const LIMIT: u32 = 0x7FFFFFFF;
@@ -228,8 +228,8 @@ fn allocate_stack_plan(n: u32) -> Plan
 
 // The plan placed; or, where there is a fault, refused for that.
 #[tactic(auto, unfolding(crate::specs::Inner::Plans::settled_plan))]
-fn settle(asm: &mut Assembler<'_>, fault: Option<Refusal>, p: Plan) -> Result<(), Refused>
-    ensures whole { after result asm.new ≡ settled_plan (fault_number fault) p (before asm.old) }
+fn settle(asm: &mut Assembler<'_>, fault: Option<Fault>, p: Plan) -> Result<(), Refused>
+    ensures whole { after result asm.new ≡ settled_plan (operand_number fault) p (before asm.old) }
     ensures lent { SameLent asm.old asm.new }
 {
     match fault {
@@ -246,64 +246,52 @@ fn settle(asm: &mut Assembler<'_>, fault: Option<Refusal>, p: Plan) -> Result<()
 }
 
 // What is refused of `li`: its register.
-fn li_refusal(d: u32) -> Option<Refusal>
-    ensures { fault_number result ≡ li_fault d }
+fn li_refusal(d: u32) -> Option<Fault>
+    ensures { operand_number result ≡ li_fault d }
 {
-    if d < 32 {
-        None
-    } else {
-        Some(Refusal::Register)
-    }
+    if d < 32 { None } else { Some(Fault::Register) }
 }
 
 // For an access of one cell.
-fn one_refusal(r: u32, base: u32, n: u32) -> Option<Refusal>
-    ensures { fault_number result ≡ one_fault r base n }
+fn one_refusal(r: u32, base: u32, n: u32) -> Option<Fault>
+    ensures { operand_number result ≡ one_fault r base n }
 {
     if r >= 32 {
-        return Some(Refusal::Register);
+        return Some(Fault::Register);
     }
     access_refusal(2048, base, n)
 }
 
 // For an access of two cells.
-fn pair_refusal(r: u32, base: u32, n: u32) -> Option<Refusal>
-    ensures { fault_number result ≡ pair_fault r base n }
+fn pair_refusal(r: u32, base: u32, n: u32) -> Option<Fault>
+    ensures { operand_number result ≡ pair_fault r base n }
 {
     if r > LAST_PAIR {
-        return Some(Refusal::Register);
+        return Some(Fault::Register);
     }
     access_refusal(2040, base, n)
 }
 
 // For the base and the offset of an access that is direct below `near`.
-fn access_refusal(near: u32, base: u32, n: u32) -> Option<Refusal>
-    ensures { fault_number result ≡ access_fault near (ltb base 32) base n }
+fn access_refusal(near: u32, base: u32, n: u32) -> Option<Fault>
+    ensures { operand_number result ≡ access_fault near (ltb base 32) base n }
 {
     if base >= 32 {
-        return Some(Refusal::Register);
+        return Some(Fault::Register);
     }
     if n > LIMIT {
-        return Some(Refusal::Value);
+        return Some(Fault::Value);
     }
     if n < near {
         return None;
     }
-    if base == T0 {
-        Some(Refusal::Base)
-    } else {
-        None
-    }
+    if base == T0 { Some(Fault::Base) } else { None }
 }
 
-fn stack_refusal(n: u32) -> Option<Refusal>
-    ensures { fault_number result ≡ stack_fault n }
+fn stack_refusal(n: u32) -> Option<Fault>
+    ensures { operand_number result ≡ stack_fault n }
 {
-    if n <= LIMIT {
-        None
-    } else {
-        Some(Refusal::Value)
-    }
+    if n <= LIMIT { None } else { Some(Fault::Value) }
 }
 
 pub fn li(asm: &mut Assembler<'_>, d: u32, z: i32) -> Result<(), Refused>

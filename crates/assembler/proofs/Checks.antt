@@ -1,14 +1,17 @@
 -- The checks of an order, one after the other. Assumes nothing.
 use mathlib.Core.Path.{◌≡◌, refl}
 use mathlib.Core.Bool.{Bool, true, false, ◌||◌, cond}
-use Prim.Native.Nat.{ℕ, ◌+◌, ◌*◌, ◌≤◌}
+use mathlib.Core.List.{List}
+use Prim.Native.Nat.{ℕ, ◌+◌, ◌*◌, ◌≤◌, min}
 use native.Mathlib.Omega.{arith}
-use borrow.Author.Tests.{le-leb, leb-true, ne_eqb, eqb-true, eqb-false}
+use borrow.Author.Tests.{le-leb, lt-leb, leb-true, leb-false, ne_eqb, eqb-true, eqb-false}
 use lib.Dec.{leb, eqb}
+use Rattle.std.specs.Prelude.{Result, Ok, Err, OnOk}
 use Rattle.base.proofs.Bools.{both, neither}
+use Rattle.refusal.specs.declared.Refused.{Refused}
 use Rattle.assembler.specs.Bytes.{room}
-use Rattle.assembler.specs.State.{fits}
-use Rattle.assembler.specs.Inner.State.{Fits}
+use Rattle.assembler.specs.State.{State, fits}
+use Rattle.assembler.specs.Inner.State.{Fits, Roomy}
 use Rattle.assembler.specs.Put.{ranked}
 use Rattle.assembler.specs.declared.Asm.{Asm}
 
@@ -22,6 +25,20 @@ fits_room n a words jumps e =
     let p = both _ _ e in
     let q = leb-true _ (room n) p.0 in
     (omega (arith, q), omega (arith, q), leb-true _ 4096 p.1)
+
+-- more words than bytes that count have as little room as one for each byte
+module _ (w m k : ℕ) (e : m ≡ min w 65536) where
+  pub fits_capped : (n : ℕ) (a : Asm) (jumps : ℕ) → fits n a (m + k) jumps ≡ fits n a (w + k) jumps
+  unfolding fits
+  fits_capped n a jumps = by (leb w 65536) refl
+    where
+      by : (t : Bool) → leb w 65536 ≡ t → fits n a (m + k) jumps ≡ fits n a (w + k) jumps
+      by true q = let z : m ≡ w = omega (arith, e, leb-true w 65536 q) in rw z
+      by false q = let h = leb-false w 65536 q in rw (lt-leb (a.len + 4 * (m + k)) (room n) (omega (arith, e, h)), lt-leb (a.len + 4 * (w + k)) (room n) (omega (arith, h)))
+
+  pub room_capped : (r : Result (Unit {0}) Refused) (ts : List ℕ) (s : State) → OnOk r (Roomy (m + k) ts s) → OnOk r (Roomy (w + k) ts s)
+  room_capped (Ok x) ts s h = (omega (arith, e, h.0), h.1)
+  room_capped (Err x) ts s h = h
 
 module _ (fault : ℕ) (closed sound taken fits : Bool) where
   -- what is known where nothing is refused

@@ -1,5 +1,6 @@
 -- An order as its words and the jumps behind them, and the refusal of an operand, if one is refused.
 use Rattle.std.specs.Prelude.{Bool, cond, List, [], ◌∷◌, ◌++◌, map, ℕ, ◌+◌, min, ltb, get_or, take, set, replicate, Option, Some, None, Result, Ok, Err}
+use Rattle.std.specs.Option.{option_map}
 use Rattle.base.specs.Tests.{all}
 use Rattle.refusal.specs.Number.{number_of}
 pub use Rattle.refusal.specs.Number.{fault_number}
@@ -8,6 +9,7 @@ use Rattle.refusal.specs.declared.Refusal.TheVariants.{Register, Value, Label, T
 use Rattle.refusal.specs.declared.Refused.{Refused}
 use Rattle.assembler.specs.Limit.{label_limit}
 use Rattle.assembler.specs.Item.{Item, raw, jump}
+use Rattle.assembler.specs.declared.Fault.{Fault}
 use Rattle.assembler.specs.declared.JumpKind.TheVariants.{Auipc}
 use Rattle.assembler.specs.declared.Tail.{Tail}
 use Rattle.assembler.specs.declared.Tail.TheVariants.{Nothing, One, Pair}
@@ -26,23 +28,36 @@ rank n = get_or ranks n 13
 abbrev pub earlier : ℕ → ℕ → ℕ
 earlier a b = cond (ltb (rank b) (rank a)) b a
 
-abbrev pub first_of : Option Refusal → Option Refusal → Option Refusal
-first_of a b = cond (ltb (rank (fault_number b)) (rank (fault_number a))) b a
+-- a fault as a refusal
+abbrev pub refusal_of : Fault → Refusal
+refusal_of Fault.Register = Register
+refusal_of Fault.Value = Value
+refusal_of Fault.Label = Label
+refusal_of Fault.Count = Count
+refusal_of Fault.Base = Base
+refusal_of Fault.Unsaved = Unsaved
+
+-- document 01's number of what is wrong with an operand, 0 for nothing
+abbrev pub operand_number : Option Fault → ℕ
+operand_number f = fault_number (option_map refusal_of f)
+
+abbrev pub first_of : Option Fault → Option Fault → Option Fault
+first_of a b = cond (ltb (rank (operand_number b)) (rank (operand_number a))) b a
 
 -- A refused instruction's: the encoder refuses registers and values; a number that isn't an operand's counts as a value.
-abbrev pub refusal_fault : Refusal → Option Refusal
-refusal_fault Register = Some Register
-refusal_fault Value = Some Value
-refusal_fault Label = Some Label
-refusal_fault Twice = Some Value
-refusal_fault Unset = Some Value
-refusal_fault Far = Some Value
-refusal_fault Full = Some Value
-refusal_fault Closed = Some Value
-refusal_fault Count = Some Count
-refusal_fault Base = Some Base
-refusal_fault Unsaved = Some Unsaved
-refusal_fault Line = Some Value
+abbrev pub refusal_fault : Refusal → Option Fault
+refusal_fault Register = Some Fault.Register
+refusal_fault Value = Some Fault.Value
+refusal_fault Label = Some Fault.Label
+refusal_fault Twice = Some Fault.Value
+refusal_fault Unset = Some Fault.Value
+refusal_fault Far = Some Fault.Value
+refusal_fault Full = Some Fault.Value
+refusal_fault Closed = Some Fault.Value
+refusal_fault Count = Some Fault.Count
+refusal_fault Base = Some Fault.Base
+refusal_fault Unsaved = Some Fault.Unsaved
+refusal_fault Line = Some Fault.Value
 
 -- a label's: 2 above 2,038
 abbrev pub label_fault : ℕ → ℕ
@@ -72,19 +87,19 @@ plan_items p t = map raw (plan_words p) ++ tail_items t
 
 -- a plan's own fault, or its tail's
 abbrev pub plan_fault : Plan → Tail → ℕ
-plan_fault p t = earlier (fault_number p.fault) (tail_fault t)
+plan_fault p t = earlier (operand_number p.fault) (tail_fault t)
 
 abbrev pub no_words : Plan
 no_words = record { n = 0; fault = None; w = replicate 12 0 }
 
 -- with a fault more
-abbrev pub faulty : Plan → Option Refusal → Plan
+abbrev pub faulty : Plan → Option Fault → Plan
 faulty p f = record { n = p.n; fault = first_of p.fault f; w = p.w }
 
 -- One instruction more; a 13th word is a fault.
 unfoldable pub pushed : Plan → Result ℕ Refused → Plan
 pushed p (Ok x) =
-    cond (ltb p.n 12) (record { n = p.n + 1; fault = p.fault; w = set p.w p.n x }) (faulty p (Some Value))
+    cond (ltb p.n 12) (record { n = p.n + 1; fault = p.fault; w = set p.w p.n x }) (faulty p (Some Fault.Value))
 pushed p (Err e) = faulty p (refusal_fault e.why)
 
 -- ---- labels that a whole would set

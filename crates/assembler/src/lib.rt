@@ -13,7 +13,7 @@ ghost use Rattle.assembler.specs.State.{SameLent, sound, fits, before, after};
 ghost use Rattle.assembler.specs.Inner.State.{Fits, Roomy, with_words};
 ghost use Rattle.assembler.specs.Put.{targets, twice, times, number_holds, numbers_sound, numbers_fit};
 ghost use Rattle.assembler.specs.Put.{verdict, prechecked, with_jump, with_label, placed, put};
-ghost use Rattle.assembler.specs.Plan.{rank, earlier, fault_number, first_of, refusal_fault, label_fault, jump_fault};
+ghost use Rattle.assembler.specs.Plan.{rank, earlier, operand_number, refusal_of, fault_number, first_of, refusal_fault, label_fault, jump_fault};
 ghost use Rattle.assembler.specs.Plan.{tail_items, tail_fault, plan_items, plan_fault, no_words, faulty, pushed};
 ghost use Rattle.assembler.specs.Plan.{all_labels, sets_fault};
 ghost use Rattle.assembler.specs.Constant.{quad, constant_items, constant_fault, size_answer, aligned};
@@ -95,11 +95,37 @@ pub enum Tail {
     Pair(JumpKind, u32, u32),
 }
 
+// What can be wrong with an operand. The other refusals aren't an operand's.
+#[derive(Clone, Copy, PartialEq, Eq)]
+pub enum Fault {
+    Register,
+    Value,
+    Label,
+    Count,
+    Base,
+    Unsaved,
+}
+
+impl From<Fault> for Refusal {
+    ghost from_gives = { λ f r. r ≡ refusal_of f };
+
+    fn from(f: Fault) -> Refusal {
+        match f {
+            Fault::Register => Refusal::Register,
+            Fault::Value => Refusal::Value,
+            Fault::Label => Refusal::Label,
+            Fault::Count => Refusal::Count,
+            Fault::Base => Refusal::Base,
+            Fault::Unsaved => Refusal::Unsaved,
+        }
+    }
+}
+
 // An order: the first n of w, then a tail. `fault` is what is wrong with an operand.
 #[derive(Clone, Copy)]
 pub struct Plan {
     pub n: usize,
-    pub fault: Option<Refusal>,
+    pub fault: Option<Fault>,
     pub w: [u32; 12],
 }
 
@@ -218,63 +244,56 @@ fn taken(labels: &Labels, sets: &[u32]) -> bool
 // ---- faults
 
 // Where a fault stands in document 01's order; none is last.
-fn rank(f: Option<Refusal>) -> u8
-    ensures { result ≡ rank (fault_number f) }
+fn rank(f: Option<Fault>) -> u8
+    ensures { result ≡ rank (operand_number f) }
 {
     match f {
-        Some(Refusal::Line) => 0,
-        Some(Refusal::Closed) => 1,
-        Some(Refusal::Register) => 2,
-        Some(Refusal::Label) => 3,
-        Some(Refusal::Value) => 4,
-        Some(Refusal::Count) => 5,
-        Some(Refusal::Base) => 6,
-        Some(Refusal::Unsaved) => 7,
-        Some(Refusal::Twice) => 8,
-        Some(Refusal::Full) => 9,
-        Some(Refusal::Unset) => 10,
-        Some(Refusal::Far) => 11,
+        Some(Fault::Register) => 2,
+        Some(Fault::Label) => 3,
+        Some(Fault::Value) => 4,
+        Some(Fault::Count) => 5,
+        Some(Fault::Base) => 6,
+        Some(Fault::Unsaved) => 7,
         None => 12,
     }
 }
 
-fn first_fault(a: Option<Refusal>, b: Option<Refusal>) -> Option<Refusal>
-    ensures { (result ≡ first_of a b) × (fault_number result ≡ earlier (fault_number a) (fault_number b)) }
+fn first_fault(a: Option<Fault>, b: Option<Fault>) -> Option<Fault>
+    ensures { (result ≡ first_of a b) × (operand_number result ≡ earlier (operand_number a) (operand_number b)) }
 {
     if rank(b) < rank(a) { b } else { a }
 }
 
 // The encoder refuses registers and values; a refusal that isn't an operand's counts as a value.
-fn fault_for(r: Refusal) -> Option<Refusal>
+fn fault_for(r: Refusal) -> Option<Fault>
     ensures { result ≡ refusal_fault r }
 {
     match r {
-        Refusal::Register | Refusal::Label => Some(r),
-        Refusal::Count | Refusal::Base | Refusal::Unsaved => Some(r),
-        _ => Some(Refusal::Value),
+        Refusal::Register => Some(Fault::Register),
+        Refusal::Label => Some(Fault::Label),
+        Refusal::Count => Some(Fault::Count),
+        Refusal::Base => Some(Fault::Base),
+        Refusal::Unsaved => Some(Fault::Unsaved),
+        _ => Some(Fault::Value),
     }
 }
 
 // A register or a label is refused before the record is looked at.
-fn is_early(why: Refusal) -> bool
-    ensures { result ≡ eqb (number_of why) 1 || eqb (number_of why) 3 }
+fn is_early(f: Fault) -> bool
+    ensures { result ≡ eqb (number_of (refusal_of f)) 1 || eqb (number_of (refusal_of f)) 3 }
 {
-    matches!(why, Refusal::Register | Refusal::Label)
+    matches!(f, Fault::Register | Fault::Label)
 }
 
 // A jump's register.
-fn jump_fault(r: u32) -> Option<Refusal>
-    ensures { fault_number result ≡ jump_fault r }
+fn jump_fault(r: u32) -> Option<Fault>
+    ensures { operand_number result ≡ jump_fault r }
 {
-    if r < 32 {
-        None
-    } else {
-        Some(Refusal::Register)
-    }
+    if r < 32 { None } else { Some(Fault::Register) }
 }
 
-fn tail_fault(t: Tail) -> Option<Refusal>
-    ensures { fault_number result ≡ tail_fault t }
+fn tail_fault(t: Tail) -> Option<Fault>
+    ensures { operand_number result ≡ tail_fault t }
 {
     match t {
         Tail::Nothing => None,
@@ -288,13 +307,13 @@ fn are_labels(sets: &[u32]) -> bool
     sets.iter().all(|l| (*l as usize) < LABELS)
 }
 
-fn sets_fault(sets: &[u32]) -> Option<Refusal>
-    ensures { fault_number result ≡ sets_fault sets.now }
+fn sets_fault(sets: &[u32]) -> Option<Fault>
+    ensures { operand_number result ≡ sets_fault sets.now }
 {
     if are_labels(sets) {
         None
     } else {
-        Some(Refusal::Value)
+        Some(Fault::Value)
     }
 }
 
@@ -320,7 +339,7 @@ impl Plan {
     }
 
     // With one fault more.
-    fn with_fault(self, f: Option<Refusal>) -> Plan
+    fn with_fault(self, f: Option<Fault>) -> Plan
         ensures { result ≡ faulty self f }
     {
         let mut next = self;
@@ -341,7 +360,7 @@ impl Plan {
                     next.n = self.n + 1;
                     return next;
                 }
-                self.with_fault(Some(Refusal::Value))
+                self.with_fault(Some(Fault::Value))
             }
             Err(e) => self.with_fault(fault_for(e.why)),
         }
@@ -382,21 +401,21 @@ impl Assembler<'_> {
     #[tactic(auto, unfolding(crate::specs::Put::ranked), using(crate::proofs::Tests::number_some))]
     fn refusal(
         &self,
-        fault: Option<Refusal>,
+        fault: Option<Fault>,
         sets: &[u32],
         goes: &[u32],
         words: usize,
     ) -> Option<Refusal>
-        ensures { fault_number result ≡ verdict (earlier (fault_number fault) (sets_fault sets.now)) sets.now goes.now words (before self.now) }
+        ensures { fault_number result ≡ verdict (earlier (operand_number fault) (sets_fault sets.now)) sets.now goes.now words (before self.now) }
     {
         if self.asm.closed {
             return Some(Refusal::Closed);
         }
         let good = self.is_good(goes);
         let first = first_fault(fault, sets_fault(sets));
-        if let Some(why) = first {
-            return if good || is_early(why) {
-                first
+        if let Some(f) = first {
+            return if good || is_early(f) {
+                Some(Refusal::from(f))
             } else {
                 Some(Refusal::Value)
             };
@@ -416,12 +435,12 @@ impl Assembler<'_> {
     // Such a whole is refused, or it has room; nothing changes.
     pub fn check_whole(
         &self,
-        fault: Option<Refusal>,
+        fault: Option<Fault>,
         sets: &[u32],
         goes: &[u32],
         words: usize,
     ) -> Result<(), Refused>
-        ensures whole { after result self.now ≡ prechecked (earlier (fault_number fault) (sets_fault sets.now)) sets.now goes.now words (before self.now) }
+        ensures whole { after result self.now ≡ prechecked (earlier (operand_number fault) (sets_fault sets.now)) sets.now goes.now words (before self.now) }
         ensures room { OnOk result (Roomy words goes.now (before self.now)) }
         ensures labels { OnOk result (all_labels sets.now ≡ true) }
     {
@@ -431,17 +450,17 @@ impl Assembler<'_> {
         }
     }
 
-    // The same of a tail behind so many words.
-    pub fn check_tail(&self, fault: Option<Refusal>, words: usize, t: Tail) -> Result<(), Refused>
-        requires { words ≤ room_limit }
+    // The same of a tail behind so many words. More than ROOM have no room, however many they are.
+    #[inline]
+    pub fn check_tail(&self, fault: Option<Fault>, words: usize, t: Tail) -> Result<(), Refused>
         ensures whole { after result self.now
-            ≡ prechecked (fault_number fault) [] (targets (tail_items t)) (words + length (targets (tail_items t))) (before self.now) }
+            ≡ prechecked (operand_number fault) [] (targets (tail_items t)) (words + length (targets (tail_items t))) (before self.now) }
         ensures room { OnOk result (Roomy (words + length (targets (tail_items t))) (targets (tail_items t)) (before self.now)) }
     {
         match t {
             Tail::Nothing => self.check_whole(fault, &[], &[], words),
-            Tail::One(_, l, _) => self.check_whole(fault, &[], &[l], words + 1),
-            Tail::Pair(_, l, _) => self.check_whole(fault, &[], &[l, l], words + 2),
+            Tail::One(_, l, _) => self.check_whole(fault, &[], &[l], words.min(ROOM) + 1),
+            Tail::Pair(_, l, _) => self.check_whole(fault, &[], &[l, l], words.min(ROOM) + 2),
         }
     }
 
@@ -557,7 +576,7 @@ impl Assembler<'_> {
         ensures lent { SameLent self.old self.new }
     {
         if 1007 < k {
-            return self.check_whole(Some(Refusal::Count), &[], &[], 2);
+            return self.check_whole(Some(Fault::Count), &[], &[], 2);
         }
         let b = bits_of(c);
         self.check_whole(None, &[1024 + k], &[], 2)?;

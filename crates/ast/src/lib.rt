@@ -244,7 +244,7 @@ fn unary_uses(k: Unary, d: u32, s: u32) -> View
     let writes = match k {
         Unary::Fmov if d == s => [None, None],
         Unary::Recip => [Some(10), Some(d)],
-        _ => [Some(d), None],
+        Unary::Fmov | Unary::Round | Unary::Floor | Unary::Not => [Some(d), None],
     };
     viewed([d, s, 0, 0], writes, Operand::Nothing)
 }
@@ -286,7 +286,7 @@ pub fn index_holds(head: Head, o: Order) -> bool
 {
     match uses(o).operand {
         Operand::Loaded(p, i) | Operand::Stored(p, i) => u64::from(i) < cell_count(head, p),
-        _ => true,
+        Operand::Nothing | Operand::Constant(_) | Operand::GoneTo(_) | Operand::Set(_) => true,
     }
 }
 
@@ -296,7 +296,8 @@ fn stores_open(mask: u32, x: Operand) -> bool
 {
     match x {
         Operand::Stored(p, i) => is_open(mask, p, i),
-        _ => true,
+        Operand::Nothing | Operand::Loaded(_, _) | Operand::Constant(_) => true,
+        Operand::GoneTo(_) | Operand::Set(_) => true,
     }
 }
 

@@ -25,10 +25,10 @@ ghost use Rattle.frames.specs.Whole.{head_of, prologue_put, epilogue_put};
 ghost use Rattle.frames.specs.Inner.Whole.{is_out, moved, looped as looped_of, entry};
 
 use accesses::Cell;
-use assembler::{Assembler, JumpKind, Plan, Tail};
+use assembler::{Assembler, Fault, JumpKind, Plan, Tail};
 use ast::{Frame, Head};
 use encoder::{A0, A1, A2, A3, Encoded, FA0, RA, SP, T0, T1, T2, ZERO};
-use refusal::{Refusal, Refused};
+use refusal::Refused;
 
 // ---- registers by their part in a frame
 
@@ -481,7 +481,7 @@ pub fn prologue(asm: &mut Assembler<'_>, head: Head, tag: u32) -> Result<(), Ref
     ensures lent { SameLent asm.old asm.new }
 {
     if !ast::prologue_holds(head) {
-        return asm.check_whole(Some(Refusal::Count), &[], prologue_goes(head), 0);
+        return asm.check_whole(Some(Fault::Count), &[], prologue_goes(head), 0);
     }
     match head.frame {
         Frame::Fast => fast_start(asm, head),
@@ -494,7 +494,7 @@ pub fn epilogue(asm: &mut Assembler<'_>, head: Head, tag: u32) -> Result<(), Ref
     ensures lent { SameLent asm.old asm.new }
 {
     if !ast::epilogue_holds(head) {
-        return asm.check_whole(Some(Refusal::Count), &[], epilogue_goes(head), 0);
+        return asm.check_whole(Some(Fault::Count), &[], epilogue_goes(head), 0);
     }
     match head.frame {
         Frame::Fast => fast_end(asm, head),

@@ -23,7 +23,7 @@ ghost use Rattle.unused.specs.Unused.{listed as unused_listed};
 ghost use Rattle.handheld.specs.Single.{UnusedTold};
 ghost use Rattle.handheld.specs.Inner.Forms.{field_of, form_says};
 
-use assembler::{Asm, Assembler, Jumps, LABELS, Labels};
+use assembler::{Asm, Assembler, Fault, Jumps, LABELS, Labels};
 use ast::{Constant, Frame, Order};
 use deck::Line;
 use form::Form;
@@ -290,7 +290,7 @@ const NO_SUCH: Refused = Refused {
 fn too_big(asm: &Assembler<'_>) -> Result<(), Refused>
     ensures { after result asm.now ≡ put 0 (number_of Refusal.Value) [] (before asm.now) }
 {
-    asm.check_whole(Some(Refusal::Value), &[], &[], 0)
+    asm.check_whole(Some(Fault::Value), &[], &[], 0)
 }
 
 // A line's order.
@@ -301,7 +301,7 @@ fn put_line(asm: &mut Assembler<'_>, line: &[u8], tag: u32) -> Result<(), Refuse
 {
     match says(line) {
         Said::Order(o) => orders::emit(asm, o, tag),
-        _ => Err(NO_SUCH),
+        Said::Constant(_) | Said::TooBig | Said::Other => Err(NO_SUCH),
     }
 }
 
@@ -314,7 +314,7 @@ fn put_constant(asm: &mut Assembler<'_>, line: &[u8], k: u32) -> Result<(), Refu
     match says(line) {
         Said::Constant(c) => asm.append_const(k, c),
         Said::TooBig => too_big(asm),
-        _ => Err(NO_SUCH),
+        Said::Order(_) | Said::Other => Err(NO_SUCH),
     }
 }
 

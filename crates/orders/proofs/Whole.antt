@@ -17,16 +17,16 @@ use Rattle.refusal.specs.declared.Refused.{Refused}
 use Rattle.std.specs.Prelude as Opt
 use Rattle.std.specs.Prelude.{Result, Err, Some, None}
 use Rattle.std.specs.Option.{is_some}
-use Rattle.refusal.specs.declared.Refusal.{Refusal}
 use Rattle.assembler.proofs.Tests.{number_some}
 use Rattle.assembler.specs.Bytes.{room, written}
 use Rattle.assembler.specs.Item.{Item, instr, raw, label}
 use Rattle.assembler.specs.State.{State, Outcome, state, emit_answer, sound, fits}
 use Rattle.assembler.specs.Inner.State.{with_words}
 use Rattle.assembler.specs.Put.{targets, twice, numbers_sound, numbers_fit, place, placed, ranked, verdict, put_number, prechecked, put}
-use Rattle.assembler.specs.Plan.{fault_number, label_fault, jump_fault, tail_items, tail_fault, plan_items, plan_fault, no_words}
+use Rattle.assembler.specs.Plan.{operand_number, refusal_of, label_fault, jump_fault, tail_items, tail_fault, plan_items, plan_fault, no_words}
 use Rattle.assembler.specs.Resolved.{resolved}
 use Rattle.assembler.specs.declared.Asm.{Asm}
+use Rattle.assembler.specs.declared.Fault.{Fault}
 use Rattle.assembler.specs.declared.Tail.{Tail}
 use Rattle.assembler.specs.declared.Tail.TheVariants as Tails
 use Rattle.assembler.proofs.Checks.{v_good}
@@ -195,18 +195,18 @@ tail_length (Tails.Pair k l r) here = omega arith
 
 -- ---- a fault, or none
 
-module _ (f : Opt.Option Refusal) (n : ℕ) (b : Bool) (e : fault_number f ≡ n) (s : b ≡ is_some f) where
+module _ (f : Opt.Option Fault) (n : ℕ) (b : Bool) (e : operand_number f ≡ n) (s : b ≡ is_some f) where
   pub fault_some : b ≡ true → n ≡ 0 → ⊥
   fault_some t z = by f (sym s ∙ t) (e ∙ z)
     where
-      by : (f : Opt.Option Refusal) → is_some f ≡ true → fault_number f ≡ 0 → ⊥
+      by : (f : Opt.Option Fault) → is_some f ≡ true → operand_number f ≡ 0 → ⊥
       by None h q = true_not_false h
-      by (Some r) h q = omega (arith, number_some r, q)
+      by (Some r) h q = omega (arith, number_some (refusal_of r), q)
 
   pub fault_none : b ≡ false → n ≡ 0
   fault_none t = sym e ∙ by f (sym s ∙ t)
     where
-      by : (f : Opt.Option Refusal) → is_some f ≡ false → fault_number f ≡ 0
+      by : (f : Opt.Option Fault) → is_some f ≡ false → operand_number f ≡ 0
       by None h = refl
       by (Some r) h = absurd (true_not_false (sym h))
 

@@ -5,7 +5,7 @@ ghost use Rattle.std.specs.Prelude.{◌≡◌, cond, [], ◌++◌, map, ◌≤�
 ghost use Rattle.assembler.specs.Item.{instr};
 ghost use Rattle.assembler.specs.State.{SameLent, before, after};
 ghost use Rattle.assembler.specs.Put.{targets};
-ghost use Rattle.assembler.specs.Plan.{fault_number, tail_items, tail_fault};
+ghost use Rattle.assembler.specs.Plan.{operand_number, refusal_of, tail_items, tail_fault};
 ghost use Rattle.refusal.specs.Number.{number_of};
 ghost use Rattle.orders.specs.Code.{code};
 ghost use Rattle.orders.specs.Fault.{fault as fault_of, operand_fault};
@@ -15,10 +15,10 @@ ghost use Rattle.orders.specs.Inner.Parts.{instrs, tail_of};
 pub mod named;
 mod write;
 
-use assembler::{Assembler, JumpKind, Plan, Tail};
+use assembler::{Assembler, Fault, JumpKind, Plan, Tail};
 use ast::{Head, Operand, Order};
 use encoder::ZERO;
-use refusal::{Refusal, Refused};
+use refusal::Refused;
 pub use write::{
     is_roomy, write_binary, write_fused, write_ifelse, write_load, write_save, write_scratched,
     write_unary,
@@ -34,31 +34,31 @@ const LAST_CONSTANT: u32 = 1007;
 const LAST_LABEL: u32 = 1023;
 
 // A number that has a last.
-fn up_to(n: u32, last: u32, above: Refusal) -> Option<Refusal>
-    ensures { fault_number result ≡ cond (leb n last) 0 (number_of above) }
+fn up_to(n: u32, last: u32, above: Fault) -> Option<Fault>
+    ensures { operand_number result ≡ cond (leb n last) 0 (number_of (refusal_of above)) }
 {
     if n <= last { None } else { Some(above) }
 }
 
-fn operand_fault(x: Operand) -> Option<Refusal>
-    ensures { fault_number result ≡ operand_fault x }
+fn operand_fault(x: Operand) -> Option<Fault>
+    ensures { operand_number result ≡ operand_fault x }
 {
     match x {
         Operand::Nothing => None,
-        Operand::Loaded(_, i) | Operand::Stored(_, i) => up_to(i, LAST_CELL, Refusal::Value),
-        Operand::Constant(k) => up_to(k, LAST_CONSTANT, Refusal::Count),
-        Operand::GoneTo(l) | Operand::Set(l) => up_to(l, LAST_LABEL, Refusal::Label),
+        Operand::Loaded(_, i) | Operand::Stored(_, i) => up_to(i, LAST_CELL, Fault::Value),
+        Operand::Constant(k) => up_to(k, LAST_CONSTANT, Fault::Count),
+        Operand::GoneTo(l) | Operand::Set(l) => up_to(l, LAST_LABEL, Fault::Label),
     }
 }
 
 // What is refused of an order's operands.
-pub fn fault(o: Order) -> Option<Refusal>
-    ensures { fault_number result ≡ fault_of o }
+pub fn fault(o: Order) -> Option<Fault>
+    ensures { operand_number result ≡ fault_of o }
 {
     if ast::registers_fit(o) {
         operand_fault(ast::uses(o).operand)
     } else {
-        Some(Refusal::Register)
+        Some(Fault::Register)
     }
 }
 
@@ -72,7 +72,10 @@ fn tail(o: Order) -> Tail
     match o {
         Order::LoadConst(d, k) => Tail::Pair(JumpKind::Fld, 1024 + k, d),
         Order::BranchIf(_, l, _) => Tail::Pair(JumpKind::Jalr, l, ZERO),
-        _ => Tail::Nothing,
+        Order::Unary(_, _, _) | Order::Scratched(_, _, _, _) => Tail::Nothing,
+        Order::Binary(_, _, _, _) | Order::Fused(_, _, _, _, _) => Tail::Nothing,
+        Order::Ifelse(_, _, _, _) | Order::Load(_, _, _) => Tail::Nothing,
+        Order::Save(_, _, _) | Order::SetLabel(_) => Tail::Nothing,
     }
 }
 
@@ -100,26 +103,33 @@ pub fn emit(asm: &mut Assembler<'_>, o: Order, tag: u32) -> Result<(), Refused>
     match o {
         Order::SetLabel(l) => asm.set_label(l),
         Order::LoadConst(_, _) => asm.place(Plan::new(), tail(o), tag),
-        _ => place(asm, o, tail(o), tag),
+        Order::Unary(_, _, _)
+        | Order::Scratched(_, _, _, _)
+        | Order::Binary(_, _, _, _)
+        | Order::Fused(_, _, _, _, _)
+        | Order::Ifelse(_, _, _, _)
+        | Order::Load(_, _, _)
+        | Order::Save(_, _, _)
+        | Order::BranchIf(_, _, _) => place(asm, o, tail(o), tag),
     }
 }
 
 // Of an order whose cell is not below its count: 1, then 9.
-fn count_fault(o: Order) -> Option<Refusal>
-    ensures { fault_number result ≡ count_fault o }
+fn count_fault(o: Order) -> Option<Fault>
+    ensures { operand_number result ≡ count_fault o }
 {
     if ast::registers_fit(o) {
-        Some(Refusal::Count)
+        Some(Fault::Count)
     } else {
-        Some(Refusal::Register)
+        Some(Fault::Register)
     }
 }
 
 // 11, behind what else is refused of the order.
-fn unsaved(f: Option<Refusal>) -> Option<Refusal>
-    ensures { fault_number result ≡ unsaved_fault (fault_number f) }
+fn unsaved(f: Option<Fault>) -> Option<Fault>
+    ensures { operand_number result ≡ unsaved_fault (operand_number f) }
 {
-    f.or(Some(Refusal::Unsaved))
+    f.or(Some(Fault::Unsaved))
 }
 
 // The jumps of an order, if it has no fault: the numbers of their labels are looked at.

@@ -44,7 +44,8 @@ fn operand_label(p: Operand) -> Option<u32>
 {
     match p {
         Operand::Set(l) => Some(l),
-        _ => None,
+        Operand::Nothing | Operand::Loaded(_, _) | Operand::Stored(_, _) => None,
+        Operand::Constant(_) | Operand::GoneTo(_) => None,
     }
 }
 
@@ -54,7 +55,7 @@ fn label_of(line: &[u8]) -> Option<u32>
 {
     match deck::read_line(false, line) {
         Ok(Line::Order(o)) => operand_label(ast::uses(o).operand),
-        _ => None,
+        Ok(Line::Head(_) | Line::Constant(_)) | Err(_) => None,
     }
 }
 

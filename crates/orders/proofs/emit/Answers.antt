@@ -1,3 +1,4 @@
+use native.Mathlib.Omega.{arith}
 use mathlib.Core.Path.{◌∙◌}
 use Rattle.assembler.specs.State.{before}
 use Rattle.orders.proofs.Whole.{fault_some, fault_none, items_none, order_refused, order_label, order_alone, tail_right, tail_fits}
@@ -9,11 +10,11 @@ returns-then-is_some-clause-whole c =
     let bad = fault_some _ _ _ c.fault-f.ensures c.is_some.ensures c.if-is_some.true in
     order_refused a.o a.tag (before a.asm.now) _ _ _ _ _ c.fault-f.ensures bad (items_none a.o bad) c.check_tail.ensures.whole
 
-pub place-requires-in_default : goal.place-requires-in_default
-place-requires-in_default c =
+pub place-requires-in-Unary : goal.place-requires-in-Unary
+place-requires-in-Unary c =
     let o = c.args.o in
     let good = fault_none _ _ _ c.fault-f.ensures c.is_some.ensures c.if-is_some.false in
-    rw c.tail-in_default.ensures (good, tail_right o c.in_default.not-SetLabel, tail_fits o good)
+    rw c.tail-in-Unary.ensures (good, tail_right o (λ l e. grind (arith, c.in-Unary.is, e)), tail_fits o good)
 
 pub returns-in-SetLabel-clause-whole : goal.returns-in-SetLabel-clause-whole
 returns-in-SetLabel-clause-whole c =

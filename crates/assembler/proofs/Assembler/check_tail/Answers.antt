@@ -1,6 +1,9 @@
 use native.Mathlib.Nat.{add-zero}
+use mathlib.Core.List.{[], ◌∷◌}
+use Rattle.assembler.specs.State.{before}
 use Rattle.assembler.specs.Put.{targets}
 use Rattle.assembler.proofs.Plans.{earlier_none}
+use Rattle.assembler.proofs.Checks.{fits_capped, room_capped}
 use Rattle.assembler.proofs.Assembler.check_tail.Goals as goal
 
 pub returns-in-Nothing-clause-whole : goal.returns-in-Nothing-clause-whole
@@ -9,11 +12,11 @@ returns-in-Nothing-clause-whole c = rw (c.in-Nothing.is, add-zero, ← earlier_n
 
 pub returns-in-One-clause-whole : goal.returns-in-One-clause-whole
 unfolding targets
-returns-in-One-clause-whole c = rw (c.in-One.is, ← earlier_none c.args.fault) c.check_whole-in-One.ensures.whole
+returns-in-One-clause-whole c = rw (c.in-One.is, ← earlier_none c.args.fault, ← fits_capped c.args.words _ 1 c.min.ensures) c.check_whole-in-One.ensures.whole
 
 pub returns-in-Pair-clause-whole : goal.returns-in-Pair-clause-whole
 unfolding targets
-returns-in-Pair-clause-whole c = rw (c.in-Pair.is, ← earlier_none c.args.fault) c.check_whole-in-Pair.ensures.whole
+returns-in-Pair-clause-whole c = rw (c.in-Pair.is, ← earlier_none c.args.fault, ← fits_capped c.args.words _ 2 c.min-in-Pair.ensures) c.check_whole-in-Pair.ensures.whole
 
 pub returns-in-Nothing-clause-room : goal.returns-in-Nothing-clause-room
 unfolding targets
@@ -21,8 +24,8 @@ returns-in-Nothing-clause-room c = rw (c.in-Nothing.is, add-zero) c.check_whole.
 
 pub returns-in-One-clause-room : goal.returns-in-One-clause-room
 unfolding targets
-returns-in-One-clause-room c = rw c.in-One.is c.check_whole-in-One.ensures.room
+returns-in-One-clause-room c = rw c.in-One.is (room_capped c.args.words _ 1 c.min.ensures _ (c.in-One.l ∷ []) (before c.args.self.now) c.check_whole-in-One.ensures.room)
 
 pub returns-in-Pair-clause-room : goal.returns-in-Pair-clause-room
 unfolding targets
-returns-in-Pair-clause-room c = rw c.in-Pair.is c.check_whole-in-Pair.ensures.room
+returns-in-Pair-clause-room c = rw c.in-Pair.is (room_capped c.args.words _ 2 c.min-in-Pair.ensures _ (c.in-Pair.l ∷ c.in-Pair.l ∷ []) (before c.args.self.now) c.check_whole-in-Pair.ensures.room)

@@ -4,7 +4,7 @@ use lib.ListN.{length}
 use lib.Seq.{length-take-le}
 use mathlib.Core.Path.{◌≡◌, ap, ◌∙◌}
 use Rattle.assembler.specs.State.{State, before}
-use Rattle.assembler.specs.Plan.{earlier, fault_number, plan_items, plan_fault}
+use Rattle.assembler.specs.Plan.{earlier, operand_number, plan_items, plan_fault}
 use Rattle.assembler.proofs.Writes.{length_written}
 use Rattle.assembler.proofs.Steps.{put_refused, put_taken, plan_told, plan_placed}
 use Rattle.assembler.proofs.Assembler.place.Goals as goal
@@ -13,7 +13,7 @@ pub returns-in_err-check_tail-clause-whole : goal.returns-in_err-check_tail-clau
 returns-in_err-check_tail-clause-whole c =
     let a = c.args in
     let s = before a.self.now in
-    let f = c.first_fault.ensures.1 ∙ ap (earlier (fault_number a.p.fault)) c.tail_fault.ensures in
+    let f = c.first_fault.ensures.1 ∙ ap (earlier (operand_number a.p.fault)) c.tail_fault.ensures in
     put_refused a.tag (plan_fault a.p a.t) (plan_items a.p a.t) s _ _ _ (plan_told _ _ a.p a.t s (search rules) f c.min-n.ensures) (search rules) c.in_err-check_tail.ensures.whole
 
 pub lay-requires : goal.lay-requires
@@ -38,6 +38,6 @@ pub returns-clause-whole : goal.returns-clause-whole
 returns-clause-whole c =
     let a = c.args in
     let s = before a.self.now in
-    let f = c.first_fault.ensures.1 ∙ ap (earlier (fault_number a.p.fault)) c.tail_fault.ensures in
+    let f = c.first_fault.ensures.1 ∙ ap (earlier (operand_number a.p.fault)) c.tail_fault.ensures in
     put_taken a.tag (plan_fault a.p a.t) (plan_items a.p a.t) s _ _ (plan_told _ _ a.p a.t s (search rules) f c.min-n.ensures) c.in_ok-check_tail.ensures.whole
     (plan_placed a.tag a.p a.t s _ _ _ c.min-n.ensures c.lay.ensures.whole c.reserve_tail.ensures.whole)
