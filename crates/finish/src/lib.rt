@@ -44,16 +44,22 @@ fn is_unset(e: u64) -> bool
 fn is_good(e: u64, len: usize) -> bool
     ensures { result ≡ label_good len e }
 {
+    if e == 0 {
+        return true;
+    }
     let p = label_place(e) as usize;
     e / 4294967296 <= 4096 && (is_unset(e) || p <= len && p % 4 == 0)
 }
 
-// Nothing is set, and no jump counted. Without a branch for each, so that many are looked at together.
+// A whole block in which nothing is set, and no jump counted. Without a branch for each, so that many are looked at together.
 fn is_blank(block: &[u64]) -> bool
     ensures { result ≡ true → EachIndex block.now (λ k. slice_index block.now k ≡ 0) }
 {
+    let Ok(whole) = <&[u64; 64]>::try_from(block) else {
+        return false;
+    };
     let mut all = 0;
-    for e in block {
+    for e in whole {
         all |= *e;
     }
     all == 0

@@ -43,7 +43,8 @@ pub fn read_full(reader: &mut impl io::Read, buf: &mut [u8]) -> usize
     n
 }
 
-// A block of what is left; whether there was one.
+// A block of what is left; whether there was one. The block is no part of its callers' frames.
+#[inline(never)]
 fn skip_block(reader: &mut impl io::Read) -> bool {
     let mut buf = [0u8; BLOCK];
     read_full(reader, &mut buf) > 0

@@ -62,11 +62,15 @@ pub fn word_at(s: &[u8], at: usize) -> u32
     }
 }
 
-// Every byte is b.
+// Every byte is b. Without a branch for each, so that many of half a mebibyte are looked at together.
 pub fn all(s: &[u8], b: u8) -> bool
     ensures { result ≡ all_of b s.now }
 {
-    s.iter().all(|c| *c == b)
+    let mut same = true;
+    for c in s {
+        same &= *c == b;
+    }
+    same
 }
 
 // Bytes that are put together piece by piece, as far as there is room for N.
