@@ -3,7 +3,7 @@ ghost use Rattle.std.specs.Prelude.{◌≡◌};
 ghost use Rattle.test_decks.specs.Inner.Bytes.{hash_of};
 
 use crate::piece::{Deck, ROOM};
-use crate::row::{column, wide};
+use crate::row::{column, compared, wide};
 use ast::Frame;
 use refusal::Refused;
 use routine::Outline;
@@ -38,7 +38,7 @@ fn told(answer: Result<Outline, Refused>) -> [u32; 5] {
 }
 
 fn agrees(told: [u32; 5], s: &[u8]) -> bool {
-    told.iter().zip(1..6).all(|(n, i)| column(s, i) == Some(*n))
+    told.iter().zip(1..6).all(|(n, i)| compared(s, i) == *n)
 }
 
 // ---- the buffer
@@ -58,7 +58,7 @@ pub(crate) fn hash(s: &[u8]) -> u64
 fn stands(buf: &[u8; ROOM], end: usize, size: usize, s: &[u8]) -> bool {
     let e = size.min(COUNTED);
     end <= e
-        && wide(s, 6) == Some(hash(&buf[..end]))
+        && wide(s, 6) == hash(&buf[..end])
         && test_rows::all(&buf[end..e], 0)
         && test_rows::all(&buf[e..], MARK)
 }
@@ -86,14 +86,12 @@ fn answered(s: &[u8], file: &[u8], buf: &mut [u8; ROOM]) -> bool {
 }
 
 // The row's words stand in the buffer.
-fn spelled(s: &[u8], buf: &[u8; ROOM]) -> Option<bool> {
-    let at = column(s, 0)? as usize;
-    let count = column(s, 1)? as usize;
-    Some(
-        count <= 12
-            && (0..count).all(|i| at <= COUNTED
-                && column(s, 2 + i) == Some(test_rows::word_at(buf, at + 4 * i))),
-    )
+fn spelled(s: &[u8], buf: &[u8; ROOM]) -> bool {
+    let at = compared(s, 0) as usize;
+    let count = compared(s, 1) as usize;
+    count <= 12
+        && (0..count).all(|i| at <= COUNTED
+            && compared(s, 2 + i) == test_rows::word_at(buf, at + 4 * i))
 }
 
 // A row that only has to hold.
@@ -133,7 +131,7 @@ pub(crate) fn row(s: &[u8], deck: &mut Deck, buf: &mut [u8; ROOM]) -> Outcome {
             deck.clear();
             judged(s, good)
         }
-        Some(b'w') => holds(spelled(s, buf) == Some(true)),
+        Some(b'w') => holds(spelled(s, buf)),
         _ => Outcome::Mismatch,
     }
 }

@@ -29,8 +29,8 @@ fn hash(out: &Out, n: usize) -> u64 {
 
 // So many labels with the row's hash, and nothing written behind them.
 fn stands(out: &Out, n: u32, s: &[u8]) -> bool {
-    crate::row::column(s, 8) == Some(n)
-        && crate::row::wide(s, 9) == Some(hash(out, n as usize))
+    crate::row::compared(s, 8) == n
+        && crate::row::wide(s, 9) == hash(out, n as usize)
         && blank(out, n as usize)
 }
 

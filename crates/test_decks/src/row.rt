@@ -10,9 +10,14 @@ pub(crate) fn column(s: &[u8], i: usize) -> Option<u32> {
     test_rows::column(s, 2 + 9 * i, 10 + 9 * i, end)
 }
 
+// The number that an answer's is compared with: where none can be read, the greatest.
+pub(crate) fn compared(s: &[u8], i: usize) -> u32 {
+    column(s, i).unwrap_or(u32::MAX)
+}
+
 // The number of 64 bits in two columns, the high half first.
-pub(crate) fn wide(s: &[u8], i: usize) -> Option<u64>
+pub(crate) fn wide(s: &[u8], i: usize) -> u64
     requires { i ≤ 12 }
 {
-    Some(u64::from(column(s, i)?) * 0x100000000 + u64::from(column(s, i + 1)?))
+    u64::from(compared(s, i)) * 0x100000000 + u64::from(compared(s, i + 1))
 }

@@ -50,7 +50,7 @@ const MARK: u32 = 0xffffffff;
 
 // Jumps made to label a, and its place plus 1 or 0.
 fn entry(r: Row, labels: &Labels) -> bool {
-    labels.get(r.a as usize) == Some(&crate::call::quad(r.c, r.b))
+    labels.get(r.a as usize).map_or(u64::MAX, |e| *e) == crate::call::quad(r.c, r.b)
 }
 
 // Length, jumps and the closed mark; and zeros behind the length, further than any call writes.

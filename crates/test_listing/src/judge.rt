@@ -114,13 +114,19 @@ fn view(n: usize) -> View {
     }
 }
 
-// `at` is the constants' offset, or the view. No answer where a row asks for more than there is.
-fn handed(asked: Asked, code: &[u8], at: usize, text: &mut [u8], room: usize) -> Option<Found> {
-    let text = text.get_mut(..room)?;
-    Some(match asked {
+// `at` is the constants' offset, or the view. Where a row asks for more room than there is, a refusal that no listing gives.
+fn handed(asked: Asked, code: &[u8], at: usize, text: &mut [u8], room: usize) -> Found {
+    let Some(text) = text.get_mut(..room) else {
+        return Found {
+            number: 0xffffffff,
+            place: 0,
+            length: Err(TooLong),
+        };
+    };
+    match asked {
         Asked::Code => told(listing::code_listing(code, at, text)),
         Asked::Deck => deck_told(listing::deck_view(code, view(at), text)),
-    })
+    }
 }
 
 // The bytes from one on are as they were.
@@ -154,7 +160,7 @@ fn answer(
         place: place as usize,
         length,
     };
-    if handed(asked, code, at as usize, text, room as usize)? != wanted
+    if handed(asked, code, at as usize, text, room as usize) != wanted
         || !marked(text, length.unwrap_or(0))
     {
         return None;
