@@ -12,10 +12,11 @@ use Rattle.isa.specs.Instr.{Instr}
 use Rattle.assembler.specs.Item.{instr}
 use Rattle.assembler.specs.State.{State, Outcome}
 use Rattle.assembler.specs.Put.{targets, put}
-use Rattle.assembler.specs.Plan.{operand_number, tail_items, tail_fault, plan_fault, plan_items}
+use Rattle.assembler.specs.Plan.{refusal_of, operand_number, tail_items, tail_fault, plan_fault, plan_items}
 use Rattle.assembler.proofs.Items.{targets_instrs}
 use Rattle.assembler.proofs.Plans.{put_fault, earlier_none, stands_put}
 use Rattle.std.proofs.Common.{Option}
+use Rattle.std.specs.Option.{option_map}
 use Rattle.assembler.specs.declared.Fault.{Fault}
 use Rattle.assembler.specs.declared.Plan.{Plan}
 use Rattle.assembler.specs.declared.Tail.{Tail}
@@ -29,7 +30,7 @@ use Rattle.accesses.proofs.Collect.{Built, AllValid, built}
 
 -- A plan's fault alone is answered.
 pub own_fault : (f : Option Fault) (w : List ℕ) → plan_fault (record { n = 0; fault = f; w = w }) Nothing ≡ operand_number f
-own_fault f w = earlier_none f
+own_fault f w = earlier_none (option_map refusal_of f)
 
 pub alone : (f : Option Fault) (w : List ℕ) (o : Outcome) (s : State)
     → o ≡ put 0 (plan_fault (record { n = 0; fault = f; w = w }) Nothing) (plan_items (record { n = 0; fault = f; w = w }) Nothing) s → o ≡ put 0 (operand_number f) [] s

@@ -7,13 +7,14 @@ use native.Mathlib.Omega.{arith}
 use borrow.Author.Tests.{le-ltb, ne_eqb, ltb-true, eqb-true, eqb-false}
 use lib.Dec.{ltb, eqb}
 use Rattle.std.specs.Prelude.{Option, Some, None}
+use Rattle.std.specs.Option.{option_map}
 use Rattle.isa.specs.Instr.{Instr}
 use Rattle.isa.specs.Encode.{encode}
 use Rattle.assembler.specs.Item.{Item, instr, raw}
 use Rattle.assembler.specs.State.{State}
 use Rattle.assembler.specs.Put.{words, targets, labels, place, placed, ranked, verdict, put_number, settled, put}
-use Rattle.assembler.specs.Plan.{rank, earlier, operand_number, tail_items, tail_fault, plan_words, plan_items, plan_fault, all_labels, sets_fault}
-use Rattle.assembler.specs.declared.Fault.{Fault}
+use Rattle.assembler.specs.Plan.{rank, earlier, refusal_of, fault_number, operand_number, tail_items, tail_fault, plan_words, plan_items, plan_fault, all_labels, sets_fault}
+use Rattle.refusal.specs.declared.Refusal.{Refusal}
 use Rattle.assembler.specs.declared.Plan.{Plan}
 use Rattle.assembler.specs.declared.Tail.{Tail}
 use Rattle.assembler.proofs.Items.{targets_append, targets_raw, targets_instrs}
@@ -72,31 +73,37 @@ module _ (t : List Item) where
   unfolding put
   put_same tag fault is s = rw (words_same is, targets_same is, labels_same is, placed_same tag is s)
 
-rank_small : (f : Option Fault) → rank (operand_number f) ≤ 12
+rank_small : (f : Option Refusal) → rank (fault_number f) ≤ 12
 rank_small None = omega arith
-rank_small (Some Fault.Register) = omega arith
-rank_small (Some Fault.Value) = omega arith
-rank_small (Some Fault.Label) = omega arith
-rank_small (Some Fault.Count) = omega arith
-rank_small (Some Fault.Base) = omega arith
-rank_small (Some Fault.Unsaved) = omega arith
+rank_small (Some Refusal.Register) = omega arith
+rank_small (Some Refusal.Value) = omega arith
+rank_small (Some Refusal.Label) = omega arith
+rank_small (Some Refusal.Twice) = omega arith
+rank_small (Some Refusal.Unset) = omega arith
+rank_small (Some Refusal.Far) = omega arith
+rank_small (Some Refusal.Full) = omega arith
+rank_small (Some Refusal.Closed) = omega arith
+rank_small (Some Refusal.Count) = omega arith
+rank_small (Some Refusal.Base) = omega arith
+rank_small (Some Refusal.Unsaved) = omega arith
+rank_small (Some Refusal.Line) = omega arith
 
 -- a fault and none
-pub earlier_none : (f : Option Fault) → earlier (operand_number f) 0 ≡ operand_number f
-earlier_none f = rw (le-ltb 12 (rank (operand_number f)) (rank_small f))
+pub earlier_none : (f : Option Refusal) → earlier (fault_number f) 0 ≡ fault_number f
+earlier_none f = rw (le-ltb 12 (rank (fault_number f)) (rank_small f))
 
-fault_zero : (f : Option Fault) (b : ℕ) → earlier (operand_number f) b ≡ 0 → operand_number f ≡ 0
-fault_zero f b e = by (ltb (rank b) (rank (operand_number f))) refl e
+fault_zero : (f : Option Refusal) (b : ℕ) → earlier (fault_number f) b ≡ 0 → fault_number f ≡ 0
+fault_zero f b e = by (ltb (rank b) (rank (fault_number f))) refl e
   where
-    by : (t : Bool) → ltb (rank b) (rank (operand_number f)) ≡ t → cond t b (operand_number f) ≡ 0 → operand_number f ≡ 0
+    by : (t : Bool) → ltb (rank b) (rank (fault_number f)) ≡ t → cond t b (fault_number f) ≡ 0 → fault_number f ≡ 0
     by false q e = e
-    by true q e = absurd (omega (arith, ltb-true (rank b) (rank (operand_number f)) q, ap rank e, rank_small f))
+    by true q e = absurd (omega (arith, ltb-true (rank b) (rank (fault_number f)) q, ap rank e, rank_small f))
 
 -- where there is none, all labels are labels
-pub none_asked : (x : Option Fault) (ls : List ℕ) → earlier (operand_number x) (sets_fault ls) ≡ 0 → all_labels ls ≡ true
+pub none_asked : (x : Option Refusal) (ls : List ℕ) → earlier (fault_number x) (sets_fault ls) ≡ 0 → all_labels ls ≡ true
 none_asked x ls e = by (all_labels ls) refl e
   where
-    by : (b : Bool) → all_labels ls ≡ b → earlier (operand_number x) (cond b 0 2) ≡ 0 → all_labels ls ≡ true
+    by : (b : Bool) → all_labels ls ≡ b → earlier (fault_number x) (cond b 0 2) ≡ 0 → all_labels ls ≡ true
     by true p q = p
     by false p q = absurd (let z = fault_zero x 2 q in let w = rw z at q in omega (arith, w))
 
@@ -113,4 +120,4 @@ module _ (p : Plan) (is : List Instr) (t : Tail) (tag : ℕ) (s : State) (w : op
     where
       by : (z : Bool) → eqb (plan_fault p t) 0 ≡ z → put tag (plan_fault p t) (plan_items p t) s ≡ put tag (plan_fault p t) (map instr is ++ tail_items t) s
       by false q = put_fault tag tag (plan_fault p t) (plan_items p t) (map instr is ++ tail_items t) s (eqb-false _ 0 q) same_targets
-      by true q = rw (w (fault_zero p.fault (tail_fault t) (eqb-true _ 0 q))) (put_same (tail_items t) tag (plan_fault p t) is s)
+      by true q = rw (w (fault_zero (option_map refusal_of p.fault) (tail_fault t) (eqb-true _ 0 q))) (put_same (tail_items t) tag (plan_fault p t) is s)

@@ -13,17 +13,18 @@ use Rattle.isa.specs.Encode.{encode}
 use Rattle.machine.proofs.Placed.{Valids}
 use Rattle.refusal.specs.Answer.{accepted, refused}
 use Rattle.refusal.specs.Number.{number_of}
+use Rattle.refusal.specs.declared.Refusal.{Refusal}
 use Rattle.refusal.specs.declared.Refused.{Refused}
 use Rattle.std.specs.Prelude as Opt
 use Rattle.std.specs.Prelude.{Result, Err, Some, None}
-use Rattle.std.specs.Option.{is_some}
+use Rattle.std.specs.Option.{is_some, option_map}
 use Rattle.assembler.proofs.Tests.{number_some}
 use Rattle.assembler.specs.Bytes.{room, written}
 use Rattle.assembler.specs.Item.{Item, instr, raw, label}
 use Rattle.assembler.specs.State.{State, Outcome, state, emit_answer, sound, fits}
 use Rattle.assembler.specs.Inner.State.{with_words}
 use Rattle.assembler.specs.Put.{targets, twice, numbers_sound, numbers_fit, place, placed, ranked, verdict, put_number, prechecked, put}
-use Rattle.assembler.specs.Plan.{operand_number, refusal_of, label_fault, jump_fault, tail_items, tail_fault, plan_items, plan_fault, no_words}
+use Rattle.assembler.specs.Plan.{fault_number, operand_number, refusal_of, label_fault, jump_fault, tail_items, tail_fault, plan_items, plan_fault, no_words}
 use Rattle.assembler.specs.Resolved.{resolved}
 use Rattle.assembler.specs.declared.Asm.{Asm}
 use Rattle.assembler.specs.declared.Fault.{Fault}
@@ -195,20 +196,32 @@ tail_length (Tails.Pair k l r) here = omega arith
 
 -- ---- a fault, or none
 
-module _ (f : Opt.Option Fault) (n : ℕ) (b : Bool) (e : operand_number f ≡ n) (s : b ≡ is_some f) where
+module _ (f : Opt.Option Refusal) (n : ℕ) (b : Bool) (e : fault_number f ≡ n) (s : b ≡ is_some f) where
   pub fault_some : b ≡ true → n ≡ 0 → ⊥
   fault_some t z = by f (sym s ∙ t) (e ∙ z)
     where
-      by : (f : Opt.Option Fault) → is_some f ≡ true → operand_number f ≡ 0 → ⊥
+      by : (f : Opt.Option Refusal) → is_some f ≡ true → fault_number f ≡ 0 → ⊥
       by None h q = true_not_false h
-      by (Some r) h q = omega (arith, number_some (refusal_of r), q)
+      by (Some r) h q = omega (arith, number_some r, q)
 
   pub fault_none : b ≡ false → n ≡ 0
   fault_none t = sym e ∙ by f (sym s ∙ t)
     where
-      by : (f : Opt.Option Fault) → is_some f ≡ false → operand_number f ≡ 0
+      by : (f : Opt.Option Refusal) → is_some f ≡ false → fault_number f ≡ 0
       by None h = refl
       by (Some r) h = absurd (true_not_false (sym h))
+
+-- the same of an operand's
+module _ (f : Opt.Option Fault) (n : ℕ) (b : Bool) (e : operand_number f ≡ n) (s : b ≡ is_some f) where
+  some_same : (f : Opt.Option Fault) → is_some f ≡ is_some (option_map refusal_of f)
+  some_same None = refl
+  some_same (Some x) = refl
+
+  pub operand_some : b ≡ true → n ≡ 0 → ⊥
+  operand_some = fault_some (option_map refusal_of f) n b e (s ∙ some_same f)
+
+  pub operand_none : b ≡ false → n ≡ 0
+  operand_none = fault_none (option_map refusal_of f) n b e (s ∙ some_same f)
 
 -- ---- asked for
 

@@ -1,7 +1,8 @@
 use mathlib.Core.Path.{sym, ap, ◌∙◌}
+use Rattle.std.specs.Option.{option_map}
 use Rattle.base.proofs.Bools.{both}
 use Rattle.assembler.specs.State.{before}
-use Rattle.assembler.specs.Plan.{fault_number}
+use Rattle.assembler.specs.Plan.{refusal_of, fault_number}
 use Rattle.assembler.proofs.Plans.{none_asked}
 use Rattle.assembler.proofs.Checks.{ranked_none, fits_room}
 use Rattle.assembler.proofs.Steps.{settled_by, settled_yes}
@@ -21,7 +22,7 @@ returns-in-None-clause-room c =
 pub returns-in-None-clause-labels : goal.returns-in-None-clause-labels
 returns-in-None-clause-labels c =
     let r = ranked_none _ _ _ _ _ (sym c.refusal.ensures ∙ ap fault_number c.in-None.is) in
-    none_asked c.args.fault c.args.sets.now r.0
+    none_asked (option_map refusal_of c.args.fault) c.args.sets.now r.0
 
 pub returns-in-Some-clause-whole : goal.returns-in-Some-clause-whole
 returns-in-Some-clause-whole c =
