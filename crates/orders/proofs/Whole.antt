@@ -212,11 +212,11 @@ module _ (f : Opt.Option Refusal) (n : ℕ) (b : Bool) (e : fault_number f ≡ n
       by (Some r) h = absurd (true_not_false (sym h))
 
 -- the same of an operand's
-module _ (f : Opt.Option Fault) (n : ℕ) (b : Bool) (e : operand_number f ≡ n) (s : b ≡ is_some f) where
-  some_same : (f : Opt.Option Fault) → is_some f ≡ is_some (option_map refusal_of f)
-  some_same None = refl
-  some_same (Some x) = refl
+some_same : (f : Opt.Option Fault) → is_some f ≡ is_some (option_map refusal_of f)
+some_same None = refl
+some_same (Some x) = refl
 
+module _ (f : Opt.Option Fault) (n : ℕ) (b : Bool) (e : operand_number f ≡ n) (s : b ≡ is_some f) where
   pub operand_some : b ≡ true → n ≡ 0 → ⊥
   operand_some = fault_some (option_map refusal_of f) n b e (s ∙ some_same f)
 
